@@ -12,7 +12,7 @@ use Rattle.gb_domain.specs.declared.types.Core.{Core}
 use Rattle.gb_domain.specs.Types.{AbsState}
 use Rattle.gb_domain.specs.Areas.{IsRegion}
 use Rattle.gb_vals.specs.Vals.{any_val}
-use Rattle.gb_abs.specs.Meaning.{AreItems, MeansCore, MeansParts, IsMemory}
+use Rattle.gb_abs.specs.Meaning.{Activation, AreItems, MeansCore, MeansParts, IsMemory}
 use Rattle.gb_abs.specs.Stack.{AreInRegion}
 use Rattle.gb_abs.specs.Bytes.{without_newest, with_any_bytes, resized, IsSoundTaking, IsSoundAppending, IsSoundResizing}
 use Rattle.gb_abs.proofs.CoveringLaws.{Holds-any}
@@ -37,18 +37,18 @@ resized_items n xs = ap (λ c. take n xs ++ replicate c any_val) (length-taken n
 
 -- ---- items
 
-AreItems-take : (j : ℕ) (items : List Val) (entry : MState) (top : ℕ) (s : Storage) → AreItems items entry top s → AreItems (take j items) entry top s
+AreItems-take : (j : ℕ) (items : List Val) (entry : Activation) (top : ℕ) (s : Storage) → AreItems items entry top s → AreItems (take j items) entry top s
 AreItems-take zero [] entry top s h = tt
 AreItems-take zero (v ∷ items) entry top s h = tt
 AreItems-take (suc j) [] entry top s h = tt
 AreItems-take (suc j) (v ∷ items) entry top s h = (h.0, AreItems-take j items entry (top - 1) s h.1)
 
-AreItems-any : (k : ℕ) (entry : MState) (top : ℕ) (s : Storage) → IsMemory s → AreItems (replicate k any_val) entry top s
+AreItems-any : (k : ℕ) (entry : Activation) (top : ℕ) (s : Storage) → IsMemory s → AreItems (replicate k any_val) entry top s
 AreItems-any zero entry top s m = tt
 AreItems-any (suc k) entry top s m = (Holds-any entry _ (m.bytes (top - 1)), AreItems-any k entry (top - 1) s m)
 
 AreItems-behind :
-    (items : List Val) (k : ℕ) (entry : MState) (top : ℕ) (s : Storage) → IsMemory s → AreItems items entry top s → AreItems (items ++ replicate k any_val) entry top s
+    (items : List Val) (k : ℕ) (entry : Activation) (top : ℕ) (s : Storage) → IsMemory s → AreItems items entry top s → AreItems (items ++ replicate k any_val) entry top s
 AreItems-behind [] k entry top s m h = AreItems-any k entry top s m
 AreItems-behind (v ∷ items) k entry top s m h = (h.0, AreItems-behind items k entry (top - 1) s m h.1)
 
@@ -58,7 +58,7 @@ region_end : (region : Region) → IsRegion region → region.last < 0xFFFF
 region_end region r = let area = r.area in grind (arith, nat_tests)
 
 MeansParts-without_newest :
-    (k : ℕ) (s : AbsState) (region : Region) (entry : MState) (base : ℕ) (x : MState) → k ≤ length s.items → MeansParts s entry base x → s.core.stack_set ≡ true
+    (k : ℕ) (s : AbsState) (region : Region) (entry : Activation) (base : ℕ) (x : MState) → k ≤ length s.items → MeansParts s entry base x → s.core.stack_set ≡ true
     → AreInRegion region base (length s.items) → IsRegion region
     → MeansParts (without_newest k s) entry base (record x { processor = with_sp x.processor ((x.processor.sp + k) % 65536) })
 unfolding without_newest
@@ -77,7 +77,7 @@ MeansParts-without_newest k s region entry base x some m set room r =
     }
 
 MeansParts-with_any_bytes :
-    (k : ℕ) (s : AbsState) (region : Region) (entry : MState) (base : ℕ) (x : MState) → MeansParts s entry base x → s.core.stack_set ≡ true
+    (k : ℕ) (s : AbsState) (region : Region) (entry : Activation) (base : ℕ) (x : MState) → MeansParts s entry base x → s.core.stack_set ≡ true
     → AreInRegion region base (length s.items + k) → IsRegion region
     → MeansParts (with_any_bytes k s) entry base (record x { processor = with_sp x.processor ((x.processor.sp + (65536 - k)) % 65536) })
 unfolding with_any_bytes
@@ -97,7 +97,7 @@ MeansParts-with_any_bytes k s region entry base x m set room r =
       cells = m.cells;
     }
 
-MeansCore-set : (core : Core) (entry x : MState) → MeansCore core entry x → MeansCore (record core { stack_set = true }) entry x
+MeansCore-set : (core : Core) (entry : Activation) (x : MState) → MeansCore core entry x → MeansCore (record core { stack_set = true }) entry x
 MeansCore-set core entry x m =
     record {
       registers = m.registers;
@@ -118,7 +118,7 @@ length-resized n items =
     grind (arith, nat_tests)
 
 MeansParts-resized :
-    (n : ℕ) (s : AbsState) (region : Region) (entry : MState) (base : ℕ) (x : MState)
+    (n : ℕ) (s : AbsState) (region : Region) (entry : Activation) (base : ℕ) (x : MState)
     → MeansParts s entry base x → AreInRegion region base n → IsRegion region
     → MeansParts (resized n s) entry base (record x { processor = with_sp x.processor (base - n) })
 unfolding resized

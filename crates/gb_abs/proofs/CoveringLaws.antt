@@ -1,6 +1,7 @@
 -- What covers an abstract state stands for its machine states, part by part.
 use Rattle.std.proofs.Common.{◌≡◌, ℕ, suc, length, ◌+◌, ◌-◌, ◌≤◌, Bool, true, false, ◌==◌, if◌then◌else◌, cond, List, [], ◌∷◌, Option, Some, None, refl, sym, ◌∙◌, ap, subst, arith}
 use Rattle.std.proofs.lemmas.Bool.{and_parts, eqb-true, leb-true}
+use Rattle.std.proofs.lemmas.Bool.Decides.{nat_tests}
 use Rattle.std.specs.List.{AllByRecursion, list_all}
 use Rattle.gb_ops.specs.declared.op.Register.{Register}
 use Rattle.gb_ops.specs.declared.op.Register.TheVariants.{A, B, C, D, E, H, L}
@@ -19,13 +20,14 @@ use Rattle.gb_domain.specs.declared.types.May.{May}
 use Rattle.gb_domain.specs.declared.types.Flg.{Flg}
 use Rattle.gb_domain.specs.declared.types.ImeSet.{ImeSet}
 use Rattle.gb_domain.specs.declared.types.Ctl.{Ctl}
+use Rattle.gb_domain.specs.declared.types.KeptBanks.{KeptBanks}
 use Rattle.gb_domain.specs.declared.types.Cell.{Cell}
 use Rattle.gb_domain.specs.declared.types.Core.{Core}
 use Rattle.gb_domain.specs.Types.{AbsState}
 use Rattle.gb_domain.proofs.ValueLaws.{has_covered}
 use Rattle.gb_abs.specs.Storage.{peek}
-use Rattle.gb_abs.specs.Meaning.{Holds, HoldsFlags, HoldsController, MeansCore, AreItems, MeansParts, IsMemory, ime_may_be}
-use Rattle.gb_abs.specs.Covering.{origin_number, covers_origin, covers_val, covers_may, covers_flags, covers_ime, covers_controller, covers_registers, covers_core, covers_items, cell_at, covers_cells, covers_parts, implied}
+use Rattle.gb_abs.specs.Meaning.{Activation, Holds, HoldsFlags, KeepsBanks, HoldsController, MeansCore, AreItems, MeansParts, IsMemory, ime_may_be}
+use Rattle.gb_abs.specs.Covering.{origin_number, covers_origin, covers_val, covers_may, covers_flags, covers_ime, covers_kept, covers_controller, covers_registers, covers_core, covers_items, cell_at, covers_cells, covers_parts, implied}
 use Rattle.gb_abs.specs.Sound.{IsPartOf}
 use Rattle.gb_vals.specs.Vals.{any_val}
 use Rattle.gb_vals.specs.Meaning.{may_be}
@@ -50,7 +52,10 @@ origin_at n =
     else if n == 8 then origin.L
     else if n == 9 then origin.Ie
     else if n == 10 then origin.ReturnHigh
-    else origin.ReturnLow
+    else if n == 11 then origin.ReturnLow
+    else if n == 28 then origin.MarkHigh
+    else if n == 29 then origin.MarkLow
+    else origin.Kept (n - 30)
 
 origin_at-number : (o : Origin) → origin_at (origin_number o) ≡ o
 unfolding origin_at
@@ -65,6 +70,9 @@ origin_at-number origin.L = refl
 origin_at-number origin.Ie = refl
 origin_at-number origin.ReturnHigh = refl
 origin_at-number origin.ReturnLow = refl
+origin_at-number (origin.Kept i) = grind (arith, nat_tests)
+origin_at-number origin.MarkHigh = refl
+origin_at-number origin.MarkLow = refl
 
 pub same_origin : (s t : Origin) → (origin_number s == origin_number t) ≡ true → s ≡ t
 same_origin s t h = sym (origin_at-number s) ∙ ap origin_at (eqb-true (origin_number s) (origin_number t) h) ∙ origin_at-number t
@@ -76,7 +84,7 @@ origin_from (Some from) (Some to) o h e = ap Some (same_origin from to h) ∙ e
 
 -- ---- the parts
 
-pub Holds-covered : (s t : Val) (entry : MState) (x : ℕ) → covers_val s t ≡ true → Holds s entry x → Holds t entry x
+pub Holds-covered : (s t : Val) (entry : Activation) (x : ℕ) → covers_val s t ≡ true → Holds s entry x → Holds t entry x
 unfolding covers_val
 Holds-covered s t entry x h m =
     let p = and_parts _ _ h in
@@ -95,7 +103,7 @@ may_covered : (s t : May) (b : Bool) → covers_may s t ≡ true → may_be s b 
 may_covered s t true h m = implied_use _ _ (and_parts _ _ h).0 m
 may_covered s t false h m = implied_use _ _ (and_parts _ _ h).1 m
 
-flags_covered : (s t : Flg) (entry : MState) (x : Flags) → covers_flags s t ≡ true → HoldsFlags s entry x → HoldsFlags t entry x
+flags_covered : (s t : Flg) (entry : Activation) (x : Flags) → covers_flags s t ≡ true → HoldsFlags s entry x → HoldsFlags t entry x
 unfolding covers_flags
 flags_covered s t entry x h m =
     let p = and_parts _ _ h in
@@ -116,7 +124,22 @@ ime_covered s t Off h m = implied_use _ _ (and_parts _ _ (and_parts _ _ h).0).0 
 ime_covered s t Pending h m = implied_use _ _ (and_parts _ _ (and_parts _ _ h).0).1 m
 ime_covered s t On h m = implied_use _ _ (and_parts _ _ h).1 m
 
-controller_covered : (s t : Ctl) (entry : MState) (x : Banks) → covers_controller s t ≡ true → HoldsController s entry x → HoldsController t entry x
+kept_covered : (s t : KeptBanks) (before x : Banks) → covers_kept s t ≡ true → KeepsBanks s before x → KeepsBanks t before x
+unfolding covers_kept
+kept_covered s t before x h m =
+    let mode = and_parts _ _ h in
+    let gate = and_parts _ _ mode.0 in
+    let second = and_parts _ _ gate.0 in
+    let bank = and_parts _ _ second.0 in
+    record {
+      bank = λ e. m.bank (implied_use _ _ bank.0 e);
+      second = λ e. m.second (implied_use _ _ bank.1 e);
+      gate = λ e. m.gate (implied_use _ _ second.1 e);
+      mode = λ e. m.mode (implied_use _ _ gate.1 e);
+      high_bank = λ e. m.high_bank (implied_use _ _ mode.1 e);
+    }
+
+controller_covered : (s t : Ctl) (entry : Activation) (x : Banks) → covers_controller s t ≡ true → HoldsController s entry x → HoldsController t entry x
 unfolding covers_controller
 controller_covered s t entry x h m =
     let kept = and_parts _ _ h in
@@ -136,7 +159,7 @@ controller_covered s t entry x h m =
       second_most = let a = m.second_most in omega arith;
       gate = may_covered s.gate t.gate x.gate gate.1 m.gate;
       mode = may_covered s.mode t.mode x.mode mode.1 m.mode;
-      kept = λ e. m.kept (implied_use _ _ kept.1 e);
+      kept = kept_covered s.kept t.kept _ x kept.1 m.kept;
     }
 
 pub register_covered : (s t : Registers Val) (r : Register) → covers_registers s t ≡ true → covers_val (get r s) (get r t) ≡ true
@@ -150,7 +173,7 @@ register_covered s t r h =
     let b = and_parts _ _ c.0 in
     elim r as (λ q. covers_val (get q s) (get q t) ≡ true) [ A ↦ b.0 | B ↦ b.1 | C ↦ c.1 | D ↦ d.1 | E ↦ e.1 | H ↦ h'.1 | L ↦ l.1 ]
 
-core_covered : (s t : Core) (entry x : MState) → covers_core s t ≡ true → MeansCore s entry x → MeansCore t entry x
+core_covered : (s t : Core) (entry : Activation) (x : MState) → covers_core s t ≡ true → MeansCore s entry x → MeansCore t entry x
 unfolding covers_core
 core_covered s t entry x h m =
     let stack = and_parts _ _ h in
@@ -179,7 +202,7 @@ stack_covered s t h e =
 
 -- ---- items and cells
 
-items_covered : (ss ts : List Val) (entry : MState) (top : ℕ) (m : Storage) → covers_items ss ts ≡ true → AreItems ss entry top m → AreItems ts entry top m
+items_covered : (ss ts : List Val) (entry : Activation) (top : ℕ) (m : Storage) → covers_items ss ts ≡ true → AreItems ss entry top m → AreItems ts entry top m
 items_covered [] [] entry top m h a = tt
 items_covered [] (t ∷ ts) entry top m h a = cc
 items_covered (s ∷ ss) [] entry top m h a = cc
@@ -187,14 +210,14 @@ items_covered (s ∷ ss) (t ∷ ts) entry top m h a =
     let p = and_parts _ _ h in
     (Holds-covered _ _ _ _ p.0 a.0, items_covered ss ts entry (top - 1) m p.1 a.1)
 
-abbrev pub AreCells : List Cell → MState → Storage → Type 0
+abbrev pub AreCells : List Cell → Activation → Storage → Type 0
 AreCells cells entry m = AllByRecursion (λ c. Holds c.val entry (peek m c.address)) cells
 
-pub Holds-any : (entry : MState) (x : ℕ) → x ≤ 255 → Holds any_val entry x
+pub Holds-any : (entry : Activation) (x : ℕ) → x ≤ 255 → Holds any_val entry x
 Holds-any entry x h = record { least = omega arith; most = h; low = refl; origin = λ o e. cc }
 
 -- what is known of a byte holds of it
-pub Holds-cell : (cells : List Cell) (a : ℕ) (entry : MState) (m : Storage) → IsMemory m → AreCells cells entry m → Holds (cell_at a cells) entry (peek m a)
+pub Holds-cell : (cells : List Cell) (a : ℕ) (entry : Activation) (m : Storage) → IsMemory m → AreCells cells entry m → Holds (cell_at a cells) entry (peek m a)
 Holds-cell [] a entry m k h = Holds-any entry _ (k.bytes a)
 Holds-cell (c ∷ cs) a entry m k h =
     choose (c.address == a) refl (λ e. subst (λ n. Holds c.val entry (peek m n)) (eqb-true c.address a e) h.0) (Holds-cell cs a entry m k h.1)
@@ -203,14 +226,14 @@ Holds-cell (c ∷ cs) a entry m k h =
     choose true e here rest = here e
     choose false e here rest = rest
 
-cells_covered : (ss ts : List Cell) (entry : MState) (m : Storage) → IsMemory m → list_all (λ c. covers_val (cell_at c.address ss) c.val) ts ≡ true → AreCells ss entry m → AreCells ts entry m
+cells_covered : (ss ts : List Cell) (entry : Activation) (m : Storage) → IsMemory m → list_all (λ c. covers_val (cell_at c.address ss) c.val) ts ≡ true → AreCells ss entry m → AreCells ts entry m
 cells_covered ss [] entry m k h a = tt
 cells_covered ss (t ∷ ts) entry m k h a =
     let p = and_parts _ _ h in
     (Holds-covered _ _ _ _ p.0 (Holds-cell ss t.address entry m k a), cells_covered ss ts entry m k p.1 a)
 
 -- what covers an abstract state stands for each of its machine states
-pub MeansParts-covered : (s t : AbsState) (entry : MState) (base : ℕ) (x : MState) → covers_parts s t ≡ true → MeansParts s entry base x → MeansParts t entry base x
+pub MeansParts-covered : (s t : AbsState) (entry : Activation) (base : ℕ) (x : MState) → covers_parts s t ≡ true → MeansParts s entry base x → MeansParts t entry base x
 unfolding covers_parts covers_cells
 MeansParts-covered s t entry base x h m =
     let cells = and_parts _ _ h in

@@ -13,7 +13,7 @@ use Rattle.gb_domain.specs.declared.types.Val.{Val}
 use Rattle.gb_domain.specs.Settings.{known_base, IsBase}
 use Rattle.gb_domain.specs.Types.{AbsState}
 use Rattle.gb_vals.specs.Vals.{single}
-use Rattle.gb_abs.specs.Meaning.{Holds, AreItems, MeansParts}
+use Rattle.gb_abs.specs.Meaning.{Activation, Holds, AreItems, MeansParts}
 use Rattle.gb_abs.specs.Storage.{peek}
 use Rattle.gb_abs.specs.Located.{base_by, stack_base, item_by, item_at, halves_by, sp_halves, bounds_by, sp_bounds, IsSoundItem, IsSoundSp, IsSoundSpBounds}
 use Rattle.gb_abs.proofs.CoveringLaws.{Holds-any}
@@ -41,7 +41,7 @@ some_same x y h = cc
 
 -- each item stands for the byte that stands as far below
 pub AreItems-at :
-    (items : List Val) (entry : MState) (top i : ℕ) (s : Storage) (v : Val) → slice_get items i ≡ Some v → AreItems items entry top s → Holds v entry (peek s (top - 1 - i))
+    (items : List Val) (entry : Activation) (top i : ℕ) (s : Storage) (v : Val) → slice_get items i ≡ Some v → AreItems items entry top s → Holds v entry (peek s (top - 1 - i))
 AreItems-at [] entry top i s v e h = absurd (let bad : None ≡ Some v = e in cc)
 AreItems-at (u ∷ items) entry top zero s v e h =
     let same : top - 1 ≡ top - 1 - zero = omega arith in
@@ -54,7 +54,7 @@ pub IsSoundItem-item_at : (z : Setting) (s : AbsState) (a : ℕ) (v : Val) → i
 unfolding item_at
 IsSoundItem-item_at z s a v h = record { gives = λ entry base x right m. by_base entry base x right m (stack_base z s.core) refl h }
   where
-    below : (entry : MState) (base : ℕ) (x : MState) (b : ℕ) → MeansParts s entry base x → b ≡ base → (lt : Bool) → nat_lt a b ≡ lt
+    below : (entry : Activation) (base : ℕ) (x : MState) (b : ℕ) → MeansParts s entry base x → b ≡ base → (lt : Bool) → nat_lt a b ≡ lt
         → cond lt (slice_get s.items (b - 1 - a)) None ≡ Some v → Holds v entry (peek x.storage a)
     below entry base x b m same true e h =
         let there = AreItems-at s.items entry b (b - 1 - a) x.storage v h (subst (λ n. AreItems s.items entry n x.storage) (sym same) m.items) in
@@ -63,7 +63,7 @@ IsSoundItem-item_at z s a v h = record { gives = λ entry base x right m. by_bas
         subst (λ n. Holds v entry (peek x.storage n)) at there
     below entry base x b m same false e h = absurd (let bad : None ≡ Some v = h in cc)
 
-    by_base : (entry : MState) (base : ℕ) (x : MState) → IsBase z base → MeansParts s entry base x → (o : Option ℕ) → stack_base z s.core ≡ o
+    by_base : (entry : Activation) (base : ℕ) (x : MState) → IsBase z base → MeansParts s entry base x → (o : Option ℕ) → stack_base z s.core ≡ o
         → item_by o s.items a ≡ Some v → Holds v entry (peek x.storage a)
     by_base entry base x right m None e h = absurd (let bad : None ≡ Some v = h in cc)
     by_base entry base x right m (Some b) e h = below entry base x b m (reckoned z s base b right e).is (nat_lt a b) refl h
@@ -79,7 +79,7 @@ item_sound z s a o e =
 -- ---- SP
 
 -- SP, reckoned from the base
-sp_is : (z : Setting) (s : AbsState) (entry : MState) (base : ℕ) (x : MState) (b : ℕ) → IsBase z base → MeansParts s entry base x → stack_base z s.core ≡ Some b
+sp_is : (z : Setting) (s : AbsState) (entry : Activation) (base : ℕ) (x : MState) (b : ℕ) → IsBase z base → MeansParts s entry base x → stack_base z s.core ≡ Some b
     → b - length s.items ≡ x.processor.sp
 sp_is z s entry base x b right m e =
     let r = reckoned z s base b right e in
@@ -87,13 +87,13 @@ sp_is z s entry base x b right m e =
     let stack = m.stack r.set in
     omega arith
 
-high_held : (z : Setting) (s : AbsState) (entry : MState) (base : ℕ) (x : MState) (o : Option ℕ) → IsBase z base → MeansParts s entry base x → stack_base z s.core ≡ o
+high_held : (z : Setting) (s : AbsState) (entry : Activation) (base : ℕ) (x : MState) (o : Option ℕ) → IsBase z base → MeansParts s entry base x → stack_base z s.core ≡ o
     → Holds (halves_by o (length s.items)).high entry (x.processor.sp / 256)
 high_held z s entry base x None right m e = let small = m.sp in Holds-any entry _ (omega arith)
 high_held z s entry base x (Some b) right m e =
     subst (λ n. Holds (single ((b - length s.items) / 256)) entry (n / 256)) (sp_is z s entry base x b right m e) (Holds-single _ entry)
 
-low_held : (z : Setting) (s : AbsState) (entry : MState) (base : ℕ) (x : MState) (o : Option ℕ) → IsBase z base → MeansParts s entry base x → stack_base z s.core ≡ o
+low_held : (z : Setting) (s : AbsState) (entry : Activation) (base : ℕ) (x : MState) (o : Option ℕ) → IsBase z base → MeansParts s entry base x → stack_base z s.core ≡ o
     → Holds (halves_by o (length s.items)).low entry (x.processor.sp % 256)
 low_held z s entry base x None right m e = Holds-any entry _ (omega arith)
 low_held z s entry base x (Some b) right m e =
@@ -112,7 +112,7 @@ record IsBetween (b : Bounds) (n : ℕ) : Type 0 where
   first : b.first ≤ n
   last : n ≤ b.last
 
-within : (z : Setting) (s : AbsState) (entry : MState) (base : ℕ) (x : MState) (o : Option ℕ) → IsBase z base → MeansParts s entry base x → stack_base z s.core ≡ o
+within : (z : Setting) (s : AbsState) (entry : Activation) (base : ℕ) (x : MState) (o : Option ℕ) → IsBase z base → MeansParts s entry base x → stack_base z s.core ≡ o
     → IsBetween (bounds_by o (length s.items)) x.processor.sp
 within z s entry base x None right m e = let small = m.sp in record { first = omega arith; last = omega arith }
 within z s entry base x (Some b) right m e =

@@ -16,7 +16,7 @@ use Rattle.gb_domain.specs.declared.types.ImeSet.{ImeSet}
 use Rattle.gb_domain.specs.declared.types.Core.{Core}
 use Rattle.gb_domain.specs.Types.{AbsState}
 use Rattle.gb_domain.specs.Rules.{IsVal, IsCore, may_be_any}
-use Rattle.gb_abs.specs.Meaning.{Holds, MeansCore, MeansParts, ime_may_be}
+use Rattle.gb_abs.specs.Meaning.{Activation, Holds, MeansCore, MeansParts, ime_may_be}
 use Rattle.gb_abs.specs.Sound.{IsSoundSet, IsSoundValue, IsSoundSettling, IsSoundEnd}
 use Rattle.gb_vals.specs.Vals.{single}
 use Rattle.gb_abs.specs.Operations.{core_set_register, core_with_value, ime_set_after, core_settle, core_end, with_core}
@@ -45,7 +45,7 @@ abbrev pub register_set : Register → ℕ → MState → MState
 register_set r n s = record s { processor = with_registers s.processor (set r n s.processor.registers) }
 
 pub MeansCore-set_register :
-    (s : Core) (entry x : MState) (r : Register) (v : Val) (n : ℕ)
+    (s : Core) (entry : Activation) (x : MState) (r : Register) (v : Val) (n : ℕ)
     → Holds v entry n → MeansCore s entry x → MeansCore (core_set_register r v s) entry (register_set r n x)
 unfolding core_set_register
 MeansCore-set_register s entry x r v n h m =
@@ -74,7 +74,7 @@ ime_settled s On h = ap (λ b. s.pending || b) h ∙ true_right s.pending
 abbrev pub moved : ℕ → MState → MState
 moved pc s = record s { processor = with_pc (settled s.processor) pc }
 
-pub MeansCore-settle : (s : Core) (entry x : MState) (pc : ℕ) → MeansCore s entry x → MeansCore (core_settle s) entry (moved pc x)
+pub MeansCore-settle : (s : Core) (entry : Activation) (x : MState) (pc : ℕ) → MeansCore s entry x → MeansCore (core_settle s) entry (moved pc x)
 unfolding core_settle
 MeansCore-settle s entry x pc m =
     record {
@@ -93,7 +93,7 @@ abbrev pub counted : ℕ → MState → MState
 counted count s = record s { storage = record s.storage { count = count } }
 
 -- time passes, and the bound falls
-pub MeansCore-pass : (s : Core) (entry x : MState) (n : ℕ) → MeansCore s entry x → MeansCore (core_end false n s) entry (counted (x.storage.count - n) x)
+pub MeansCore-pass : (s : Core) (entry : Activation) (x : MState) (n : ℕ) → MeansCore s entry x → MeansCore (core_end false n s) entry (counted (x.storage.count - n) x)
 unfolding core_end
 MeansCore-pass s entry x n m =
     record {
@@ -108,7 +108,7 @@ MeansCore-pass s entry x n m =
     }
 
 -- time alone only makes the count smaller
-pub MeansCore-wait : (s : Core) (entry x : MState) (n : ℕ) → MeansCore s entry x → MeansCore s entry (counted (x.storage.count - n) x)
+pub MeansCore-wait : (s : Core) (entry : Activation) (x : MState) (n : ℕ) → MeansCore s entry x → MeansCore s entry (counted (x.storage.count - n) x)
 MeansCore-wait s entry x n m =
     record {
       registers = m.registers;
@@ -121,7 +121,7 @@ MeansCore-wait s entry x n m =
       stopped = m.stopped;
     }
 
-pub Holds-single : (n : ℕ) (entry : MState) → Holds (single n) entry n
+pub Holds-single : (n : ℕ) (entry : Activation) → Holds (single n) entry n
 Holds-single n entry = record { least = omega arith; most = omega arith; low = refl; origin = λ o e. cc }
 
 -- ---- covering value by value
@@ -147,7 +147,7 @@ set_first P L q v vs xs n o = o q
 
 -- with the machine's own value of a register for its bounds, a core holds of that machine still
 pub MeansCore-with_value :
-    (r : Register) (s : Core) (entry x : MState) → MeansCore s entry x → MeansCore (core_with_value r (get r x.processor.registers) s) entry x
+    (r : Register) (s : Core) (entry : Activation) (x : MState) → MeansCore s entry x → MeansCore (core_with_value r (get r x.processor.registers) s) entry x
 unfolding core_with_value
 MeansCore-with_value r s entry x m =
     let own = m.registers r in
@@ -164,7 +164,7 @@ MeansCore-with_value r s entry x m =
     }
 
 pub MeansParts-with_value :
-    (r : Register) (s : AbsState) (entry : MState) (base : ℕ) (x : MState)
+    (r : Register) (s : AbsState) (entry : Activation) (base : ℕ) (x : MState)
     → MeansParts s entry base x → MeansParts (with_core s (core_with_value r (get r x.processor.registers) s.core)) entry base x
 unfolding core_with_value
 MeansParts-with_value r s entry base x m =
@@ -184,7 +184,7 @@ pub settle_sound : (s o : Core) → o ≡ core_settle s → IsSoundSettling s o
 settle_sound s o e =
     record { gives = λ entry x m. subst (λ c. MeansCore c entry (record x { processor = settled x.processor })) (sym e) (MeansCore-settle s entry x x.processor.pc m) }
 
-MeansCore-start : (s : Core) (entry x : MState) → MeansCore s entry x → MeansCore (record s { bound = 161 }) entry (counted 161 x)
+MeansCore-start : (s : Core) (entry : Activation) (x : MState) → MeansCore s entry x → MeansCore (record s { bound = 161 }) entry (counted 161 x)
 MeansCore-start s entry x m =
     record {
       registers = m.registers;
@@ -198,7 +198,7 @@ MeansCore-start s entry x m =
     }
 
 MeansCore-end :
-    (starts : Bool) (n : ℕ) (rom : List ℕ) (s : Core) (entry x : MState) → MeansCore s entry x
+    (starts : Bool) (n : ℕ) (rom : List ℕ) (s : Core) (entry : Activation) (x : MState) → MeansCore s entry x
     → MeansCore (core_end starts n s) entry (record x { storage = (passed (record { rom = rom; storage = x.storage; starting = starts }) n).storage })
 unfolding core_end passed
 MeansCore-end true n rom s entry x m = MeansCore-start s entry x m

@@ -23,7 +23,7 @@ use Rattle.gb_domain.specs.Types.{AbsState}
 use Rattle.gb_domain.specs.Areas.{IsRegion, meets}
 use Rattle.gb_abs.specs.Storage.{is_ram, peek, peek_by}
 use Rattle.gb_abs.specs.Operations.{with_core}
-use Rattle.gb_abs.specs.Meaning.{Holds, MeansCore, AreItems, MeansParts, IsMemory}
+use Rattle.gb_abs.specs.Meaning.{Activation, Holds, MeansCore, AreItems, MeansParts, IsMemory}
 use Rattle.gb_abs.specs.Cells.{ArePlaced}
 use Rattle.gb_abs.specs.Stack.{AreInRegion, pushed, word_of, last_word, youngest, popped}
 use Rattle.gb_abs.specs.Poked.{IsPoked}
@@ -35,7 +35,7 @@ use Rattle.gb_abs.proofs.StorageLaws.{high-at, region_in_ram, placed_in_ram, wro
 
 -- as it is known of an abstract state
 pub IsRegionOpen-bound :
-    (core : Core) (entry x : MState) (region : Region) → MeansCore core entry x → (core.bound ≡ 0) ⊎ (0xFF80 ≤ region.first) → IsRegionOpen x.storage region
+    (core : Core) (entry : Activation) (x : MState) (region : Region) → MeansCore core entry x → (core.bound ≡ 0) ⊎ (0xFF80 ≤ region.first) → IsRegionOpen x.storage region
 IsRegionOpen-bound core entry x region m (inl none) = let most = m.count in inl (omega arith)
 IsRegionOpen-bound core entry x region m (inr high) = inr high
 
@@ -170,7 +170,7 @@ pushed-others region sp w s t b p ram n o = p.low.others b ram (differs b (sp - 
 -- ---- items and cells after a push
 
 AreItems-more :
-    (items : List Val) (i : Halves) (entry : MState) (sp top : ℕ) (t : Storage) → sp + length items ≡ top
+    (items : List Val) (i : Halves) (entry : Activation) (sp top : ℕ) (t : Storage) → sp + length items ≡ top
     → Holds i.high entry (peek t (sp - 1)) → Holds i.low entry (peek t (sp - 2)) → AreItems items entry top t
     → AreItems (items ++ i.high ∷ i.low ∷ []) entry top t
 AreItems-more [] i entry sp top t e high low h =
@@ -180,7 +180,7 @@ AreItems-more [] i entry sp top t e high low h =
 AreItems-more (v ∷ items) i entry sp top t e high low h = (h.0, AreItems-more items i entry sp (top - 1) t (omega arith) high low h.1)
 
 AreCells-region :
-    (region : Region) (cells : List Cell) (entry : MState) (s t : Storage)
+    (region : Region) (cells : List Cell) (entry : Activation) (s t : Storage)
     → ((b : ℕ) → is_ram b ≡ true → meets region b b ≡ false → peek t b ≡ peek s b) → ArePlaced region cells → AreCells cells entry s → AreCells cells entry t
 AreCells-region region [] entry s t same placed h = tt
 AreCells-region region (c ∷ cells) entry s t same placed h = (
@@ -188,7 +188,7 @@ AreCells-region region (c ∷ cells) entry s t same placed h = (
   AreCells-region region cells entry s t same placed.1 h.1,
 )
 
-pub MeansCore-sp : (core : Core) (entry x : MState) (sp : ℕ) → MeansCore core entry x → MeansCore core entry (record x { processor = with_sp x.processor sp })
+pub MeansCore-sp : (core : Core) (entry : Activation) (x : MState) (sp : ℕ) → MeansCore core entry x → MeansCore core entry (record x { processor = with_sp x.processor sp })
 MeansCore-sp core entry x sp m =
     record {
       registers = m.registers;
@@ -205,7 +205,7 @@ apart-from : (region : Region) (a b : ℕ) → region.first ≤ a → a ≤ regi
 apart-from region a b low high h e = grind (arith, nat_tests)
 
 MeansParts-pushed-to :
-    (region : Region) (s : AbsState) (entry : MState) (base : ℕ) (x : MState) (i : Halves) (w sp : ℕ) (t : Storage)
+    (region : Region) (s : AbsState) (entry : Activation) (base : ℕ) (x : MState) (i : Halves) (w sp : ℕ) (t : Storage)
     → IsRegion region → AreInRegion region base (length s.items + 2) → ArePlaced region s.cells → s.core.stack_set ≡ true
     → Holds i.high entry (w / 256) → Holds i.low entry (w % 256) → IsTop region x.processor.sp → ArePushed x.processor.sp w x.storage t
     → MeansParts s entry base x → MeansParts (pushed i s) entry base (with_stack x (x.processor.sp - 2) t)
@@ -270,7 +270,7 @@ abbrev machine : Processor → Storage → MState
 machine p t = record { processor = p; storage = t }
 
 pushes :
-    (region : Region) (s : AbsState) (entry : MState) (base : ℕ) (p : Processor) (m : View) (i : Halves) (w : ℕ)
+    (region : Region) (s : AbsState) (entry : Activation) (base : ℕ) (p : Processor) (m : View) (i : Halves) (w : ℕ)
     → MeansParts s entry base (machine p m.storage) → s.core.stack_set ≡ true → AreInRegion region base (length s.items + 2)
     → IsRegion region → ArePlaced region s.cells → IsRegionOpen m.storage region → Holds i.high entry (w / 256) → Holds i.low entry (w % 256) → w < 65536
     → Pushes region (pushed i s) entry base (machine p m.storage) m w
@@ -293,7 +293,7 @@ pushes region s entry base p m i w means set room r placed clear high low lt =
 
 -- a word is pushed: the high byte at SP-1, the low byte at SP-2
 pub MeansParts-pushed :
-    (region : Region) (s : AbsState) (entry : MState) (base : ℕ) (x : MState) (m : View) (i : Halves) (w : ℕ)
+    (region : Region) (s : AbsState) (entry : Activation) (base : ℕ) (x : MState) (m : View) (i : Halves) (w : ℕ)
     → MeansParts s entry base x → m.storage ≡ x.storage → s.core.stack_set ≡ true → AreInRegion region base (length s.items + 2)
     → IsRegion region → ArePlaced region s.cells → IsRegionOpen x.storage region → Holds i.high entry (w / 256) → Holds i.low entry (w % 256) → w < 65536
     → Pushes region (pushed i s) entry base x m w
@@ -306,7 +306,7 @@ MeansParts-pushed region s entry base x m i w means same set room r placed clear
 -- ---- a pop
 
 -- the youngest word stands on top, n bytes below it
-record AreTop (items : List Val) (n : ℕ) (i : Halves) (entry : MState) (sp top : ℕ) (t : Storage) : Type 0 where
+record AreTop (items : List Val) (n : ℕ) (i : Halves) (entry : Activation) (sp top : ℕ) (t : Storage) : Type 0 where
   high : Holds i.high entry (peek t (sp + 1))
   low : Holds i.low entry (peek t sp)
   rest : AreItems (take n items) entry top t
@@ -315,7 +315,7 @@ halves-same : (high low : Val) (i : Halves) → word_of (Some high) (Some low) �
 halves-same high low i h = (cc, cc)
 
 are-top :
-    (items : List Val) (n : ℕ) (i : Halves) (entry : MState) (sp top : ℕ) (t : Storage)
+    (items : List Val) (n : ℕ) (i : Halves) (entry : Activation) (sp top : ℕ) (t : Storage)
     → word_of (slice_get items n) (slice_get items (suc n)) ≡ Some i → length items ≡ suc (suc n)
     → sp + length items ≡ top → AreItems items entry top t → AreTop items n i entry sp top t
 are-top [] n i entry sp top t is many e h = cc
@@ -395,7 +395,7 @@ unfolding load_faults either_faults
 loaded-faultless m sp e ram ram' clear clear' = rw (e, read_ram-faultless m sp ram clear, read_ram-faultless m (sp + 1) ram' clear') refl
 
 pops :
-    (region : Region) (s : AbsState) (entry : MState) (base : ℕ) (p : Processor) (m : View) (i : Halves) (free : List ℕ)
+    (region : Region) (s : AbsState) (entry : Activation) (base : ℕ) (p : Processor) (m : View) (i : Halves) (free : List ℕ)
     → MeansParts s entry base (machine p m.storage) → s.core.stack_set ≡ true → youngest s ≡ Some i → AreInRegion region base (length s.items)
     → IsRegion region → IsRegionOpen m.storage region → Pops (popped s) i entry base (machine p m.storage) m free
 unfolding popped youngest
@@ -437,7 +437,7 @@ pops region s entry base p m i free means set is room r clear =
 
 -- a word is popped: the two bytes that the machine reads are the youngest word's
 pub Pops-popped :
-    (region : Region) (s : AbsState) (entry : MState) (base : ℕ) (x : MState) (m : View) (i : Halves) (free : List ℕ)
+    (region : Region) (s : AbsState) (entry : Activation) (base : ℕ) (x : MState) (m : View) (i : Halves) (free : List ℕ)
     → MeansParts s entry base x → m.storage ≡ x.storage → s.core.stack_set ≡ true → youngest s ≡ Some i → AreInRegion region base (length s.items)
     → IsRegion region → IsRegionOpen x.storage region → Pops (popped s) i entry base x m free
 Pops-popped region s entry base x m i free means same set is room r clear =
@@ -461,19 +461,19 @@ IsMemory-same s t work high k =
     }
 
 AreItems-all :
-    (items : List Val) (entry : MState) (top : ℕ) (s t : Storage) → ((b : ℕ) → peek t b ≡ peek s b) → AreItems items entry top s → AreItems items entry top t
+    (items : List Val) (entry : Activation) (top : ℕ) (s t : Storage) → ((b : ℕ) → peek t b ≡ peek s b) → AreItems items entry top s → AreItems items entry top t
 AreItems-all [] entry top s t same h = tt
 AreItems-all (v ∷ items) entry top s t same h =
     (subst (λ n. Holds v entry n) (sym (same (top - 1))) h.0, AreItems-all items entry (top - 1) s t same h.1)
 
 AreCells-all :
-    (cells : List Cell) (entry : MState) (s t : Storage) → ((b : ℕ) → peek t b ≡ peek s b) → AreCells cells entry s → AreCells cells entry t
+    (cells : List Cell) (entry : Activation) (s t : Storage) → ((b : ℕ) → peek t b ≡ peek s b) → AreCells cells entry s → AreCells cells entry t
 AreCells-all [] entry s t same h = tt
 AreCells-all (c ∷ cells) entry s t same h = (subst (λ n. Holds c.val entry n) (sym (same c.address)) h.0, AreCells-all cells entry s t same h.1)
 
 -- a core that holds of a machine with the same memory, its stack pointer where the items say
 pub MeansParts-with_stack :
-    (s : AbsState) (core : Core) (entry : MState) (base : ℕ) (x y : MState)
+    (s : AbsState) (core : Core) (entry : Activation) (base : ℕ) (x y : MState)
     → MeansParts s entry base x → MeansCore core entry y → y.storage.work ≡ x.storage.work → y.storage.high ≡ x.storage.high → y.processor.sp < 65536
     → (core.stack_set ≡ true → y.processor.sp + length s.items ≡ base) → MeansParts (with_core s core) entry base y
 MeansParts-with_stack s core entry base x y m c work high sp stack =
@@ -488,7 +488,7 @@ MeansParts-with_stack s core entry base x y m c work high sp stack =
 
 -- a core that holds of a machine with the same memory and stack pointer
 pub MeansParts-with_core :
-    (s : AbsState) (core : Core) (entry : MState) (base : ℕ) (x y : MState)
+    (s : AbsState) (core : Core) (entry : Activation) (base : ℕ) (x y : MState)
     → MeansParts s entry base x → MeansCore core entry y → y.storage.work ≡ x.storage.work → y.storage.high ≡ x.storage.high
     → y.processor.sp ≡ x.processor.sp → (core.stack_set ≡ true → s.core.stack_set ≡ true) → MeansParts (with_core s core) entry base y
 MeansParts-with_core s core entry base x y m c work high sp set =

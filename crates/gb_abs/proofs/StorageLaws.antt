@@ -16,7 +16,7 @@ use Rattle.gb_domain.specs.declared.types.Core.{Core}
 use Rattle.gb_domain.specs.declared.types.Cell.{Cell}
 use Rattle.gb_domain.specs.Types.{AbsState}
 use Rattle.gb_domain.specs.Areas.{IsRegion, meets}
-use Rattle.gb_abs.specs.Meaning.{Holds, HoldsController, MeansCore, AreItems, MeansParts, IsMemory}
+use Rattle.gb_abs.specs.Meaning.{Activation, Holds, HoldsController, MeansCore, AreItems, MeansParts, IsMemory}
 use Rattle.gb_abs.specs.Cells.{IsPlaced, ArePlaced, is_below, is_above, is_at, entered, with_cell, is_outside, without_cells}
 use Rattle.gb_abs.specs.Stack.{AreInRegion}
 use Rattle.gb_abs.proofs.CoveringLaws.{AreCells}
@@ -207,7 +207,7 @@ read_ram-faultless m a ram free = let outside : is_within 0xA000 0xBFFF a ≡ fa
 
 -- a core holds of another storage with the same IE, controller and count
 pub MeansCore-storage :
-    (core : Core) (entry x : MState) (t : Storage) → t.banks ≡ x.storage.banks → t.ie ≡ x.storage.ie → t.count ≡ x.storage.count
+    (core : Core) (entry : Activation) (x : MState) (t : Storage) → t.banks ≡ x.storage.banks → t.ie ≡ x.storage.ie → t.count ≡ x.storage.count
     → MeansCore core entry x → MeansCore core entry (record x { storage = t })
 MeansCore-storage core entry x t banks ie count m =
     record {
@@ -223,7 +223,7 @@ MeansCore-storage core entry x t banks ie count m =
 
 -- the items keep their bytes
 pub AreItems-same :
-    (items : List Val) (entry : MState) (first top : ℕ) (s t : Storage)
+    (items : List Val) (entry : Activation) (first top : ℕ) (s t : Storage)
     → first + length items ≤ top → ((b : ℕ) → first ≤ b → b < top → peek t b ≡ peek s b) → AreItems items entry top s → AreItems items entry top t
 AreItems-same [] entry first top s t room same h = tt
 AreItems-same (v ∷ items) entry first top s t room same h = (
@@ -240,7 +240,7 @@ outside-region region a b h low high = grind (arith, nat_tests)
 
 -- the items stay where the byte lies outside the region
 pub AreItems-poked :
-    (region : Region) (items : List Val) (entry : MState) (base a n : ℕ) (s t : Storage)
+    (region : Region) (items : List Val) (entry : Activation) (base a n : ℕ) (s t : Storage)
     → IsPoked a n s t → IsRegion region → AreInRegion region base (length items) → meets region a a ≡ false
     → AreItems items entry base s → AreItems items entry base t
 AreItems-poked region items entry base a n s t p r i apart h =
@@ -255,7 +255,7 @@ placed_in_ram region c p = let h = p.area in grind (arith, nat_tests)
 
 -- cells at other addresses keep their bytes
 AreCells-poked :
-    (region : Region) (test : Cell → Bool) (cells : List Cell) (entry : MState) (a n : ℕ) (s t : Storage)
+    (region : Region) (test : Cell → Bool) (cells : List Cell) (entry : Activation) (a n : ℕ) (s t : Storage)
     → IsPoked a n s t → ((c : Cell) → test c ≡ true → (c.address == a) ≡ false) → ArePlaced region cells → AreCells cells entry s → AreCells (filter test cells) entry t
 AreCells-poked region test cells entry a n s t p other placed h =
     AllByRecursion-where (IsPlaced region) (λ c. Holds c.val entry (peek s c.address)) (λ c. Holds c.val entry (peek t c.address)) test
@@ -263,7 +263,7 @@ AreCells-poked region test cells entry a n s t p other placed h =
     cells placed h
 
 AreCells-apart :
-    (region : Region) (cells : List Cell) (entry : MState) (a n : ℕ) (s t : Storage)
+    (region : Region) (cells : List Cell) (entry : Activation) (a n : ℕ) (s t : Storage)
     → IsPoked a n s t → list_any (is_at a) cells ≡ false → ArePlaced region cells → AreCells cells entry s → AreCells cells entry t
 AreCells-apart region [] entry a n s t p none placed h = tt
 AreCells-apart region (c ∷ cells) entry a n s t p none placed h =
@@ -283,7 +283,7 @@ higher : (a b : ℕ) → nat_lt a b ≡ true → (b == a) ≡ false
 higher a b h = grind (arith, nat_tests)
 
 AreCells-entered :
-    (region : Region) (cells : List Cell) (entry : MState) (a n : ℕ) (v : Val) (s t : Storage)
+    (region : Region) (cells : List Cell) (entry : Activation) (a n : ℕ) (v : Val) (s t : Storage)
     → IsPoked a n s t → Holds v entry n → ArePlaced region cells → AreCells cells entry s
     → AreCells (entered (record { address = a; val = v }) cells) entry t
 unfolding entered
@@ -293,7 +293,7 @@ AreCells-entered region cells entry a n v s t p k placed h =
     (subst (λ y. Holds v entry y) (sym p.byte) k, AreCells-poked region (is_above a) cells entry a n s t p (λ c e. higher a c.address e) placed h)
 
 AreCells-with_cell :
-    (region : Region) (room : ℕ) (cells : List Cell) (entry : MState) (a n : ℕ) (v : Val) (s t : Storage)
+    (region : Region) (room : ℕ) (cells : List Cell) (entry : Activation) (a n : ℕ) (v : Val) (s t : Storage)
     → IsPoked a n s t → Holds v entry n → ArePlaced region cells → AreCells cells entry s
     → AreCells (with_cell room (record { address = a; val = v }) cells) entry t
 unfolding with_cell
@@ -306,7 +306,7 @@ AreCells-with_cell region room cells entry a n v s t p k placed h = choose (list
 
 -- a byte is stored at one address: its cell gets the value
 pub MeansParts-with_cell :
-    (region : Region) (most : ℕ) (s : AbsState) (entry : MState) (base : ℕ) (x : MState) (t : Storage) (a n : ℕ) (v : Val)
+    (region : Region) (most : ℕ) (s : AbsState) (entry : Activation) (base : ℕ) (x : MState) (t : Storage) (a n : ℕ) (v : Val)
     → MeansParts s entry base x → IsPoked a n x.storage t → Holds v entry n → IsPlaced region (record { address = a; val = v })
     → ArePlaced region s.cells → AreInRegion region base (length s.items) → IsRegion region
     → MeansParts (record s { cells = with_cell most (record { address = a; val = v }) s.cells }) entry base (record x { storage = t })
@@ -327,7 +327,7 @@ outside-differs : (first last a b : ℕ) → first ≤ a → a ≤ last → not 
 outside-differs first last a b low high h = grind (arith, nat_tests)
 
 AreCells-without_cells :
-    (region : Region) (cells : List Cell) (entry : MState) (a n first last : ℕ) (s t : Storage)
+    (region : Region) (cells : List Cell) (entry : Activation) (a n first last : ℕ) (s t : Storage)
     → IsPoked a n s t → first ≤ a → a ≤ last → ArePlaced region cells → AreCells cells entry s → AreCells (without_cells first last cells) entry t
 unfolding without_cells
 AreCells-without_cells region cells entry a n first last s t p low high placed h =
@@ -335,7 +335,7 @@ AreCells-without_cells region cells entry a n first last s t p low high placed h
 
 -- a byte is stored at one of several addresses: their cells are dropped
 pub MeansParts-without_cells :
-    (region : Region) (s : AbsState) (entry : MState) (base : ℕ) (x : MState) (t : Storage) (a n first last : ℕ)
+    (region : Region) (s : AbsState) (entry : Activation) (base : ℕ) (x : MState) (t : Storage) (a n first last : ℕ)
     → MeansParts s entry base x → IsPoked a n x.storage t → first ≤ a → a ≤ last → meets region first last ≡ false
     → ArePlaced region s.cells → AreInRegion region base (length s.items) → IsRegion region
     → MeansParts (record s { cells = without_cells first last s.cells }) entry base (record x { storage = t })

@@ -15,7 +15,7 @@ use Rattle.gb_domain.specs.Rules.{IsVal, IsCell, after_cell}
 use Rattle.gb_abs.specs.Storage.{peek}
 use Rattle.gb_abs.specs.Covering.{covers_origin}
 use Rattle.gb_abs.specs.Cells.{IsPlaced, ArePlaced, AreInOrder, widened, widened_at, widened_cells, IsWideningInOrder}
-use Rattle.gb_abs.specs.Meaning.{Holds, MeansParts}
+use Rattle.gb_abs.specs.Meaning.{Activation, Holds, MeansParts}
 use Rattle.gb_abs.specs.Stack.{AreInRegion}
 use Rattle.gb_abs.specs.Poked.{IsPoked}
 use Rattle.gb_abs.specs.Sound.{IsSoundWidening}
@@ -43,7 +43,7 @@ origin_kept : (from to : Option Origin) (b : Bool) → covers_origin from to ≡
 origin_kept from to true h o e = (origin_from from to o h e, e)
 origin_kept from to false h o e = absurd (none_same o e)
 
-Holds-widened : (v w : Val) (entry : MState) (n : ℕ) → Holds v entry n → Holds (widened v w) entry n
+Holds-widened : (v w : Val) (entry : Activation) (n : ℕ) → Holds v entry n → Holds (widened v w) entry n
 Holds-widened v w entry n h =
     let least = h.least in
     let most = h.most in
@@ -54,7 +54,7 @@ Holds-widened v w entry n h =
       origin = λ o e. h.origin o (origin_kept v.origin w.origin (covers_origin v.origin w.origin) refl o e).0;
     }
 
-Holds-widening : (v w : Val) (entry : MState) (n : ℕ) → Holds w entry n → Holds (widened v w) entry n
+Holds-widening : (v w : Val) (entry : Activation) (n : ℕ) → Holds w entry n → Holds (widened v w) entry n
 Holds-widening v w entry n h =
     let least = h.least in
     let most = h.most in
@@ -77,7 +77,7 @@ IsVal-widened v w p q =
 
 -- a cell holds of its byte after a store to one of the addresses
 Holds-widened_at :
-    (region : Region) (c : Cell) (entry : MState) (a n first last : ℕ) (v : Val) (s t : Storage)
+    (region : Region) (c : Cell) (entry : Activation) (a n first last : ℕ) (v : Val) (s t : Storage)
     → IsPoked a n s t → Holds v entry n → first ≤ a → a ≤ last → IsPlaced region c → Holds c.val entry (peek s c.address)
     → Holds (widened_at first last v c).val entry (peek t (widened_at first last v c).address)
 Holds-widened_at region c entry a n first last v s t p k low high placed h = choose (is_within first last c.address) refl
@@ -99,7 +99,7 @@ Holds-widened_at region c entry a n first last v s t p k low high placed h = cho
         subst (λ m. Holds c.val entry m) (old apart) h
 
 AreCells-widened :
-    (region : Region) (cells : List Cell) (entry : MState) (a n first last : ℕ) (v : Val) (s t : Storage)
+    (region : Region) (cells : List Cell) (entry : Activation) (a n first last : ℕ) (v : Val) (s t : Storage)
     → IsPoked a n s t → Holds v entry n → first ≤ a → a ≤ last → ArePlaced region cells → AreCells cells entry s → AreCells (widened_cells first last v cells) entry t
 unfolding widened_cells
 AreCells-widened region [] entry a n first last v s t p k low high placed h = tt
@@ -122,7 +122,7 @@ ArePlaced-widened region first last v (c ∷ cells) h = (IsPlaced-widened region
 
 -- a byte is stored at one of several addresses: their cells may hold it too
 pub MeansParts-widened_cells :
-    (region : Region) (s : AbsState) (entry : MState) (base : ℕ) (x : MState) (t : Storage) (a n first last : ℕ) (v : Val)
+    (region : Region) (s : AbsState) (entry : Activation) (base : ℕ) (x : MState) (t : Storage) (a n first last : ℕ) (v : Val)
     → MeansParts s entry base x → IsPoked a n x.storage t → Holds v entry n → first ≤ a → a ≤ last → meets region a a ≡ false
     → ArePlaced region s.cells → AreInRegion region base (length s.items) → IsRegion region
     → MeansParts (record s { cells = widened_cells first last v s.cells }) entry base (record x { storage = t })

@@ -6,7 +6,7 @@ use Rattle.gb_ops.specs.Play.{MState}
 use Rattle.gb_domain.specs.Areas.{IsRegion}
 use Rattle.gb_domain.specs.Types.{AbsState}
 use Rattle.gb_vals.specs.Vals.{any_val}
-use Rattle.gb_abs.specs.Meaning.{MeansParts}
+use Rattle.gb_abs.specs.Meaning.{Activation, MeansParts}
 use Rattle.gb_abs.specs.Stack.{AreInRegion}
 
 -- the newest bytes are taken off
@@ -30,20 +30,20 @@ resized n s =
 -- of each of these states, with its stack set, where SP moves up by as many
 pub record IsSoundTaking (k : ℕ) (s after : AbsState) : Type 0 where
   pub gives :
-      (region : Region) (entry : MState) (base : ℕ) (x : MState)
+      (region : Region) (entry : Activation) (base : ℕ) (x : MState)
       → MeansParts s entry base x → s.core.stack_set ≡ true → AreInRegion region base (length s.items) → IsRegion region
       → MeansParts after entry base (record x { processor = with_sp x.processor ((x.processor.sp + k) % 65536) })
 
 -- of each of these states, with its stack set and room for the bytes, where SP moves down by as many
 pub record IsSoundAppending (k : ℕ) (s after : AbsState) : Type 0 where
   pub gives :
-      (region : Region) (entry : MState) (base : ℕ) (x : MState)
+      (region : Region) (entry : Activation) (base : ℕ) (x : MState)
       → MeansParts s entry base x → s.core.stack_set ≡ true → AreInRegion region base (length s.items + k) → IsRegion region
       → MeansParts after entry base (record x { processor = with_sp x.processor ((x.processor.sp + (65536 - k)) % 65536) })
 
 -- of each of these states, its stack set or not, where SP is set to as many bytes below the base
 pub record IsSoundResizing (n : ℕ) (s after : AbsState) : Type 0 where
   pub gives :
-      (region : Region) (entry : MState) (base : ℕ) (x : MState)
+      (region : Region) (entry : Activation) (base : ℕ) (x : MState)
       → MeansParts s entry base x → AreInRegion region base n → IsRegion region
       → MeansParts after entry base (record x { processor = with_sp x.processor (base - n) })

@@ -1,5 +1,5 @@
 -- Covering: one abstract state stands for all that another one does (abstract interpretation: inclusion).
-use Rattle.std.specs.Prelude.{ℕ, Bool, true, false, not, ◌&&◌, ◌||◌, ◌==◌, if◌then◌else◌, nat_le, List, [], ◌∷◌, Option, Some, None}
+use Rattle.std.specs.Prelude.{ℕ, ◌+◌, Bool, true, false, not, ◌&&◌, ◌||◌, ◌==◌, if◌then◌else◌, nat_le, List, [], ◌∷◌, Option, Some, None}
 use Rattle.std.specs.List.{list_all}
 use Rattle.gb_ops.specs.declared.registers.Registers.{Registers}
 use Rattle.gb_domain.specs.declared.types.Origin.{Origin}
@@ -9,13 +9,14 @@ use Rattle.gb_domain.specs.declared.types.May.{May}
 use Rattle.gb_domain.specs.declared.types.Flg.{Flg}
 use Rattle.gb_domain.specs.declared.types.ImeSet.{ImeSet}
 use Rattle.gb_domain.specs.declared.types.Ctl.{Ctl}
+use Rattle.gb_domain.specs.declared.types.KeptBanks.{KeptBanks}
 use Rattle.gb_domain.specs.declared.types.Cell.{Cell}
 use Rattle.gb_domain.specs.declared.types.Core.{Core}
 use Rattle.gb_domain.specs.Types.{AbsState}
 use Rattle.gb_domain.specs.Values.{covers_low_bits}
 use Rattle.gb_vals.specs.Vals.{any_val}
 
--- an origin's number in a certificate, by which two origins are compared
+-- an origin's number, by which two origins are compared
 abbrev pub origin_number : Origin → ℕ
 origin_number origin.A = 1
 origin_number origin.F = 2
@@ -28,6 +29,9 @@ origin_number origin.L = 8
 origin_number origin.Ie = 9
 origin_number origin.ReturnHigh = 10
 origin_number origin.ReturnLow = 11
+origin_number (origin.Kept i) = 30 + i
+origin_number origin.MarkHigh = 28
+origin_number origin.MarkLow = 29
 
 -- one fact asks for another
 abbrev pub implied : Bool → Bool → Bool
@@ -55,10 +59,16 @@ covers_flags s t =
 unfoldable pub covers_ime : ImeSet → ImeSet → Bool
 covers_ime s t = implied s.off t.off && implied s.pending t.pending && implied s.on t.on
 
+-- what is kept by t's account is by s's
+unfoldable pub covers_kept : KeptBanks → KeptBanks → Bool
+covers_kept s t =
+    implied t.bank s.bank && implied t.second s.second && implied t.gate s.gate && implied t.mode s.mode
+    && implied t.high_bank s.high_bank
+
 unfoldable pub covers_controller : Ctl → Ctl → Bool
 covers_controller s t =
     nat_le t.bank_lo s.bank_lo && nat_le s.bank_hi t.bank_hi && nat_le t.second_lo s.second_lo
-    && nat_le s.second_hi t.second_hi && covers_may s.gate t.gate && covers_may s.mode t.mode && implied t.is_kept s.is_kept
+    && nat_le s.second_hi t.second_hi && covers_may s.gate t.gate && covers_may s.mode t.mode && covers_kept s.kept t.kept
 
 unfoldable pub covers_registers : Registers Val → Registers Val → Bool
 covers_registers s t =

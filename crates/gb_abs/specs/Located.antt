@@ -11,7 +11,7 @@ use Rattle.gb_domain.specs.declared.types.Val.{Val}
 use Rattle.gb_domain.specs.Settings.{known_base, IsBase}
 use Rattle.gb_domain.specs.Types.{AbsState}
 use Rattle.gb_vals.specs.Vals.{any_val, single}
-use Rattle.gb_abs.specs.Meaning.{Holds, MeansParts}
+use Rattle.gb_abs.specs.Meaning.{Activation, Holds, MeansParts}
 use Rattle.gb_abs.specs.Storage.{peek}
 
 -- by the rules of versions 1 and 2 no base is known; by those of version 3 it says where SP points as long as the items do
@@ -51,14 +51,14 @@ sp_bounds z s = bounds_by (stack_base z s.core) (length s.items)
 
 -- in each of these states, of a procedure whose base is what is said, v stands for the byte at the address
 pub record IsSoundItem (z : Setting) (s : AbsState) (a : ℕ) (v : Val) : Type 0 where
-  pub gives : (entry : MState) (base : ℕ) (x : MState) → IsBase z base → MeansParts s entry base x → Holds v entry (peek x.storage a)
+  pub gives : (entry : Activation) (base : ℕ) (x : MState) → IsBase z base → MeansParts s entry base x → Holds v entry (peek x.storage a)
 
 -- in each of these states the halves stand for SP's
 pub record IsSoundSp (z : Setting) (s : AbsState) (w : Halves) : Type 0 where
-  pub high : (entry : MState) (base : ℕ) (x : MState) → IsBase z base → MeansParts s entry base x → Holds w.high entry (x.processor.sp / 256)
-  pub low : (entry : MState) (base : ℕ) (x : MState) → IsBase z base → MeansParts s entry base x → Holds w.low entry (x.processor.sp % 256)
+  pub high : (entry : Activation) (base : ℕ) (x : MState) → IsBase z base → MeansParts s entry base x → Holds w.high entry (x.processor.sp / 256)
+  pub low : (entry : Activation) (base : ℕ) (x : MState) → IsBase z base → MeansParts s entry base x → Holds w.low entry (x.processor.sp % 256)
 
 -- in each of these states SP lies within the bounds
 pub record IsSoundSpBounds (z : Setting) (s : AbsState) (b : Bounds) : Type 0 where
-  pub first : (entry : MState) (base : ℕ) (x : MState) → IsBase z base → MeansParts s entry base x → b.first ≤ x.processor.sp
-  pub last : (entry : MState) (base : ℕ) (x : MState) → IsBase z base → MeansParts s entry base x → x.processor.sp ≤ b.last
+  pub first : (entry : Activation) (base : ℕ) (x : MState) → IsBase z base → MeansParts s entry base x → b.first ≤ x.processor.sp
+  pub last : (entry : Activation) (base : ℕ) (x : MState) → IsBase z base → MeansParts s entry base x → x.processor.sp ≤ b.last

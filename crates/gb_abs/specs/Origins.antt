@@ -5,6 +5,7 @@ use Rattle.gb_domain.specs.declared.types.Origin.{Origin}
 use Rattle.gb_domain.specs.declared.types.Val.{Val}
 use Rattle.gb_domain.specs.declared.types.Cell.{Cell}
 use Rattle.gb_domain.specs.declared.types.Core.{Core}
+use Rattle.gb_domain.specs.Types.{all_or_none}
 use Rattle.gb_abs.specs.Covering.{covers_origin}
 
 -- a value that is what this held when the procedure was entered
@@ -39,5 +40,5 @@ core_without_origins s = record s {
   registers = registers_without_origins s.registers;
   flags = record s.flags { is_own = false };
   ie = without_origin s.ie;
-  ctl = record s.ctl { is_kept = false };
+  ctl = record s.ctl { kept = all_or_none false };
 }

@@ -16,7 +16,7 @@ use Rattle.gb_domain.specs.declared.types.Core.{Core}
 use Rattle.gb_domain.specs.declared.types.Halves.{Halves}
 use Rattle.gb_domain.specs.Types.{AbsState}
 use Rattle.gb_domain.specs.Areas.{IsRegion, meets}
-use Rattle.gb_abs.specs.Meaning.{Holds, MeansCore, MeansParts}
+use Rattle.gb_abs.specs.Meaning.{Activation, Holds, MeansCore, MeansParts}
 use Rattle.gb_abs.specs.Cells.{IsPlaced, ArePlaced}
 use Rattle.gb_abs.specs.Poked.{IsPoked}
 use Rattle.gb_abs.specs.Storage.{is_ram, peek}
@@ -24,28 +24,28 @@ use Rattle.gb_abs.specs.Stack.{AreInRegion}
 
 -- t means each machine state that s means
 pub record IsPartOf (s t : AbsState) : Type 0 where
-  pub gives : (entry : MState) (base : ℕ) (x : MState) → MeansParts s entry base x → MeansParts t entry base x
+  pub gives : (entry : Activation) (base : ℕ) (x : MState) → MeansParts s entry base x → MeansParts t entry base x
 
 -- ---- cores
 
 -- a register gets one of the values that v stands for
 pub record IsSoundSet (r : Register) (v : Val) (s after : Core) : Type 0 where
   pub gives :
-      (entry x : MState) (n : ℕ) → Holds v entry n → MeansCore s entry x
+      (entry : Activation) (x : MState) (n : ℕ) → Holds v entry n → MeansCore s entry x
       → MeansCore after entry (record x { processor = with_registers x.processor (set r n x.processor.registers) })
 
 -- of the states where the register holds n, none is lost
 pub record IsSoundValue (r : Register) (n : ℕ) (s after : Core) : Type 0 where
-  pub gives : (entry x : MState) → get r x.processor.registers ≡ n → MeansCore s entry x → MeansCore after entry x
+  pub gives : (entry : Activation) (x : MState) → get r x.processor.registers ≡ n → MeansCore s entry x → MeansCore after entry x
 
 -- an instruction was executed
 pub record IsSoundSettling (s after : Core) : Type 0 where
-  pub gives : (entry x : MState) → MeansCore s entry x → MeansCore after entry (record x { processor = settled x.processor })
+  pub gives : (entry : Activation) (x : MState) → MeansCore s entry x → MeansCore after entry (record x { processor = settled x.processor })
 
 -- an instruction of n M-cycles has ended, which started an OAM transfer or didn't
 pub record IsSoundEnd (starts : Bool) (n : ℕ) (s after : Core) : Type 0 where
   pub gives :
-      (rom : List ℕ) (entry x : MState) → MeansCore s entry x
+      (rom : List ℕ) (entry : Activation) (x : MState) → MeansCore s entry x
       → MeansCore after entry (record x { storage = (passed (record { rom = rom; storage = x.storage; starting = starts }) n).storage })
 
 -- ---- cells
@@ -53,7 +53,7 @@ pub record IsSoundEnd (starts : Bool) (n : ℕ) (s after : Core) : Type 0 where
 -- of each of these states, where a byte that v stands for is stored at an address outside the stack region
 pub record IsSoundEntry (a : ℕ) (v : Val) (s after : AbsState) : Type 0 where
   pub gives :
-      (region : Region) (entry : MState) (base : ℕ) (x : MState) (t : Storage) (n : ℕ)
+      (region : Region) (entry : Activation) (base : ℕ) (x : MState) (t : Storage) (n : ℕ)
       → MeansParts s entry base x → IsPoked a n x.storage t → Holds v entry n → IsPlaced region (record { address = a; val = v })
       → ArePlaced region s.cells → AreInRegion region base (length s.items) → IsRegion region
       → MeansParts after entry base (record x { storage = t })
@@ -61,7 +61,7 @@ pub record IsSoundEntry (a : ℕ) (v : Val) (s after : AbsState) : Type 0 where
 -- of each of these states, where any byte is stored at one of the addresses, all outside the stack region
 pub record IsSoundDrop (first last : ℕ) (s after : AbsState) : Type 0 where
   pub gives :
-      (region : Region) (entry : MState) (base : ℕ) (x : MState) (t : Storage) (a n : ℕ)
+      (region : Region) (entry : Activation) (base : ℕ) (x : MState) (t : Storage) (a n : ℕ)
       → MeansParts s entry base x → IsPoked a n x.storage t → first ≤ a → a ≤ last → meets region first last ≡ false
       → ArePlaced region s.cells → AreInRegion region base (length s.items) → IsRegion region
       → MeansParts after entry base (record x { storage = t })
@@ -69,7 +69,7 @@ pub record IsSoundDrop (first last : ℕ) (s after : AbsState) : Type 0 where
 -- of each of these states, where a byte that v stands for is stored at one of the addresses, outside the stack region
 pub record IsSoundWidening (first last : ℕ) (v : Val) (s after : AbsState) : Type 0 where
   pub gives :
-      (region : Region) (entry : MState) (base : ℕ) (x : MState) (t : Storage) (a n : ℕ)
+      (region : Region) (entry : Activation) (base : ℕ) (x : MState) (t : Storage) (a n : ℕ)
       → MeansParts s entry base x → IsPoked a n x.storage t → Holds v entry n → first ≤ a → a ≤ last → meets region a a ≡ false
       → ArePlaced region s.cells → AreInRegion region base (length s.items) → IsRegion region
       → MeansParts after entry base (record x { storage = t })
@@ -85,7 +85,7 @@ abbrev pub with_stack : MState → ℕ → Storage → MState
 with_stack x sp t = record { processor = with_sp x.processor sp; storage = t }
 
 -- what a push leaves: the state with the word pushed, no fault, and all bytes of RAM but the word's two
-pub record Pushes (region : Region) (after : AbsState) (entry : MState) (base : ℕ) (x : MState) (m : View) (w : ℕ) : Type 0 where
+pub record Pushes (region : Region) (after : AbsState) (entry : Activation) (base : ℕ) (x : MState) (m : View) (w : ℕ) : Type 0 where
   pub means : MeansParts after entry base (with_stack x ((x.processor.sp + 65534) % 65536) (stored m (write.Push x.processor.sp w)).storage)
   pub faults : store_faults region m (write.Push x.processor.sp w) ≡ no_faults
   pub starting : (stored m (write.Push x.processor.sp w)).starting ≡ m.starting
@@ -98,7 +98,7 @@ pub record Pushes (region : Region) (after : AbsState) (entry : MState) (base : 
       → peek (stored m (write.Push x.processor.sp w)).storage b ≡ peek x.storage b
 
 -- what a pop gives: the word's two bytes, the state without it, and no fault
-pub record Pops (after : AbsState) (i : Halves) (entry : MState) (base : ℕ) (x : MState) (m : View) (free : List ℕ) : Type 0 where
+pub record Pops (after : AbsState) (i : Halves) (entry : Activation) (base : ℕ) (x : MState) (m : View) (free : List ℕ) : Type 0 where
   pub low : Holds i.low entry (loaded m (read.Word x.processor.sp) free).low
   pub high : Holds i.high entry (loaded m (read.Word x.processor.sp) free).high
   pub faults : load_faults m (read.Word x.processor.sp) ≡ no_faults
@@ -107,7 +107,7 @@ pub record Pops (after : AbsState) (i : Halves) (entry : MState) (base : ℕ) (x
 -- of each of these states, with its stack set and room for the word, each word that i stands for
 pub record IsSoundPush (s : AbsState) (i : Halves) (after : AbsState) : Type 0 where
   pub gives :
-      (region : Region) (entry : MState) (base : ℕ) (x : MState) (m : View) (w : ℕ)
+      (region : Region) (entry : Activation) (base : ℕ) (x : MState) (m : View) (w : ℕ)
       → MeansParts s entry base x → m.storage ≡ x.storage → s.core.stack_set ≡ true → AreInRegion region base (length s.items + 2)
       → IsRegion region → ArePlaced region s.cells → IsRegionOpen x.storage region → Holds i.high entry (w / 256) → Holds i.low entry (w % 256) → w < 65536
       → Pushes region after entry base x m w
@@ -115,6 +115,6 @@ pub record IsSoundPush (s : AbsState) (i : Halves) (after : AbsState) : Type 0 w
 -- of each of these states, with its stack set: i stands for the word that is read
 pub record IsSoundPop (s : AbsState) (i : Halves) (after : AbsState) : Type 0 where
   pub gives :
-      (region : Region) (entry : MState) (base : ℕ) (x : MState) (m : View) (free : List ℕ)
+      (region : Region) (entry : Activation) (base : ℕ) (x : MState) (m : View) (free : List ℕ)
       → MeansParts s entry base x → m.storage ≡ x.storage → s.core.stack_set ≡ true → AreInRegion region base (length s.items)
       → IsRegion region → IsRegionOpen x.storage region → Pops after i entry base x m free

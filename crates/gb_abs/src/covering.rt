@@ -2,16 +2,16 @@
 
 ghost use Rattle.std.specs.Prelude.{◌≡◌, ◌&&◌, true};
 ghost use Rattle.gb_abs.specs.Sound.{IsPartOf};
-ghost use Rattle.gb_abs.specs.Covering.{origin_number, implied, covers_origin, covers_val, covers_may, covers_flags, covers_ime, covers_controller, covers_registers, covers_core, covers_items, cell_at, covers_cells, covers_parts};
+ghost use Rattle.gb_abs.specs.Covering.{origin_number, implied, covers_origin, covers_val, covers_may, covers_flags, covers_ime, covers_kept, covers_controller, covers_registers, covers_core, covers_items, cell_at, covers_cells, covers_parts};
 
-use gb_domain::types::{Abs, Cell, Core, Ctl, Flg, ImeSet, May, Origin, Val};
+use gb_domain::types::{Abs, Cell, Core, Ctl, Flg, ImeSet, KeptBanks, May, Origin, Val};
 use gb_domain::values::covers_low_bits;
 use gb_ops::registers::Registers;
 use gb_vals::vals::any;
 
-/// An origin's number in a certificate, by which two origins are compared.
+/// An origin's number, by which two origins are compared.
 #[inline(always)]
-fn origin_number(origin: Origin) -> u8
+fn origin_number(origin: Origin) -> u16
     ensures { result ≡ origin_number origin }
 {
     match origin {
@@ -26,6 +26,9 @@ fn origin_number(origin: Origin) -> u8
         Origin::Ie => 9,
         Origin::ReturnHigh => 10,
         Origin::ReturnLow => 11,
+        Origin::Kept(number) => 30 + u16::from(number),
+        Origin::MarkHigh => 28,
+        Origin::MarkLow => 29,
     }
 }
 
@@ -87,6 +90,19 @@ pub fn covers_ime(s: &ImeSet, t: &ImeSet) -> bool
     implied(s.off, t.off) && implied(s.pending, t.pending) && implied(s.on, t.on)
 }
 
+/// Whether s has kept what t has.
+#[inline(always)]
+#[tactic(auto, unfolding(crate::specs::Covering::covers_kept))]
+fn covers_kept(s: KeptBanks, t: KeptBanks) -> bool
+    ensures { result ≡ covers_kept s t }
+{
+    implied(t.bank, s.bank)
+        && implied(t.second, s.second)
+        && implied(t.gate, s.gate)
+        && implied(t.mode, s.mode)
+        && implied(t.high_bank, s.high_bank)
+}
+
 /// Whether each value that the controller's registers may have in s is one that they may have in t.
 #[inline(always)]
 #[tactic(auto, unfolding(crate::specs::Covering::covers_controller))]
@@ -99,7 +115,7 @@ pub fn covers_controller(s: &Ctl, t: &Ctl) -> bool
         && s.second_hi <= t.second_hi
         && covers_may(s.gate, t.gate)
         && covers_may(s.mode, t.mode)
-        && implied(t.is_kept, s.is_kept)
+        && covers_kept(s.kept, t.kept)
 }
 
 #[inline(always)]

@@ -27,7 +27,7 @@ pub use stack::Popped;
 
 // What lies below, for the crates above.
 pub use gb_domain::types::{
-    Abs, Cell, Core, Ctl, Flg, Halves, ImeSet, May, Origin, Range, Rules, Setting, Val,
+    Abs, Cell, Core, Ctl, Flg, Halves, ImeSet, KeptBanks, May, Origin, Range, Rules, Setting, Val,
 };
 pub use gb_vals::alu::{alu, alu_itself};
 pub use gb_vals::bits::{may_enable, may_have_bit, reset_bit, set_bit, test_bit};
@@ -40,4 +40,4 @@ pub use gb_vals::outcome::AbsComputed;
 pub use gb_vals::shifts::{rotate_a, shift};
 pub use gb_vals::sums::{decrement, increment};
 pub use gb_vals::vals::{any, between, is_single, single};
-pub use gb_vals::{arithmetic, displaced, length_of, word};
+pub use gb_vals::{arithmetic, displaced, length_of, low_shifts, low_sums, strided, word};

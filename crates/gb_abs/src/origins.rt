@@ -5,7 +5,7 @@ ghost use Rattle.gb_abs.specs.Origins as Origins;
 
 use crate::covering::covers_origin;
 use arrayvec::ArrayVec;
-use gb_domain::types::{Cell, Core, Ctl, Flg, Origin, Val};
+use gb_domain::types::{Cell, Core, Ctl, Flg, KeptBanks, Origin, Val};
 use gb_ops::registers::Registers;
 
 /// The value, a copy of what this held at entry.
@@ -85,7 +85,7 @@ pub fn core_without_origins(core: &Core) -> Core
         },
         ie: without_origin(core.ie),
         ctl: Ctl {
-            is_kept: false,
+            kept: KeptBanks::all_or_none(false),
             ..core.ctl
         },
         ..*core

@@ -16,13 +16,13 @@ use Rattle.gb_domain.specs.declared.types.Core.{Core}
 use Rattle.gb_domain.specs.Rules.{IsVal, IsCore}
 use Rattle.gb_abs.specs.Below.gb_vals.Vals.{single, is_single}
 use Rattle.gb_abs.specs.Below.gb_vals.Meaning.{Gives}
-use Rattle.gb_abs.specs.Below.gb_vals.Alu.{alu, alu_itself, alu_origin, itself_origin, result_with_itself}
-use Rattle.gb_abs.proofs.Below.gb_vals_laws.AluLaws.{alu_sound, alu_itself_sound, alu_inhabited, alu_itself_inhabited}
-use Rattle.gb_abs.proofs.Below.gb_vals_laws.OriginLaws.{alu_kept, alu_written, alu_itself_kept, alu_itself_written}
-use Rattle.gb_abs.specs.Meaning.{Holds, HoldsFlags, MeansCore, origin_value}
+use Rattle.gb_abs.specs.Below.gb_vals.Alu.{alu_origin, itself_origin, result_with_itself}
+use Rattle.gb_abs.specs.Meaning.{Activation, Holds, HoldsFlags, MeansCore, origin_value}
 use Rattle.gb_abs.proofs.OperationLaws.{Holds-single}
+use Rattle.gb_abs_effects.specs.ByRules.{alu_by, itself_by}
 use Rattle.gb_abs_effects.specs.Transfer.{operand_val, update_a, apply_alu}
 use Rattle.gb_abs_effects.specs.Sound.{Follows, IsAbsEffect}
+use Rattle.gb_abs_effects.proofs.ByRulesLaws.{alu_by-sound, alu_by-inhabited, alu_by-kept, alu_by-written, itself_by-sound, itself_by-inhabited, itself_by-kept, itself_by-written}
 use Rattle.gb_abs_effects.proofs.CoreLaws.{In-from, FlagsIn-from, HoldsFlags-written}
 use Rattle.gb_abs_effects.proofs.OperandLaws.{Follows-update_a, IsAbsEffect-update_a}
 
@@ -30,7 +30,7 @@ use Rattle.gb_abs_effects.proofs.OperandLaws.{Follows-update_a, IsAbsEffect-upda
 
 -- an origin of the result is one of A, and the result is A
 alu-kept-value :
-    (how : AluOp) (a : Val) (entry : MState) (x y : ℕ) (g : Flags) (o : Origin)
+    (how : AluOp) (a : Val) (entry : Activation) (x y : ℕ) (g : Flags) (o : Origin)
     → Holds a entry x → alu_origin how a ≡ Some o → (alu_result how x y g).value ≡ origin_value o entry
 unfolding alu_result
 alu-kept-value alu_op.Cp a entry x y g o h e = h.origin o e
@@ -47,7 +47,7 @@ own-origin-of true a o e = cc
 own-origin-of false a o e = e
 
 itself-kept-value :
-    (how : AluOp) (a : Val) (entry : MState) (x : ℕ) (g : Flags) (o : Origin)
+    (how : AluOp) (a : Val) (entry : Activation) (x : ℕ) (g : Flags) (o : Origin)
     → Holds a entry x → itself_origin how a ≡ Some o → (result_with_itself how x g).value ≡ origin_value o entry
 unfolding alu_result logical
 itself-kept-value alu_op.Cp a entry x g o h e = h.origin o e
@@ -62,81 +62,81 @@ itself-kept-value alu_op.Xor a entry x g o h e = cc
 -- ---- with another operand
 
 Follows-alu :
-    (how : AluOp) (s : Core) (entry x : MState) (v : Val) (y : ℕ)
+    (whole : Bool) (how : AluOp) (s : Core) (entry : Activation) (x : MState) (v : Val) (y : ℕ)
     → IsVal v → Holds v entry y
     → IsCore s → MeansCore s entry x
-    → Follows (update_a (alu how s.registers.a v s.flags) s) entry x (Effects.update_a x.processor (alu_result how x.processor.registers.a y x.processor.flags))
-Follows-alu how s entry x v y is_v h is m =
+    → Follows (update_a (alu_by whole how s.registers.a v s.flags) s) entry x (Effects.update_a x.processor (alu_result how x.processor.registers.a y x.processor.flags))
+Follows-alu whole how s entry x v y is_v h is m =
     let a = s.registers.a in
     let n = x.processor.registers.a in
     let g = x.processor.flags in
-    let o = alu how a v s.flags in
+    let o = alu_by whole how a v s.flags in
     let c = alu_result how n y g in
-    let gives : Gives o c = (alu_sound how a v s.flags o refl (is.registers A).hi is_v.hi).gives n y g (In-from a entry n (m.registers A)) (In-from v entry y h) (FlagsIn-from s.flags entry g m.flags) in
-    let value : Holds o.val entry c.value = record { least = gives.value.least; most = gives.value.most; low = gives.value.low; origin = λ k e. alu-kept-value how a entry n y g k (m.registers A) (sym (alu_kept how a v s.flags o refl) ∙ e) } in
-    let flags : HoldsFlags o.flags entry c.flags = HoldsFlags-written o.flags entry c.flags gives.flags (alu_written how a v s.flags o refl) in
+    let gives : Gives o c = (alu_by-sound whole how a v s.flags (is.registers A).hi is_v.hi).gives n y g (In-from a entry n (m.registers A)) (In-from v entry y h) (FlagsIn-from s.flags entry g m.flags) in
+    let value : Holds o.val entry c.value = record { least = gives.value.least; most = gives.value.most; low = gives.value.low; origin = λ k e. alu-kept-value how a entry n y g k (m.registers A) (sym (alu_by-kept whole how a v s.flags) ∙ e) } in
+    let flags : HoldsFlags o.flags entry c.flags = HoldsFlags-written o.flags entry c.flags gives.flags (alu_by-written whole how a v s.flags) in
     Follows-update_a s entry x o c value flags m
 
 -- ---- with A itself
 
 Follows-itself :
-    (how : AluOp) (s : Core) (entry x : MState)
+    (whole : Bool) (how : AluOp) (s : Core) (entry : Activation) (x : MState)
     → IsCore s → MeansCore s entry x
-    → Follows (update_a (alu_itself how s.registers.a s.flags) s) entry x (Effects.update_a x.processor (result_with_itself how x.processor.registers.a x.processor.flags))
-Follows-itself how s entry x is m =
+    → Follows (update_a (itself_by whole how s.registers.a s.flags) s) entry x (Effects.update_a x.processor (result_with_itself how x.processor.registers.a x.processor.flags))
+Follows-itself whole how s entry x is m =
     let a = s.registers.a in
     let n = x.processor.registers.a in
     let g = x.processor.flags in
-    let o = alu_itself how a s.flags in
+    let o = itself_by whole how a s.flags in
     let c = result_with_itself how n g in
-    let gives : Gives o c = (alu_itself_sound how a s.flags o refl).gives n g (In-from a entry n (m.registers A)) (FlagsIn-from s.flags entry g m.flags) in
-    let value : Holds o.val entry c.value = record { least = gives.value.least; most = gives.value.most; low = gives.value.low; origin = λ k e. itself-kept-value how a entry n g k (m.registers A) (sym (alu_itself_kept how a s.flags o refl) ∙ e) } in
-    let flags : HoldsFlags o.flags entry c.flags = HoldsFlags-written o.flags entry c.flags gives.flags (alu_itself_written how a s.flags o refl) in
+    let gives : Gives o c = (itself_by-sound whole how a s.flags (is.registers A).hi).gives n g (In-from a entry n (m.registers A)) (FlagsIn-from s.flags entry g m.flags) in
+    let value : Holds o.val entry c.value = record { least = gives.value.least; most = gives.value.most; low = gives.value.low; origin = λ k e. itself-kept-value how a entry n g k (m.registers A) (sym (itself_by-kept whole how a s.flags) ∙ e) } in
+    let flags : HoldsFlags o.flags entry c.flags = HoldsFlags-written o.flags entry c.flags gives.flags (itself_by-written whole how a s.flags) in
     Follows-update_a s entry x o c value flags m
 
 -- ---- the instructions
 
 pub Follows-immediate :
-    (how : AluOp) (s : Core) (entry x : MState) (v : ℕ)
+    (whole : Bool) (how : AluOp) (s : Core) (entry : Activation) (x : MState) (v : ℕ)
     → v < 256 → IsCore s → MeansCore s entry x
-    → Follows (update_a (alu how s.registers.a (single v) s.flags) s) entry x (Effects.update_a x.processor (alu_result how x.processor.registers.a v x.processor.flags))
-Follows-immediate how s entry x v small is m =
-    Follows-alu how s entry x (single v) v (record { order = omega arith; hi = small; strided = refl }) (Holds-single v entry) is m
+    → Follows (update_a (alu_by whole how s.registers.a (single v) s.flags) s) entry x (Effects.update_a x.processor (alu_result how x.processor.registers.a v x.processor.flags))
+Follows-immediate whole how s entry x v small is m =
+    Follows-alu whole how s entry x (single v) v (record { order = omega arith; hi = small; strided = refl }) (Holds-single v entry) is m
 
 pub Follows-apply_alu :
-    (how : AluOp) (from : Operand) (s : Core) (entry x : MState) (low : Val) (l : ℕ)
+    (whole : Bool) (how : AluOp) (from : Operand) (s : Core) (entry : Activation) (x : MState) (low : Val) (l : ℕ)
     → IsVal low → Holds low entry l → IsCore s → MeansCore s entry x
-    → Follows (apply_alu how from s low) entry x (Effects.update_a x.processor (alu_result how x.processor.registers.a (Effects.operand_value x.processor from l) x.processor.flags))
+    → Follows (apply_alu whole how from s low) entry x (Effects.update_a x.processor (alu_result how x.processor.registers.a (Effects.operand_value x.processor from l) x.processor.flags))
 unfolding apply_alu operand_val Effects.operand_value
-Follows-apply_alu how (operand.Register A) s entry x low l is_low h is m = Follows-itself how s entry x is m
-Follows-apply_alu how (operand.Register B) s entry x low l is_low h is m = Follows-alu how s entry x s.registers.b _ (is.registers B) (m.registers B) is m
-Follows-apply_alu how (operand.Register C) s entry x low l is_low h is m = Follows-alu how s entry x s.registers.c _ (is.registers C) (m.registers C) is m
-Follows-apply_alu how (operand.Register D) s entry x low l is_low h is m = Follows-alu how s entry x s.registers.d _ (is.registers D) (m.registers D) is m
-Follows-apply_alu how (operand.Register E) s entry x low l is_low h is m = Follows-alu how s entry x s.registers.e _ (is.registers E) (m.registers E) is m
-Follows-apply_alu how (operand.Register H) s entry x low l is_low h is m = Follows-alu how s entry x s.registers.h _ (is.registers H) (m.registers H) is m
-Follows-apply_alu how (operand.Register L) s entry x low l is_low h is m = Follows-alu how s entry x s.registers.l _ (is.registers L) (m.registers L) is m
-Follows-apply_alu how operand.AtHl s entry x low l is_low h is m = Follows-alu how s entry x low l is_low h is m
+Follows-apply_alu whole how (operand.Register A) s entry x low l is_low h is m = Follows-itself whole how s entry x is m
+Follows-apply_alu whole how (operand.Register B) s entry x low l is_low h is m = Follows-alu whole how s entry x s.registers.b _ (is.registers B) (m.registers B) is m
+Follows-apply_alu whole how (operand.Register C) s entry x low l is_low h is m = Follows-alu whole how s entry x s.registers.c _ (is.registers C) (m.registers C) is m
+Follows-apply_alu whole how (operand.Register D) s entry x low l is_low h is m = Follows-alu whole how s entry x s.registers.d _ (is.registers D) (m.registers D) is m
+Follows-apply_alu whole how (operand.Register E) s entry x low l is_low h is m = Follows-alu whole how s entry x s.registers.e _ (is.registers E) (m.registers E) is m
+Follows-apply_alu whole how (operand.Register H) s entry x low l is_low h is m = Follows-alu whole how s entry x s.registers.h _ (is.registers H) (m.registers H) is m
+Follows-apply_alu whole how (operand.Register L) s entry x low l is_low h is m = Follows-alu whole how s entry x s.registers.l _ (is.registers L) (m.registers L) is m
+Follows-apply_alu whole how operand.AtHl s entry x low l is_low h is m = Follows-alu whole how s entry x low l is_low h is m
 
 -- ---- ranges
 
-IsAbsEffect-alu : (how : AluOp) (s : Core) (v : Val) → IsVal v → IsCore s → IsAbsEffect (update_a (alu how s.registers.a v s.flags) s)
-IsAbsEffect-alu how s v h is =
-    IsAbsEffect-update_a s (alu how s.registers.a v s.flags) (alu_inhabited how s.registers.a v s.flags (alu how s.registers.a v s.flags) refl (is.registers A) h is.flags) is
+IsAbsEffect-alu : (whole : Bool) (how : AluOp) (s : Core) (v : Val) → IsVal v → IsCore s → IsAbsEffect (update_a (alu_by whole how s.registers.a v s.flags) s)
+IsAbsEffect-alu whole how s v h is =
+    IsAbsEffect-update_a s (alu_by whole how s.registers.a v s.flags) (alu_by-inhabited whole how s.registers.a v s.flags (is.registers A) h is.flags) is
 
-pub IsAbsEffect-immediate : (how : AluOp) (s : Core) (v : ℕ) → v < 256 → IsCore s → IsAbsEffect (update_a (alu how s.registers.a (single v) s.flags) s)
-IsAbsEffect-immediate how s v small is = IsAbsEffect-alu how s (single v) (record { order = omega arith; hi = small; strided = refl }) is
+pub IsAbsEffect-immediate : (whole : Bool) (how : AluOp) (s : Core) (v : ℕ) → v < 256 → IsCore s → IsAbsEffect (update_a (alu_by whole how s.registers.a (single v) s.flags) s)
+IsAbsEffect-immediate whole how s v small is = IsAbsEffect-alu whole how s (single v) (record { order = omega arith; hi = small; strided = refl }) is
 
-IsAbsEffect-itself : (how : AluOp) (s : Core) → IsCore s → IsAbsEffect (update_a (alu_itself how s.registers.a s.flags) s)
-IsAbsEffect-itself how s is =
-    IsAbsEffect-update_a s (alu_itself how s.registers.a s.flags) (alu_itself_inhabited how s.registers.a s.flags (alu_itself how s.registers.a s.flags) refl (is.registers A) is.flags) is
+IsAbsEffect-itself : (whole : Bool) (how : AluOp) (s : Core) → IsCore s → IsAbsEffect (update_a (itself_by whole how s.registers.a s.flags) s)
+IsAbsEffect-itself whole how s is =
+    IsAbsEffect-update_a s (itself_by whole how s.registers.a s.flags) (itself_by-inhabited whole how s.registers.a s.flags (is.registers A) is.flags) is
 
-pub IsAbsEffect-apply_alu : (how : AluOp) (from : Operand) (s : Core) (low : Val) → IsVal low → IsCore s → IsAbsEffect (apply_alu how from s low)
+pub IsAbsEffect-apply_alu : (whole : Bool) (how : AluOp) (from : Operand) (s : Core) (low : Val) → IsVal low → IsCore s → IsAbsEffect (apply_alu whole how from s low)
 unfolding apply_alu operand_val
-IsAbsEffect-apply_alu how (operand.Register A) s low h is = IsAbsEffect-itself how s is
-IsAbsEffect-apply_alu how (operand.Register B) s low h is = IsAbsEffect-alu how s s.registers.b (is.registers B) is
-IsAbsEffect-apply_alu how (operand.Register C) s low h is = IsAbsEffect-alu how s s.registers.c (is.registers C) is
-IsAbsEffect-apply_alu how (operand.Register D) s low h is = IsAbsEffect-alu how s s.registers.d (is.registers D) is
-IsAbsEffect-apply_alu how (operand.Register E) s low h is = IsAbsEffect-alu how s s.registers.e (is.registers E) is
-IsAbsEffect-apply_alu how (operand.Register H) s low h is = IsAbsEffect-alu how s s.registers.h (is.registers H) is
-IsAbsEffect-apply_alu how (operand.Register L) s low h is = IsAbsEffect-alu how s s.registers.l (is.registers L) is
-IsAbsEffect-apply_alu how operand.AtHl s low h is = IsAbsEffect-alu how s low h is
+IsAbsEffect-apply_alu whole how (operand.Register A) s low h is = IsAbsEffect-itself whole how s is
+IsAbsEffect-apply_alu whole how (operand.Register B) s low h is = IsAbsEffect-alu whole how s s.registers.b (is.registers B) is
+IsAbsEffect-apply_alu whole how (operand.Register C) s low h is = IsAbsEffect-alu whole how s s.registers.c (is.registers C) is
+IsAbsEffect-apply_alu whole how (operand.Register D) s low h is = IsAbsEffect-alu whole how s s.registers.d (is.registers D) is
+IsAbsEffect-apply_alu whole how (operand.Register E) s low h is = IsAbsEffect-alu whole how s s.registers.e (is.registers E) is
+IsAbsEffect-apply_alu whole how (operand.Register H) s low h is = IsAbsEffect-alu whole how s s.registers.h (is.registers H) is
+IsAbsEffect-apply_alu whole how (operand.Register L) s low h is = IsAbsEffect-alu whole how s s.registers.l (is.registers L) is
+IsAbsEffect-apply_alu whole how operand.AtHl s low h is = IsAbsEffect-alu whole how s low h is

@@ -16,7 +16,7 @@ use Rattle.gb_domain.specs.declared.types.Core.{Core}
 use Rattle.gb_domain.specs.Rules.{IsVal, IsFlg, IsCore, may_be_any}
 use Rattle.gb_abs.specs.Below.gb_vals.Meaning.{In, FlagsIn}
 use Rattle.gb_abs.specs.Span.{IsIn, pair_span}
-use Rattle.gb_abs.specs.Meaning.{Holds, HoldsFlags, MeansCore, ime_may_be}
+use Rattle.gb_abs.specs.Meaning.{Activation, Holds, HoldsFlags, MeansCore, ime_may_be}
 use Rattle.gb_abs.proofs.OperationLaws.{set_both, set_one}
 use Rattle.gb_abs_effects.specs.Transfer.{with_flags, with_ime}
 
@@ -25,26 +25,26 @@ some-is c d e = cc
 
 -- ---- bytes and flags
 
-pub In-from : (v : Val) (entry : MState) (n : ℕ) → Holds v entry n → In v n
+pub In-from : (v : Val) (entry : Activation) (n : ℕ) → Holds v entry n → In v n
 In-from v entry n h = record { least = h.least; most = h.most; low = h.low }
 
-pub FlagsIn-from : (f : Flg) (entry : MState) (g : Flags) → HoldsFlags f entry g → FlagsIn f g
+pub FlagsIn-from : (f : Flg) (entry : Activation) (g : Flags) → HoldsFlags f entry g → FlagsIn f g
 FlagsIn-from f entry g h =
     record { zero = h.zero; subtract = h.subtract; half_carry = h.half_carry; carry = h.carry }
 
 -- what is computed needs no origin
-pub Holds-computed : (v : Val) (entry : MState) (n : ℕ) → In v n → v.origin ≡ None → Holds v entry n
+pub Holds-computed : (v : Val) (entry : Activation) (n : ℕ) → In v n → v.origin ≡ None → Holds v entry n
 Holds-computed v entry n m none = record { least = m.least; most = m.most; low = m.low; origin = λ o e. cc }
 
-pub HoldsFlags-written : (f : Flg) (entry : MState) (g : Flags) → FlagsIn f g → f.is_own ≡ false → HoldsFlags f entry g
+pub HoldsFlags-written : (f : Flg) (entry : Activation) (g : Flags) → FlagsIn f g → f.is_own ≡ false → HoldsFlags f entry g
 HoldsFlags-written f entry g m written =
     record { zero = m.zero; subtract = m.subtract; half_carry = m.half_carry; carry = m.carry; own = λ e. cc }
 
-pub byte-of : (v : Val) (entry : MState) (n : ℕ) → IsVal v → Holds v entry n → n ≤ 255
+pub byte-of : (v : Val) (entry : Activation) (n : ℕ) → IsVal v → Holds v entry n → n ≤ 255
 byte-of v entry n is h = let p = is.hi in let q = h.most in omega arith
 
 -- the address in a pair
-pub IsIn-pair : (high low : Val) (entry : MState) (a b : ℕ) → Holds high entry a → Holds low entry b → IsIn (pair_span high low) (word a b)
+pub IsIn-pair : (high low : Val) (entry : Activation) (a b : ℕ) → Holds high entry a → Holds low entry b → IsIn (pair_span high low) (word a b)
 unfolding pair_span
 IsIn-pair high low entry a b h l =
     let p : high.lo ≤ a = h.least in
@@ -56,7 +56,7 @@ IsIn-pair high low entry a b h l =
 -- ---- the meaning of a core
 
 pub MeansCore-changed :
-    (s : Core) (entry x : MState) (rs : Registers Val) (f : Flg) (i : ImeSet) (q : Processor)
+    (s : Core) (entry : Activation) (x : MState) (rs : Registers Val) (f : Flg) (i : ImeSet) (q : Processor)
     → ((r : Register) → Holds (get r rs) entry (get r q.registers)) → HoldsFlags f entry q.flags
     → ime_may_be i q.ime ≡ true
     → q.locked ≡ false → q.stopped ≡ false → MeansCore s entry x
@@ -75,20 +75,20 @@ MeansCore-changed s entry x rs f i q registers flags ime locked stopped m =
 
 -- where the machine goes on and its stack ends are no part of a core
 pub MeansCore-at :
-    (s : Core) (entry x : MState) (sp pc : ℕ)
+    (s : Core) (entry : Activation) (x : MState) (sp pc : ℕ)
     → MeansCore s entry x → MeansCore s entry (record x { processor = record x.processor { sp = sp; pc = pc } })
 MeansCore-at s entry x sp pc m =
     MeansCore-changed s entry x s.registers s.flags s.ime (record x.processor { sp = sp; pc = pc }) m.registers m.flags m.ime m.locked m.stopped m
 
 pub MeansCore-flags :
-    (s : Core) (entry x : MState) (f : Flg) (g : Flags)
+    (s : Core) (entry : Activation) (x : MState) (f : Flg) (g : Flags)
     → HoldsFlags f entry g → MeansCore s entry x
     → MeansCore (with_flags f s) entry (record x { processor = record x.processor { flags = g } })
 MeansCore-flags s entry x f g flags m =
     MeansCore-changed s entry x s.registers f s.ime (record x.processor { flags = g }) m.registers flags m.ime m.locked m.stopped m
 
 pub MeansCore-ime :
-    (s : Core) (entry x : MState) (i : ImeSet) (ime : Ime)
+    (s : Core) (entry : Activation) (x : MState) (i : ImeSet) (ime : Ime)
     → ime_may_be i ime ≡ true → MeansCore s entry x
     → MeansCore (with_ime i s) entry (record x { processor = record x.processor { ime = ime } })
 MeansCore-ime s entry x i ime holds m =
@@ -96,7 +96,7 @@ MeansCore-ime s entry x i ime holds m =
 
 -- A and the flags change together
 pub MeansCore-a :
-    (s : Core) (entry x : MState) (v : Val) (f : Flg) (n : ℕ) (g : Flags)
+    (s : Core) (entry : Activation) (x : MState) (v : Val) (f : Flg) (n : ℕ) (g : Flags)
     → Holds v entry n → HoldsFlags f entry g → MeansCore s entry x
     → MeansCore (record s { registers = set A v s.registers; flags = f }) entry (record x { processor = record x.processor { registers = set A n x.processor.registers; flags = g } })
 MeansCore-a s entry x v f n g holds flags m =

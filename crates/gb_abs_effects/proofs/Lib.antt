@@ -1,4 +1,5 @@
 pub mod AluLaws
+pub mod ByRulesLaws
 pub mod CoreLaws
 pub mod DecodingLaws
 pub mod InstructionLaws
@@ -7,6 +8,7 @@ pub mod PairLaws
 pub mod RangeLaws
 pub mod ReadLaws
 pub mod SideLaws
+pub mod StridedWordLaws
 pub mod TargetLaws
 pub mod TransferLaws
 pub mod Below

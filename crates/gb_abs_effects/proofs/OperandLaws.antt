@@ -13,7 +13,7 @@ use Rattle.gb_domain.specs.declared.types.Core.{Core}
 use Rattle.gb_domain.specs.Rules.{IsVal, IsFlg, IsCore}
 use Rattle.gb_abs.specs.Below.gb_vals.declared.outcome.AbsComputed.{AbsComputed}
 use Rattle.gb_abs.specs.Below.gb_vals.Meaning.{In, FlagsIn, Gives, IsSound, IsSoundOfVal, IsSoundOfFlags, IsSoundOfTest, IsOutcome, IsComputed}
-use Rattle.gb_abs.specs.Meaning.{Holds, HoldsFlags, MeansCore}
+use Rattle.gb_abs.specs.Meaning.{Activation, Holds, HoldsFlags, MeansCore}
 use Rattle.gb_abs.proofs.OperationLaws.{MeansCore-set_register, IsCore-set_register}
 use Rattle.gb_abs_effects.specs.Transfer.{quiet, with_flags, operand_val, store_operand, update_operand, update_a}
 use Rattle.gb_abs_effects.specs.Sound.{Follows, IsAbsEffect}
@@ -23,7 +23,7 @@ use Rattle.gb_abs_effects.proofs.ReadLaws.{IsIn-hl, hl_span-last}
 -- ---- operands
 
 pub Holds-operand :
-    (which : Operand) (s : Core) (entry x : MState) (low : Val) (l : ℕ)
+    (which : Operand) (s : Core) (entry : Activation) (x : MState) (low : Val) (l : ℕ)
     → Holds low entry l → MeansCore s entry x → Holds (operand_val which s low) entry (Effects.operand_value x.processor which l)
 unfolding operand_val Effects.operand_value
 Holds-operand (operand.Register r) s entry x low l h m = m.registers r
@@ -35,7 +35,7 @@ operand-byte (operand.Register r) s low h is = is.registers r
 operand-byte operand.AtHl s low h is = h
 
 pub Follows-store_operand :
-    (to : Operand) (s : Core) (entry x : MState) (v : Val) (n : ℕ)
+    (to : Operand) (s : Core) (entry : Activation) (x : MState) (v : Val) (n : ℕ)
     → Holds v entry n → n ≤ 255 → MeansCore s entry x
     → Follows (store_operand to v s) entry x (Effects.store_operand x.processor to n)
 unfolding store_operand Effects.store_operand
@@ -50,7 +50,7 @@ IsAbsEffect-store_operand operand.AtHl s v h is = record { core = is; write = h;
 
 -- the operand and the flags become what was computed
 Follows-updated :
-    (which : Operand) (s : Core) (entry x : MState) (o : AbsComputed) (c : Computed)
+    (which : Operand) (s : Core) (entry : Activation) (x : MState) (o : AbsComputed) (c : Computed)
     → Gives o c → IsComputed o → IsOutcome o → MeansCore s entry x
     → Follows (update_operand which o s) entry x (Effects.update_operand x.processor which c)
 unfolding update_operand Effects.update_operand
@@ -61,7 +61,7 @@ Follows-updated which s entry x o c gives computed is m =
     record { core = stored.core; write = stored.write }
 
 pub Follows-update_operand :
-    (machine : ℕ → Flags → Computed) (which : Operand) (s : Core) (entry x : MState) (low : Val) (l : ℕ) (o : AbsComputed)
+    (machine : ℕ → Flags → Computed) (which : Operand) (s : Core) (entry : Activation) (x : MState) (low : Val) (l : ℕ) (o : AbsComputed)
     → IsSound machine (operand_val which s low) s.flags o → IsComputed o → IsOutcome o
     → Holds low entry l → MeansCore s entry x
     → Follows (update_operand which o s) entry x (Effects.update_operand x.processor which (machine (Effects.operand_value x.processor which l) x.processor.flags))
@@ -75,7 +75,7 @@ IsAbsEffect-update_operand which s o is core = IsAbsEffect-store_operand which (
 
 -- the operand becomes what was computed of it
 pub Follows-change_operand :
-    (machine : ℕ → ℕ) (which : Operand) (s : Core) (entry x : MState) (low : Val) (l : ℕ) (v : Val)
+    (machine : ℕ → ℕ) (which : Operand) (s : Core) (entry : Activation) (x : MState) (low : Val) (l : ℕ) (v : Val)
     → IsSoundOfVal machine (operand_val which s low) v → v.origin ≡ None → IsVal v
     → Holds low entry l → MeansCore s entry x
     → Follows (store_operand which v s) entry x (Effects.store_operand x.processor which (machine (Effects.operand_value x.processor which l)))
@@ -89,7 +89,7 @@ Follows-change_operand machine which s entry x low l v sound computed is h m =
 -- ---- A
 
 pub Follows-update_a :
-    (s : Core) (entry x : MState) (o : AbsComputed) (c : Computed)
+    (s : Core) (entry : Activation) (x : MState) (o : AbsComputed) (c : Computed)
     → Holds o.val entry c.value → HoldsFlags o.flags entry c.flags → MeansCore s entry x
     → Follows (update_a o s) entry x (Effects.update_a x.processor c)
 unfolding update_a Effects.update_a
@@ -98,7 +98,7 @@ Follows-update_a s entry x o c value flags m =
 
 -- A and the flags become what was computed of them
 pub Follows-change_a :
-    (machine : ℕ → Flags → Computed) (s : Core) (entry x : MState) (o : AbsComputed)
+    (machine : ℕ → Flags → Computed) (s : Core) (entry : Activation) (x : MState) (o : AbsComputed)
     → IsSound machine s.registers.a s.flags o → IsComputed o → MeansCore s entry x
     → Follows (update_a o s) entry x (Effects.update_a x.processor (machine x.processor.registers.a x.processor.flags))
 Follows-change_a machine s entry x o sound computed m =
@@ -114,21 +114,21 @@ IsAbsEffect-update_a s o is core = record { core = IsCore-a s o.val o.flags is.v
 -- ---- flags
 
 pub flags-follow :
-    (s : Core) (entry x : MState) (f : Flg) (g : Flags)
+    (s : Core) (entry : Activation) (x : MState) (f : Flg) (g : Flags)
     → FlagsIn f g → f.is_own ≡ false → MeansCore s entry x
     → Follows (quiet (with_flags f s)) entry x (Effects.quiet (Effects.with_flags x.processor g))
 flags-follow s entry x f g h written m =
     record { core = MeansCore-flags s entry x f g (HoldsFlags-written f entry g h written) m; write = tt }
 
 pub Follows-change_flags :
-    (machine : Flags → Flags) (s : Core) (entry x : MState) (f : Flg)
+    (machine : Flags → Flags) (s : Core) (entry : Activation) (x : MState) (f : Flg)
     → IsSoundOfFlags machine s.flags f → f.is_own ≡ false → MeansCore s entry x
     → Follows (quiet (with_flags f s)) entry x (Effects.quiet (Effects.with_flags x.processor (machine x.processor.flags)))
 Follows-change_flags machine s entry x f sound written m =
     flags-follow s entry x f (machine x.processor.flags) (sound.gives x.processor.flags (FlagsIn-from s.flags entry x.processor.flags m.flags)) written m
 
 pub Follows-test_operand :
-    (machine : ℕ → Flags → Flags) (which : Operand) (s : Core) (entry x : MState) (low : Val) (l : ℕ) (f : Flg)
+    (machine : ℕ → Flags → Flags) (which : Operand) (s : Core) (entry : Activation) (x : MState) (low : Val) (l : ℕ) (f : Flg)
     → IsSoundOfTest machine (operand_val which s low) s.flags f → f.is_own ≡ false
     → Holds low entry l → MeansCore s entry x
     → Follows (quiet (with_flags f s)) entry x (Effects.quiet (Effects.with_flags x.processor (machine (Effects.operand_value x.processor which l) x.processor.flags)))

@@ -26,7 +26,7 @@ use Rattle.gb_abs.specs.Below.gb_vals.Flags.{any_flags, with_own, known_flags, o
 use Rattle.gb_abs.specs.Below.gb_vals.Meaning.{In, FlagsIn}
 use Rattle.gb_abs.proofs.Below.gb_vals_laws.MeaningLaws.{single-is, In-single, In-any, known-may_be, either-may_be, FlagsIn-known, bit-weight}
 use Rattle.gb_abs.proofs.Below.gb_vals_laws.FlagLaws.{flags_val_sound, flags_of_val_sound}
-use Rattle.gb_abs.specs.Meaning.{Holds, HoldsFlags, MeansCore, origin_value}
+use Rattle.gb_abs.specs.Meaning.{Activation, Holds, HoldsFlags, MeansCore, origin_value}
 use Rattle.gb_abs.specs.Operations.{core_set_register}
 use Rattle.gb_abs.proofs.OperationLaws.{MeansCore-set_register, register_set}
 use Rattle.gb_domain.specs.declared.types.Halves.{Halves}
@@ -34,7 +34,7 @@ use Rattle.gb_abs_effects.specs.Pairs.{known_word, any_word, is_word_known, leas
 use Rattle.gb_abs_effects.proofs.CoreLaws.{In-from, FlagsIn-from, Holds-computed, byte-of, some-is, MeansCore-at, MeansCore-a}
 
 -- the bytes of a word are what the intervals stand for
-pub record HoldsWord (w : Halves) (entry : MState) (n : ℕ) : Type 0 where
+pub record HoldsWord (w : Halves) (entry : Activation) (n : ℕ) : Type 0 where
   pub high : Holds w.high entry (n / 256)
   pub low : Holds w.low entry (n % 256)
 
@@ -43,19 +43,19 @@ record IsFresh (w : Halves) : Type 0 where
   high : w.high.origin ≡ None
   low : w.low.origin ≡ None
 
-HoldsWord-fresh : (w : Halves) (entry : MState) (n : ℕ) → In w.high (n / 256) → In w.low (n % 256) → IsFresh w → HoldsWord w entry n
+HoldsWord-fresh : (w : Halves) (entry : Activation) (n : ℕ) → In w.high (n / 256) → In w.low (n % 256) → IsFresh w → HoldsWord w entry n
 HoldsWord-fresh w entry n h l f =
     record { high = Holds-computed w.high entry (n / 256) h f.high; low = Holds-computed w.low entry (n % 256) l f.low }
 
-pub HoldsWord-known : (entry : MState) (n : ℕ) → HoldsWord (known_word n) entry n
+pub HoldsWord-known : (entry : Activation) (n : ℕ) → HoldsWord (known_word n) entry n
 HoldsWord-known entry n = HoldsWord-fresh (known_word n) entry n (In-single (n / 256)) (In-single (n % 256)) (record { high = refl; low = refl })
 
-pub HoldsWord-any : (entry : MState) (n : ℕ) → n < 65536 → HoldsWord any_word entry n
+pub HoldsWord-any : (entry : Activation) (n : ℕ) → n < 65536 → HoldsWord any_word entry n
 HoldsWord-any entry n h =
     HoldsWord-fresh any_word entry n (In-any (n / 256) (omega arith)) (In-any (n % 256) (omega arith)) (record { high = refl; low = refl })
 
 -- a known word is its least
-least_word-is : (w : Halves) (entry : MState) (n : ℕ) → is_word_known w ≡ true → HoldsWord w entry n → least_word w ≡ n
+least_word-is : (w : Halves) (entry : Activation) (n : ℕ) → is_word_known w ≡ true → HoldsWord w entry n → least_word w ≡ n
 least_word-is w entry n k h =
     let both = and_parts (is_single w.high) (is_single w.low) k in
     let p : n / 256 ≡ w.high.lo = single-is w.high (n / 256) both.0 (In-from w.high entry (n / 256) h.high) in
@@ -100,7 +100,7 @@ carried w = record { high = raised w.high; low = any_val }
 abbrev pub borrowed : Halves → Halves
 borrowed w = record { high = lowered w.high; low = any_val }
 
-HoldsWord-moved_up : (w : Halves) (entry : MState) (n : ℕ) → n < 65536 → w.low.hi < 255 → HoldsWord w entry n → HoldsWord (moved_up w) entry ((n + 1) % 65536)
+HoldsWord-moved_up : (w : Halves) (entry : Activation) (n : ℕ) → n < 65536 → w.low.hi < 255 → HoldsWord w entry n → HoldsWord (moved_up w) entry ((n + 1) % 65536)
 HoldsWord-moved_up w entry n small below h =
     let p : w.high.lo ≤ n / 256 = h.high.least in
     let q : n / 256 ≤ w.high.hi = h.high.most in
@@ -110,7 +110,7 @@ HoldsWord-moved_up w entry n small below h =
     let next : (n + 1) % 65536 % 256 ≡ n % 256 + 1 = omega arith in
     HoldsWord-fresh (moved_up w) entry ((n + 1) % 65536) (record { least = omega arith; most = omega arith; low = refl }) (record { least = omega arith; most = omega arith; low = refl }) (record { high = refl; low = refl })
 
-HoldsWord-moved_down : (w : Halves) (entry : MState) (n : ℕ) → n < 65536 → 0 < w.low.lo → HoldsWord w entry n → HoldsWord (moved_down w) entry ((n + 65535) % 65536)
+HoldsWord-moved_down : (w : Halves) (entry : Activation) (n : ℕ) → n < 65536 → 0 < w.low.lo → HoldsWord w entry n → HoldsWord (moved_down w) entry ((n + 65535) % 65536)
 HoldsWord-moved_down w entry n small above h =
     let p : w.high.lo ≤ n / 256 = h.high.least in
     let q : n / 256 ≤ w.high.hi = h.high.most in
@@ -134,7 +134,7 @@ lowered-fresh v = choose (nat_lt 0 v.lo)
     choose true = refl
     choose false = refl
 
-pub HoldsWord-next : (w : Halves) (entry : MState) (n : ℕ) → n < 65536 → HoldsWord w entry n → HoldsWord (next_word w) entry ((n + 1) % 65536)
+pub HoldsWord-next : (w : Halves) (entry : Activation) (n : ℕ) → n < 65536 → HoldsWord w entry n → HoldsWord (next_word w) entry ((n + 1) % 65536)
 unfolding next_word
 HoldsWord-next w entry n small h = choose (is_word_known w) (nat_lt w.low.hi 255) refl refl
   where
@@ -146,7 +146,7 @@ HoldsWord-next w entry n small h = choose (is_word_known w) (nat_lt w.low.hi 255
     choose false false e f =
         HoldsWord-fresh (carried w) entry ((n + 1) % 65536) (In-raised w.high n small (In-from w.high entry (n / 256) h.high)) (In-any ((n + 1) % 65536 % 256) (omega arith)) (record { high = raised-fresh w.high; low = refl })
 
-pub HoldsWord-previous : (w : Halves) (entry : MState) (n : ℕ) → n < 65536 → HoldsWord w entry n → HoldsWord (previous_word w) entry ((n + 65535) % 65536)
+pub HoldsWord-previous : (w : Halves) (entry : Activation) (n : ℕ) → n < 65536 → HoldsWord w entry n → HoldsWord (previous_word w) entry ((n + 65535) % 65536)
 unfolding previous_word
 HoldsWord-previous w entry n small h = choose (is_word_known w) (nat_lt 0 w.low.lo) refl refl
   where
@@ -164,7 +164,7 @@ displaced-small : (from e8 : ℕ) → arithmetic.displaced from e8 < 65536
 unfolding arithmetic.displaced
 displaced-small from e8 = omega arith
 
-pub HoldsWord-displaced : (w : Halves) (entry : MState) (n e8 : ℕ) → HoldsWord w entry n → HoldsWord (displaced_word w e8) entry (arithmetic.displaced n e8)
+pub HoldsWord-displaced : (w : Halves) (entry : Activation) (n e8 : ℕ) → HoldsWord w entry n → HoldsWord (displaced_word w e8) entry (arithmetic.displaced n e8)
 unfolding displaced_word
 HoldsWord-displaced w entry n e8 h = choose (is_word_known w) refl
   where
@@ -179,7 +179,7 @@ FlagsIn-displaced_any : (n e8 : ℕ) → FlagsIn displaced_flags_any (arithmetic
 unfolding arithmetic.sp_sum_flags
 FlagsIn-displaced_any n e8 = record { zero = refl; subtract = refl; half_carry = either-may_be _; carry = either-may_be _ }
 
-pub FlagsIn-displaced : (w : Halves) (entry : MState) (n e8 : ℕ) → HoldsWord w entry n → FlagsIn (displaced_flags w e8) (arithmetic.sp_sum_flags n e8)
+pub FlagsIn-displaced : (w : Halves) (entry : Activation) (n e8 : ℕ) → HoldsWord w entry n → FlagsIn (displaced_flags w e8) (arithmetic.sp_sum_flags n e8)
 unfolding displaced_flags
 FlagsIn-displaced w entry n e8 h = choose (is_word_known w) refl
   where
@@ -201,7 +201,7 @@ displaced_flags-written w e8 = choose (is_word_known w)
 -- ---- ADD HL
 
 pub HoldsWord-sum :
-    (v w : Halves) (entry : MState) (m n : ℕ)
+    (v w : Halves) (entry : Activation) (m n : ℕ)
     → HoldsWord v entry m → HoldsWord w entry n → HoldsWord (word_sum v w) entry ((m + n) % 65536)
 unfolding word_sum
 HoldsWord-sum v w entry m n h k = choose (are_words_known v w) refl
@@ -223,7 +223,7 @@ FlagsIn-sum_flags_known f g m n h =
     record { zero = h.zero; subtract = refl; half_carry = known-may_be (nat_lt 4095 (m % 4096 + n % 4096)); carry = known-may_be (nat_lt 65535 (m + n)) }
 
 pub FlagsIn-word_sum_flags :
-    (v w : Halves) (entry : MState) (m n : ℕ) (f : Flg) (g : Flags)
+    (v w : Halves) (entry : Activation) (m n : ℕ) (f : Flg) (g : Flags)
     → HoldsWord v entry m → HoldsWord w entry n → FlagsIn f g
     → FlagsIn (word_sum_flags v w f) (arithmetic.word_sum_flags m n g)
 unfolding word_sum_flags arithmetic.word_sum_flags
@@ -251,19 +251,19 @@ word_sum_flags-written v w f = choose (are_words_known v w)
 
 -- ---- the pairs of a core
 
-HoldsWord-of : (high low : Val) (entry : MState) (a b : ℕ) → Holds high entry a → Holds low entry b → b < 256 → HoldsWord (record { high = high; low = low }) entry (word a b)
+HoldsWord-of : (high low : Val) (entry : Activation) (a b : ℕ) → Holds high entry a → Holds low entry b → b < 256 → HoldsWord (record { high = high; low = low }) entry (word a b)
 HoldsWord-of high low entry a b h l byte =
     let p : (256 * a + b) / 256 ≡ a = omega arith in
     let q : (256 * a + b) % 256 ≡ b = omega arith in
     record { high = subst (λ k. Holds high entry k) (sym p) h; low = subst (λ k. Holds low entry k) (sym q) l }
 
-byte : (s : Core) (entry x : MState) (r : Register) → IsCore s → MeansCore s entry x → get r x.processor.registers < 256
+byte : (s : Core) (entry : Activation) (x : MState) (r : Register) → IsCore s → MeansCore s entry x → get r x.processor.registers < 256
 byte s entry x r is m =
     let p : get r x.processor.registers ≤ 255 = byte-of (get r s.registers) entry (get r x.processor.registers) (is.registers r) (m.registers r) in
     omega arith
 
 pub HoldsWord-pair :
-    (which : Pair) (s : Core) (entry x : MState)
+    (which : Pair) (s : Core) (entry : Activation) (x : MState)
     → x.processor.sp < 65536 → IsCore s → MeansCore s entry x
     → HoldsWord (pair_halves which s) entry (machine.pair_value x.processor which)
 unfolding pair_halves machine.pair_value
@@ -273,7 +273,7 @@ HoldsWord-pair pair.Hl s entry x sp is m = HoldsWord-of s.registers.h s.register
 HoldsWord-pair pair.Sp s entry x sp is m = HoldsWord-any entry x.processor.sp sp
 
 pub HoldsWord-pair_or_sp :
-    (which : Pair) (halves : Halves) (s : Core) (entry x : MState)
+    (which : Pair) (halves : Halves) (s : Core) (entry : Activation) (x : MState)
     → x.processor.sp < 65536 → HoldsWord halves entry x.processor.sp → IsCore s → MeansCore s entry x
     → HoldsWord (pair_or_sp which halves s) entry (machine.pair_value x.processor which)
 unfolding pair_or_sp machine.pair_value
@@ -283,7 +283,7 @@ HoldsWord-pair_or_sp pair.Hl halves s entry x sp h is m = HoldsWord-pair pair.Hl
 HoldsWord-pair_or_sp pair.Sp halves s entry x sp h is m = h
 
 pub pair-small :
-    (which : Pair) (s : Core) (entry x : MState)
+    (which : Pair) (s : Core) (entry : Activation) (x : MState)
     → x.processor.sp < 65536 → IsCore s → MeansCore s entry x → machine.pair_value x.processor which < 65536
 unfolding machine.pair_value
 pair-small pair.Bc s entry x sp is m = let p = byte s entry x B is m in let q = byte s entry x C is m in omega arith
@@ -293,14 +293,14 @@ pair-small pair.Sp s entry x sp is m = sp
 
 -- two registers get a word
 MeansCore-set_two :
-    (q r : Register) (s : Core) (entry x : MState) (w : Halves) (n : ℕ)
+    (q r : Register) (s : Core) (entry : Activation) (x : MState) (w : Halves) (n : ℕ)
     → HoldsWord w entry n → MeansCore s entry x
     → MeansCore (core_set_register r w.low (core_set_register q w.high s)) entry (register_set r (n % 256) (register_set q (n / 256) x))
 MeansCore-set_two q r s entry x w n h m =
     MeansCore-set_register (core_set_register q w.high s) entry (register_set q (n / 256) x) r w.low (n % 256) h.low (MeansCore-set_register s entry x q w.high (n / 256) h.high m)
 
 pub MeansCore-with_pair :
-    (which : Pair) (s : Core) (entry x : MState) (w : Halves) (n : ℕ)
+    (which : Pair) (s : Core) (entry : Activation) (x : MState) (w : Halves) (n : ℕ)
     → HoldsWord w entry n → MeansCore s entry x
     → MeansCore (with_pair which w s) entry (record x { processor = machine.with_pair x.processor which n })
 unfolding with_pair machine.with_pair core_set_register
@@ -312,7 +312,7 @@ MeansCore-with_pair pair.Sp s entry x w n h m = MeansCore-at s entry x n x.proce
 -- ---- POP and PUSH
 
 MeansCore-set_read :
-    (q r : Register) (s : Core) (entry x : MState) (w : Halves) (l h : ℕ)
+    (q r : Register) (s : Core) (entry : Activation) (x : MState) (w : Halves) (l h : ℕ)
     → Holds w.low entry l → Holds w.high entry h → MeansCore s entry x
     → MeansCore (core_set_register r w.low (core_set_register q w.high s)) entry (register_set r l (register_set q h x))
 MeansCore-set_read q r s entry x w l h low high m =
@@ -354,6 +354,9 @@ own-origin (Some origin.L) e = cc
 own-origin (Some origin.Ie) e = cc
 own-origin (Some origin.ReturnHigh) e = cc
 own-origin (Some origin.ReturnLow) e = cc
+own-origin (Some (origin.Kept i)) e = cc
+own-origin (Some origin.MarkHigh) e = cc
+own-origin (Some origin.MarkLow) e = cc
 
 flags_of_val-own : (v : Val) → (flags_of_val v).is_own ≡ is_own_origin v.origin
 unfolding flags_of_val
@@ -364,7 +367,7 @@ flags_of_val-own v = choose (is_single v)
     choose false = refl
 
 -- POP AF: the flags of a byte are F's own only where the byte was
-HoldsFlags-popped : (v : Val) (entry : MState) (l : ℕ) → Holds v entry l → HoldsFlags (flags_of_val v) entry (flags_of l)
+HoldsFlags-popped : (v : Val) (entry : Activation) (l : ℕ) → Holds v entry l → HoldsFlags (flags_of_val v) entry (flags_of l)
 HoldsFlags-popped v entry l h =
     let k : FlagsIn (flags_of_val v) (flags_of l) = flags_of_val_sound v (flags_of_val v) l refl (In-from v entry l h) in
     record {
@@ -372,11 +375,11 @@ HoldsFlags-popped v entry l h =
       subtract = k.subtract;
       half_carry = k.half_carry;
       carry = k.carry;
-      own = λ e. ap flags_of (h.origin origin.F (own-origin v.origin (sym (flags_of_val-own v) ∙ e))) ∙ flags-again entry.processor.flags;
+      own = λ e. ap flags_of (h.origin origin.F (own-origin v.origin (sym (flags_of_val-own v) ∙ e))) ∙ flags-again entry.entered.processor.flags;
     }
 
 pub MeansCore-with_stack_pair :
-    (which : StackPair) (s : Core) (entry x : MState) (w : Halves) (l h : ℕ)
+    (which : StackPair) (s : Core) (entry : Activation) (x : MState) (w : Halves) (l h : ℕ)
     → Holds w.low entry l → Holds w.high entry h → MeansCore s entry x
     → MeansCore (with_stack_pair which w s) entry (record x { processor = machine.with_stack_pair x.processor which l h })
 unfolding with_stack_pair machine.with_stack_pair with_pair core_set_register
@@ -387,7 +390,7 @@ MeansCore-with_stack_pair stack.Af s entry x w l h low high m =
     MeansCore-a s entry x w.high (flags_of_val w.low) h (flags_of l) high (HoldsFlags-popped w.low entry l low) m
 
 -- PUSH AF: F's byte is a copy of F where F is its own
-Holds-pushed : (f : Flg) (entry : MState) (g : Flags) → HoldsFlags f entry g → Holds (flags_val f) entry (flags_byte g)
+Holds-pushed : (f : Flg) (entry : Activation) (g : Flags) → HoldsFlags f entry g → Holds (flags_val f) entry (flags_byte g)
 unfolding flags_val
 Holds-pushed f entry g h =
     let k : In (flags_val f) (flags_byte g) = flags_val_sound f (flags_val f) g refl (FlagsIn-from f entry g h) in
@@ -407,7 +410,7 @@ flags-small g =
     omega arith
 
 pub HoldsWord-stack_pair :
-    (which : StackPair) (s : Core) (entry x : MState)
+    (which : StackPair) (s : Core) (entry : Activation) (x : MState)
     → IsCore s → MeansCore s entry x
     → HoldsWord (stack_pair_halves which s) entry (machine.stack_pair_value x.processor which)
 unfolding stack_pair_halves machine.stack_pair_value

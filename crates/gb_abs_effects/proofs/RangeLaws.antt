@@ -21,19 +21,20 @@ use Rattle.gb_ops.specs.Arithmetic as arithmetic
 use Rattle.gb_abs.specs.Below.gb_vals.Flags.{known_flags, greatest_flags, flags_val, flags_of_val}
 use Rattle.gb_abs.proofs.Below.gb_vals_laws.MeaningLaws.{FlagsIn-known, IsFlg-from}
 use Rattle.gb_abs.proofs.Below.gb_vals_laws.FlagLaws.{flags_val_inhabited, flags_of_val_inhabited}
-use Rattle.gb_abs.proofs.Below.gb_vals_laws.SumLaws.{increment_inhabited, decrement_inhabited}
-use Rattle.gb_abs.proofs.Below.gb_vals_laws.LogicLaws.{complement_inhabited}
-use Rattle.gb_abs.proofs.Below.gb_vals_laws.ShiftLaws.{shift_inhabited, rotate_a_inhabited}
-use Rattle.gb_abs.proofs.Below.gb_vals_laws.BitLaws.{test_bit_inhabited, reset_bit_inhabited, set_bit_inhabited}
+use Rattle.gb_abs.proofs.Below.gb_vals_laws.ShiftLaws.{rotate_a_inhabited}
+use Rattle.gb_abs.proofs.Below.gb_vals_laws.BitLaws.{test_bit_inhabited}
 use Rattle.gb_abs.proofs.Below.gb_vals_laws.DaaLaws.{adjust_inhabited}
 use Rattle.gb_abs.proofs.Below.gb_vals_laws.CarryLaws.{set_carry_inhabited, complement_carry_inhabited}
 use Rattle.gb_abs.specs.Operations.{core_set_register}
 use Rattle.gb_domain.specs.declared.types.Halves.{Halves}
 use Rattle.gb_abs_effects.specs.declared.writes.AbsEffect.{AbsEffect}
-use Rattle.gb_abs_effects.specs.Pairs.{known_word, any_word, is_word_known, least_word, raised, lowered, next_word, previous_word, are_words_known, word_sum, word_sum_flags, sum_flags_any, sum_flags_known, displaced_word, displaced_flags_any, displaced_flags, pair_halves, pair_or_sp, with_pair, with_indirect, stack_pair_halves, with_stack_pair}
+use Rattle.gb_abs_effects.specs.Pairs.{known_word, any_word, is_word_known, least_word, raised, lowered, next_word, previous_word, are_words_known, word_sum, cut_word, next_word_by, previous_word_by, word_sum_by, word_sum_flags, sum_flags_any, sum_flags_known, displaced_word, displaced_flags_any, displaced_flags, pair_halves, pair_or_sp, with_pair, with_indirect, stack_pair_halves, with_stack_pair}
 use Rattle.gb_abs_effects.specs.Transfer.{quiet, pushes, add_hl, only_off, only_on, enabled, operand_val, transfer, untaken}
 use Rattle.gb_abs_effects.specs.Sound.{HasBytes, IsAbsEffect}
 use Rattle.gb_abs.proofs.OperationLaws.{IsCore-set_register}
+use Rattle.gb_abs.proofs.Below.gb_vals_laws.CuttingLaws.{IsVal-cut_to}
+use Rattle.gb_domain.specs.declared.low_bits.LowBits.{LowBits}
+use Rattle.gb_abs_effects.proofs.ByRulesLaws.{complement_by-inhabited, increment_by-inhabited, decrement_by-inhabited, shift_by-inhabited, reset_bit_by-inhabited, set_bit_by-inhabited}
 use Rattle.gb_abs_effects.proofs.CoreLaws.{IsCore-ime, IsCore-a}
 use Rattle.gb_abs_effects.proofs.PairLaws.{moved_up, moved_down, carried, borrowed}
 use Rattle.gb_abs_effects.proofs.ReadLaws.{indirect_span-last, high_span-last, high-last}
@@ -115,6 +116,24 @@ IsFlg-word_sum_flags v w f h = choose (are_words_known v w)
         record { zero = h.zero; subtract = k.subtract; half_carry = k.half_carry; carry = k.carry }
     choose false = record { zero = h.zero; subtract = refl; half_carry = refl; carry = refl }
 
+IsWord-cut : (high low : LowBits) (w : Halves) → IsWord w → IsWord (cut_word high low w)
+IsWord-cut high low w h = record { high = IsVal-cut_to high w.high h.high; low = IsVal-cut_to low w.low h.low }
+
+IsWord-next_by : (whole : Bool) (w : Halves) → IsWord w → IsWord (next_word_by whole w)
+unfolding next_word_by
+IsWord-next_by true w h = IsWord-cut _ _ (next_word w) (IsWord-next w h)
+IsWord-next_by false w h = IsWord-next w h
+
+IsWord-previous_by : (whole : Bool) (w : Halves) → IsWord w → IsWord (previous_word_by whole w)
+unfolding previous_word_by
+IsWord-previous_by true w h = IsWord-cut _ _ (previous_word w) (IsWord-previous w h)
+IsWord-previous_by false w h = IsWord-previous w h
+
+IsWord-sum_by : (whole : Bool) (which : Pair) (v w : Halves) → IsWord (word_sum_by whole which v w)
+unfolding word_sum_by
+IsWord-sum_by true which v w = IsWord-cut _ _ (word_sum v w) (IsWord-sum v w)
+IsWord-sum_by false which v w = IsWord-sum v w
+
 -- ---- the pairs of a core
 
 IsWord-pair : (which : Pair) (s : Core) → IsCore s → IsWord (pair_halves which s)
@@ -135,12 +154,12 @@ IsCore-with_pair pair.De s w h is = IsCore-set_two D E s w h is
 IsCore-with_pair pair.Hl s w h is = IsCore-set_two H L s w h is
 IsCore-with_pair pair.Sp s w h is = is
 
-IsCore-with_indirect : (which : Indirect) (s : Core) → IsCore s → IsCore (with_indirect which s)
+IsCore-with_indirect : (whole : Bool) (which : Indirect) (s : Core) → IsCore s → IsCore (with_indirect whole which s)
 unfolding with_indirect
-IsCore-with_indirect indirect.Bc s is = is
-IsCore-with_indirect indirect.De s is = is
-IsCore-with_indirect indirect.HlIncrement s is = IsCore-with_pair pair.Hl s _ (IsWord-next _ (IsWord-pair pair.Hl s is)) is
-IsCore-with_indirect indirect.HlDecrement s is = IsCore-with_pair pair.Hl s _ (IsWord-previous _ (IsWord-pair pair.Hl s is)) is
+IsCore-with_indirect whole indirect.Bc s is = is
+IsCore-with_indirect whole indirect.De s is = is
+IsCore-with_indirect whole indirect.HlIncrement s is = IsCore-with_pair pair.Hl s _ (IsWord-next_by whole _ (IsWord-pair pair.Hl s is)) is
+IsCore-with_indirect whole indirect.HlDecrement s is = IsCore-with_pair pair.Hl s _ (IsWord-previous_by whole _ (IsWord-pair pair.Hl s is)) is
 
 IsWord-stack_pair : (which : StackPair) (s : Core) → IsCore s → IsWord (stack_pair_halves which s)
 unfolding stack_pair_halves
@@ -179,11 +198,11 @@ IsAbsEffect-pushes s w h is = record { core = is; write = (h.high, h.low); at = 
 IsAbsEffect-loaded : (s : Core) (v : Val) → IsVal v → IsCore s → IsAbsEffect (quiet (core_set_register A v s))
 IsAbsEffect-loaded s v h is = IsAbsEffect-quiet (core_set_register A v s) (IsCore-set_register s A v h is)
 
-IsAbsEffect-add_hl : (which : Pair) (sp : Halves) (s : Core) → IsCore s → IsAbsEffect (add_hl which sp s)
-IsAbsEffect-add_hl which sp s is =
+IsAbsEffect-add_hl : (whole : Bool) (which : Pair) (sp : Halves) (s : Core) → IsCore s → IsAbsEffect (add_hl whole which sp s)
+IsAbsEffect-add_hl whole which sp s is =
     let hl = pair_halves pair.Hl s in
     let w = pair_or_sp which sp s in
-    IsAbsEffect-flags (with_pair pair.Hl (word_sum hl w) s) (word_sum_flags hl w s.flags) (IsFlg-word_sum_flags hl w s.flags is.flags) (IsCore-with_pair pair.Hl s (word_sum hl w) (IsWord-sum hl w) is)
+    IsAbsEffect-flags (with_pair pair.Hl (word_sum_by whole which hl w) s) (word_sum_flags hl w s.flags) (IsFlg-word_sum_flags hl w s.flags is.flags) (IsCore-with_pair pair.Hl s (word_sum_by whole which hl w) (IsWord-sum_by whole which hl w) is)
 
 IsWord-displaced : (w : Halves) (e8 : ℕ) → IsWord (displaced_word w e8)
 unfolding displaced_word arithmetic.displaced
@@ -202,65 +221,65 @@ IsFlg-displaced w e8 = choose (is_word_known w)
     choose false = record { zero = refl; subtract = refl; half_carry = refl; carry = refl }
 
 IsAbsEffect-transfer :
-    (o : Op) (next : ℕ) (sp : Halves) (s : Core) (low high : Val)
-    → HasBytes o → next < 65536 → IsCore s → IsVal low → IsVal high → IsWord sp → IsAbsEffect (transfer o next sp s low high)
+    (whole : Bool) (o : Op) (next : ℕ) (sp : Halves) (s : Core) (low high : Val)
+    → HasBytes o → next < 65536 → IsCore s → IsVal low → IsVal high → IsWord sp → IsAbsEffect (transfer whole o next sp s low high)
 unfolding transfer
-IsAbsEffect-transfer (op.LoadPair to w) next sp s low high bytes small is l h is_sp = IsAbsEffect-quiet _ (IsCore-with_pair to s (known_word w) (IsWord-known w bytes) is)
-IsAbsEffect-transfer (op.StoreA to) next sp s low high bytes small is l h is_sp = record { core = IsCore-with_indirect to s is; write = is.registers A; at = indirect_span-last to s is }
-IsAbsEffect-transfer (op.LoadA from) next sp s low high bytes small is l h is_sp = IsAbsEffect-loaded (with_indirect from s) low l (IsCore-with_indirect from s is)
-IsAbsEffect-transfer (op.IncrementPair which) next sp s low high bytes small is l h is_sp = IsAbsEffect-quiet _ (IsCore-with_pair which s _ (IsWord-next _ (IsWord-pair which s is)) is)
-IsAbsEffect-transfer (op.DecrementPair which) next sp s low high bytes small is l h is_sp = IsAbsEffect-quiet _ (IsCore-with_pair which s _ (IsWord-previous _ (IsWord-pair which s is)) is)
-IsAbsEffect-transfer (op.Increment which) next sp s low high bytes small is l h is_sp =
-    IsAbsEffect-update_operand which s _ (increment_inhabited (operand_val which s low) s.flags _ refl (operand-byte which s low l is) is.flags) is
-IsAbsEffect-transfer (op.Decrement which) next sp s low high bytes small is l h is_sp =
-    IsAbsEffect-update_operand which s _ (decrement_inhabited (operand_val which s low) s.flags _ refl (operand-byte which s low l is) is.flags) is
-IsAbsEffect-transfer (op.LoadImmediate to v) next sp s low high bytes small is l h is_sp = IsAbsEffect-store_operand to s (single v) (single-byte v bytes) is
-IsAbsEffect-transfer (op.RotateA how) next sp s low high bytes small is l h is_sp =
+IsAbsEffect-transfer whole (op.LoadPair to w) next sp s low high bytes small is l h is_sp = IsAbsEffect-quiet _ (IsCore-with_pair to s (known_word w) (IsWord-known w bytes) is)
+IsAbsEffect-transfer whole (op.StoreA to) next sp s low high bytes small is l h is_sp = record { core = IsCore-with_indirect whole to s is; write = is.registers A; at = indirect_span-last to s is }
+IsAbsEffect-transfer whole (op.LoadA from) next sp s low high bytes small is l h is_sp = IsAbsEffect-loaded (with_indirect whole from s) low l (IsCore-with_indirect whole from s is)
+IsAbsEffect-transfer whole (op.IncrementPair which) next sp s low high bytes small is l h is_sp = IsAbsEffect-quiet _ (IsCore-with_pair which s _ (IsWord-next_by whole _ (IsWord-pair which s is)) is)
+IsAbsEffect-transfer whole (op.DecrementPair which) next sp s low high bytes small is l h is_sp = IsAbsEffect-quiet _ (IsCore-with_pair which s _ (IsWord-previous_by whole _ (IsWord-pair which s is)) is)
+IsAbsEffect-transfer whole (op.Increment which) next sp s low high bytes small is l h is_sp =
+    IsAbsEffect-update_operand which s _ (increment_by-inhabited whole (operand_val which s low) s.flags (operand-byte which s low l is) is.flags) is
+IsAbsEffect-transfer whole (op.Decrement which) next sp s low high bytes small is l h is_sp =
+    IsAbsEffect-update_operand which s _ (decrement_by-inhabited whole (operand_val which s low) s.flags (operand-byte which s low l is) is.flags) is
+IsAbsEffect-transfer whole (op.LoadImmediate to v) next sp s low high bytes small is l h is_sp = IsAbsEffect-store_operand to s (single v) (single-byte v bytes) is
+IsAbsEffect-transfer whole (op.RotateA how) next sp s low high bytes small is l h is_sp =
     IsAbsEffect-update_a s _ (rotate_a_inhabited how s.registers.a s.flags _ refl (is.registers A) is.flags) is
-IsAbsEffect-transfer (op.StoreSp w) next sp s low high bytes small is l h is_sp = record { core = is; write = (is_sp.low, is_sp.high); at = bytes }
-IsAbsEffect-transfer (op.AddHl which) next sp s low high bytes small is l h is_sp = IsAbsEffect-add_hl which sp s is
-IsAbsEffect-transfer op.DecimalAdjust next sp s low high bytes small is l h is_sp =
+IsAbsEffect-transfer whole (op.StoreSp w) next sp s low high bytes small is l h is_sp = record { core = is; write = (is_sp.low, is_sp.high); at = bytes }
+IsAbsEffect-transfer whole (op.AddHl which) next sp s low high bytes small is l h is_sp = IsAbsEffect-add_hl whole which sp s is
+IsAbsEffect-transfer whole op.DecimalAdjust next sp s low high bytes small is l h is_sp =
     IsAbsEffect-update_a s _ (adjust_inhabited s.registers.a s.flags _ refl (is.registers A) is.flags) is
-IsAbsEffect-transfer op.Complement next sp s low high bytes small is l h is_sp =
-    IsAbsEffect-update_a s _ (complement_inhabited s.registers.a s.flags _ refl (is.registers A) is.flags) is
-IsAbsEffect-transfer op.SetCarry next sp s low high bytes small is l h is_sp = IsAbsEffect-flags s _ (set_carry_inhabited s.flags _ refl is.flags) is
-IsAbsEffect-transfer op.ComplementCarry next sp s low high bytes small is l h is_sp = IsAbsEffect-flags s _ (complement_carry_inhabited s.flags _ refl is.flags) is
-IsAbsEffect-transfer (op.Load to from) next sp s low high bytes small is l h is_sp = IsAbsEffect-store_operand to s _ (operand-byte from s low l is) is
-IsAbsEffect-transfer (op.Alu how from) next sp s low high bytes small is l h is_sp = IsAbsEffect-apply_alu how from s low l is
-IsAbsEffect-transfer (op.AluImmediate how v) next sp s low high bytes small is l h is_sp = IsAbsEffect-immediate how s v bytes is
-IsAbsEffect-transfer op.ReturnFromInterrupt next sp s low high bytes small is l h is_sp = IsAbsEffect-quiet _ (IsCore-ime s only_on refl is)
-IsAbsEffect-transfer (op.Pop to) next sp s low high bytes small is l h is_sp =
+IsAbsEffect-transfer whole op.Complement next sp s low high bytes small is l h is_sp =
+    IsAbsEffect-update_a s _ (complement_by-inhabited whole s.registers.a s.flags (is.registers A) is.flags) is
+IsAbsEffect-transfer whole op.SetCarry next sp s low high bytes small is l h is_sp = IsAbsEffect-flags s _ (set_carry_inhabited s.flags _ refl is.flags) is
+IsAbsEffect-transfer whole op.ComplementCarry next sp s low high bytes small is l h is_sp = IsAbsEffect-flags s _ (complement_carry_inhabited s.flags _ refl is.flags) is
+IsAbsEffect-transfer whole (op.Load to from) next sp s low high bytes small is l h is_sp = IsAbsEffect-store_operand to s _ (operand-byte from s low l is) is
+IsAbsEffect-transfer whole (op.Alu how from) next sp s low high bytes small is l h is_sp = IsAbsEffect-apply_alu whole how from s low l is
+IsAbsEffect-transfer whole (op.AluImmediate how v) next sp s low high bytes small is l h is_sp = IsAbsEffect-immediate whole how s v bytes is
+IsAbsEffect-transfer whole op.ReturnFromInterrupt next sp s low high bytes small is l h is_sp = IsAbsEffect-quiet _ (IsCore-ime s only_on refl is)
+IsAbsEffect-transfer whole (op.Pop to) next sp s low high bytes small is l h is_sp =
     IsAbsEffect-quiet _ (IsCore-with_stack_pair to s (record { high = high; low = low }) (record { high = h; low = l }) is)
-IsAbsEffect-transfer (op.Push from) next sp s low high bytes small is l h is_sp = IsAbsEffect-pushes s _ (IsWord-stack_pair from s is) is
-IsAbsEffect-transfer (op.CallIf c w) next sp s low high bytes small is l h is_sp = IsAbsEffect-pushes s _ (IsWord-known next small) is
-IsAbsEffect-transfer (op.Call w) next sp s low high bytes small is l h is_sp = IsAbsEffect-pushes s _ (IsWord-known next small) is
-IsAbsEffect-transfer (op.Restart w) next sp s low high bytes small is l h is_sp = IsAbsEffect-pushes s _ (IsWord-known next small) is
-IsAbsEffect-transfer (op.StoreHigh n) next sp s low high bytes small is l h is_sp = record { core = is; write = is.registers A; at = high-last n bytes }
-IsAbsEffect-transfer (op.LoadHigh n) next sp s low high bytes small is l h is_sp = IsAbsEffect-loaded s low l is
-IsAbsEffect-transfer op.StoreHighC next sp s low high bytes small is l h is_sp = record { core = is; write = is.registers A; at = high_span-last s is }
-IsAbsEffect-transfer op.LoadHighC next sp s low high bytes small is l h is_sp = IsAbsEffect-loaded s low l is
-IsAbsEffect-transfer (op.StoreAbsolute w) next sp s low high bytes small is l h is_sp = record { core = is; write = is.registers A; at = bytes }
-IsAbsEffect-transfer (op.LoadAbsolute w) next sp s low high bytes small is l h is_sp = IsAbsEffect-loaded s low l is
-IsAbsEffect-transfer (op.AddSp e8) next sp s low high bytes small is l h is_sp = IsAbsEffect-flags s (displaced_flags sp e8) (IsFlg-displaced sp e8) is
-IsAbsEffect-transfer (op.LoadHlSp e8) next sp s low high bytes small is l h is_sp =
+IsAbsEffect-transfer whole (op.Push from) next sp s low high bytes small is l h is_sp = IsAbsEffect-pushes s _ (IsWord-stack_pair from s is) is
+IsAbsEffect-transfer whole (op.CallIf c w) next sp s low high bytes small is l h is_sp = IsAbsEffect-pushes s _ (IsWord-known next small) is
+IsAbsEffect-transfer whole (op.Call w) next sp s low high bytes small is l h is_sp = IsAbsEffect-pushes s _ (IsWord-known next small) is
+IsAbsEffect-transfer whole (op.Restart w) next sp s low high bytes small is l h is_sp = IsAbsEffect-pushes s _ (IsWord-known next small) is
+IsAbsEffect-transfer whole (op.StoreHigh n) next sp s low high bytes small is l h is_sp = record { core = is; write = is.registers A; at = high-last n bytes }
+IsAbsEffect-transfer whole (op.LoadHigh n) next sp s low high bytes small is l h is_sp = IsAbsEffect-loaded s low l is
+IsAbsEffect-transfer whole op.StoreHighC next sp s low high bytes small is l h is_sp = record { core = is; write = is.registers A; at = high_span-last s is }
+IsAbsEffect-transfer whole op.LoadHighC next sp s low high bytes small is l h is_sp = IsAbsEffect-loaded s low l is
+IsAbsEffect-transfer whole (op.StoreAbsolute w) next sp s low high bytes small is l h is_sp = record { core = is; write = is.registers A; at = bytes }
+IsAbsEffect-transfer whole (op.LoadAbsolute w) next sp s low high bytes small is l h is_sp = IsAbsEffect-loaded s low l is
+IsAbsEffect-transfer whole (op.AddSp e8) next sp s low high bytes small is l h is_sp = IsAbsEffect-flags s (displaced_flags sp e8) (IsFlg-displaced sp e8) is
+IsAbsEffect-transfer whole (op.LoadHlSp e8) next sp s low high bytes small is l h is_sp =
     IsAbsEffect-flags (with_pair pair.Hl (displaced_word sp e8) s) (displaced_flags sp e8) (IsFlg-displaced sp e8) (IsCore-with_pair pair.Hl s (displaced_word sp e8) (IsWord-displaced sp e8) is)
-IsAbsEffect-transfer op.DisableInterrupts next sp s low high bytes small is l h is_sp = IsAbsEffect-quiet _ (IsCore-ime s only_off refl is)
-IsAbsEffect-transfer op.EnableInterrupts next sp s low high bytes small is l h is_sp = IsAbsEffect-quiet _ (IsCore-ime s (enabled s.ime) (enabled-any s.ime is.ime) is)
-IsAbsEffect-transfer (op.Shift how which) next sp s low high bytes small is l h is_sp =
-    IsAbsEffect-update_operand which s _ (shift_inhabited how (operand_val which s low) s.flags _ refl (operand-byte which s low l is) is.flags) is
-IsAbsEffect-transfer (op.Bit n which) next sp s low high bytes small is l h is_sp =
+IsAbsEffect-transfer whole op.DisableInterrupts next sp s low high bytes small is l h is_sp = IsAbsEffect-quiet _ (IsCore-ime s only_off refl is)
+IsAbsEffect-transfer whole op.EnableInterrupts next sp s low high bytes small is l h is_sp = IsAbsEffect-quiet _ (IsCore-ime s (enabled s.ime) (enabled-any s.ime is.ime) is)
+IsAbsEffect-transfer whole (op.Shift how which) next sp s low high bytes small is l h is_sp =
+    IsAbsEffect-update_operand which s _ (shift_by-inhabited whole how (operand_val which s low) s.flags (operand-byte which s low l is) is.flags) is
+IsAbsEffect-transfer whole (op.Bit n which) next sp s low high bytes small is l h is_sp =
     IsAbsEffect-flags s _ (test_bit_inhabited n (operand_val which s low) s.flags _ refl (operand-byte which s low l is) is.flags) is
-IsAbsEffect-transfer (op.Reset n which) next sp s low high bytes small is l h is_sp =
-    IsAbsEffect-store_operand which s _ (reset_bit_inhabited n (operand_val which s low) _ refl (operand-byte which s low l is)) is
-IsAbsEffect-transfer (op.Set n which) next sp s low high bytes small is l h is_sp =
-    IsAbsEffect-store_operand which s _ (set_bit_inhabited n (operand_val which s low) _ refl (operand-byte which s low l is)) is
-IsAbsEffect-transfer o next sp s low high bytes small is l h is_sp = IsAbsEffect-quiet s is
+IsAbsEffect-transfer whole (op.Reset n which) next sp s low high bytes small is l h is_sp =
+    IsAbsEffect-store_operand which s _ (reset_bit_by-inhabited whole n (operand_val which s low) (operand-byte which s low l is)) is
+IsAbsEffect-transfer whole (op.Set n which) next sp s low high bytes small is l h is_sp =
+    IsAbsEffect-store_operand which s _ (set_bit_by-inhabited whole n (operand_val which s low) (operand-byte which s low l is)) is
+IsAbsEffect-transfer whole o next sp s low high bytes small is l h is_sp = IsAbsEffect-quiet s is
 
 pub transfer_inhabited :
-    (o : Op) (next : ℕ) (sp : Halves) (s : Core) (low high : Val) (t : AbsEffect)
-    → t ≡ transfer o next sp s low high → HasBytes o → next < 65536 → IsCore s → IsVal low → IsVal high → IsWord sp → IsAbsEffect t
-transfer_inhabited o next sp s low high t e bytes small is l h is_sp =
-    subst (λ k. IsAbsEffect k) (sym e) (IsAbsEffect-transfer o next sp s low high bytes small is l h is_sp)
+    (whole : Bool) (o : Op) (next : ℕ) (sp : Halves) (s : Core) (low high : Val) (t : AbsEffect)
+    → t ≡ transfer whole o next sp s low high → HasBytes o → next < 65536 → IsCore s → IsVal low → IsVal high → IsWord sp → IsAbsEffect t
+transfer_inhabited whole o next sp s low high t e bytes small is l h is_sp =
+    subst (λ k. IsAbsEffect k) (sym e) (IsAbsEffect-transfer whole o next sp s low high bytes small is l h is_sp)
 
 pub untaken_inhabited : (s : Core) (t : AbsEffect) → t ≡ untaken s → IsCore s → IsAbsEffect t
 unfolding untaken

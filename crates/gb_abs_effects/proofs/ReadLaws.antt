@@ -20,7 +20,7 @@ use Rattle.gb_domain.specs.declared.types.Core.{Core}
 use Rattle.gb_domain.specs.Rules.{IsVal, IsCore}
 use Rattle.gb_abs.specs.Below.gb_vals.Vals.{single}
 use Rattle.gb_abs.specs.Span.{IsIn, one, pair_span}
-use Rattle.gb_abs.specs.Meaning.{MeansCore}
+use Rattle.gb_abs.specs.Meaning.{Activation, MeansCore}
 use Rattle.gb_abs.proofs.OperationLaws.{Holds-single}
 use Rattle.gb_abs_effects.specs.declared.reads.AbsRead.{AbsRead}
 use Rattle.gb_abs_effects.specs.Accesses.{hl_span, indirect_span, high_span, operand_read, read_of}
@@ -31,22 +31,22 @@ use Rattle.gb_abs_effects.proofs.SideLaws.{is_taken-with, is_taken-without}
 pub IsIn-one : (a : ℕ) → IsIn (one a) a
 IsIn-one a = record { first = omega arith; last = omega arith }
 
-pub IsIn-hl : (s : Core) (entry x : MState) → MeansCore s entry x → IsIn (hl_span s) (Effects.hl x.processor)
+pub IsIn-hl : (s : Core) (entry : Activation) (x : MState) → MeansCore s entry x → IsIn (hl_span s) (Effects.hl x.processor)
 unfolding hl_span pair_value
 IsIn-hl s entry x m = IsIn-pair s.registers.h s.registers.l entry x.processor.registers.h x.processor.registers.l (m.registers H) (m.registers L)
 
-pub IsIn-indirect : (which : Indirect) (s : Core) (entry x : MState) → MeansCore s entry x → IsIn (indirect_span which s) (Effects.indirect_address x.processor which)
+pub IsIn-indirect : (which : Indirect) (s : Core) (entry : Activation) (x : MState) → MeansCore s entry x → IsIn (indirect_span which s) (Effects.indirect_address x.processor which)
 unfolding indirect_span Effects.indirect_address pair_value
 IsIn-indirect indirect.Bc s entry x m = IsIn-pair s.registers.b s.registers.c entry x.processor.registers.b x.processor.registers.c (m.registers B) (m.registers C)
 IsIn-indirect indirect.De s entry x m = IsIn-pair s.registers.d s.registers.e entry x.processor.registers.d x.processor.registers.e (m.registers D) (m.registers E)
 IsIn-indirect indirect.HlIncrement s entry x m = IsIn-hl s entry x m
 IsIn-indirect indirect.HlDecrement s entry x m = IsIn-hl s entry x m
 
-pub IsIn-high : (s : Core) (entry x : MState) → MeansCore s entry x → IsIn (high_span s) (0xFF00 + x.processor.registers.c)
+pub IsIn-high : (s : Core) (entry : Activation) (x : MState) → MeansCore s entry x → IsIn (high_span s) (0xFF00 + x.processor.registers.c)
 unfolding high_span
 IsIn-high s entry x m = IsIn-pair (single 0xFF) s.registers.c entry 0xFF x.processor.registers.c (Holds-single 0xFF entry) (m.registers C)
 
-HoldsRead-operand : (which : Operand) (s : Core) (entry x : MState) (sp : ℕ) → MeansCore s entry x → HoldsRead (operand_read which s) sp (Effects.operand_read x.processor which)
+HoldsRead-operand : (which : Operand) (s : Core) (entry : Activation) (x : MState) (sp : ℕ) → MeansCore s entry x → HoldsRead (operand_read which s) sp (Effects.operand_read x.processor which)
 unfolding operand_read Effects.operand_read
 HoldsRead-operand (operand.Register r) s entry x sp m = tt
 HoldsRead-operand operand.AtHl s entry x sp m = IsIn-hl s entry x m
@@ -57,7 +57,7 @@ HoldsRead-returns true sp what e h = h
 HoldsRead-returns false sp what e h = cc
 
 HoldsRead-read_of :
-    (o : Op) (s : Core) (entry x : MState) (l h : ℕ)
+    (o : Op) (s : Core) (entry : Activation) (x : MState) (l h : ℕ)
     → MeansCore s entry x → (Effects.effect_of o x.processor l h).is_taken ≡ true
     → HoldsRead (read_of o s) x.processor.sp (Effects.read_of o x.processor)
 unfolding read_of Effects.read_of

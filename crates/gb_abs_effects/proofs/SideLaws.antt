@@ -18,7 +18,7 @@ use Rattle.gb_domain.specs.Rules.{IsCore}
 use Rattle.gb_domain.specs.declared.types.Flg.{Flg}
 use Rattle.gb_abs.specs.Below.gb_vals.Tests.{side, IsOnSide, IsKept, IsSide}
 use Rattle.gb_abs.proofs.Below.gb_vals_laws.BranchLaws.{side_sound, side_inhabited, side_kept}
-use Rattle.gb_abs.specs.Meaning.{HoldsFlags, MeansCore}
+use Rattle.gb_abs.specs.Meaning.{Activation, HoldsFlags, MeansCore}
 use Rattle.gb_abs_effects.specs.declared.sides.Sides.{Sides}
 use Rattle.gb_abs_effects.specs.Sides.{opposite, condition_of, with_flags_if, side_of, sides_by, sides_of}
 use Rattle.gb_abs_effects.specs.Sound.{side_by, IsMeant, AreSoundSides, AreSides}
@@ -64,7 +64,7 @@ is_taken-with o c p l h e = cc
 -- ---- a side
 
 IsMeant-with_flags_if :
-    (s : Core) (entry x : MState) (o : Option Flg)
+    (s : Core) (entry : Activation) (x : MState) (o : Option Flg)
     → IsOnSide o x.processor.flags → IsKept s.flags o → MeansCore s entry x → IsMeant (with_flags_if s o) entry x
 IsMeant-with_flags_if s entry x None on kept m = on
 IsMeant-with_flags_if s entry x (Some f) on kept m =
@@ -72,7 +72,7 @@ IsMeant-with_flags_if s entry x (Some f) on kept m =
     MeansCore-changed s entry x s.registers f s.ime x.processor m.registers flags m.ime m.locked m.stopped m
 
 IsMeant-side_of :
-    (c : Condition) (s : Core) (entry x : MState)
+    (c : Condition) (s : Core) (entry : Activation) (x : MState)
     → is_met c x.processor.flags ≡ true → MeansCore s entry x → IsMeant (side_of c s) entry x
 unfolding side_of
 IsMeant-side_of c s entry x met m =
@@ -95,13 +95,13 @@ met-opposite condition.NotCarry g h = set_from g.carry h
 met-opposite condition.Carry g h = clear_not g.carry h
 
 IsMeant-conditional :
-    (c : Condition) (s : Core) (entry x : MState) (b : Bool)
+    (c : Condition) (s : Core) (entry : Activation) (x : MState) (b : Bool)
     → is_met c x.processor.flags ≡ b → MeansCore s entry x → IsMeant (side_by b (sides_by (Some c) s)) entry x
 IsMeant-conditional c s entry x true met m = IsMeant-side_of c s entry x met m
 IsMeant-conditional c s entry x false met m = IsMeant-side_of (opposite c) s entry x (met-opposite c x.processor.flags met) m
 
 IsMeant-sides_of :
-    (o : Op) (s : Core) (entry x : MState) (l h : ℕ)
+    (o : Op) (s : Core) (entry : Activation) (x : MState) (l h : ℕ)
     → MeansCore s entry x → IsMeant (side_by (effect_of o x.processor l h).is_taken (sides_of o s)) entry x
 unfolding sides_of
 IsMeant-sides_of o s entry x l h m = choose (condition_of o) refl

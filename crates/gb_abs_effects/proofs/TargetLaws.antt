@@ -25,7 +25,7 @@ use Rattle.gb_domain.specs.declared.types.Core.{Core}
 use Rattle.gb_domain.specs.Rules.{IsVal, IsCore}
 use Rattle.gb_abs.specs.Below.gb_vals.Vals.{is_single}
 use Rattle.gb_abs.proofs.Below.gb_vals_laws.MeaningLaws.{single-is}
-use Rattle.gb_abs.specs.Meaning.{MeansCore}
+use Rattle.gb_abs.specs.Meaning.{Activation, MeansCore}
 use Rattle.gb_domain.specs.declared.types.Halves.{Halves}
 use Rattle.gb_abs_effects.specs.declared.targets.Target.{Target}
 use Rattle.gb_abs_effects.specs.declared.targets.Target.TheVariants as target
@@ -91,7 +91,7 @@ only_if-pc true e p to taken h = h
 only_if-pc false e p to taken h = cc
 
 -- HL, where it is known
-HoldsTarget-hl : (s : Core) (entry x : MState) → MeansCore s entry x → HoldsTarget (word_target (pair_halves pair.Hl s)) (Effects.hl x.processor)
+HoldsTarget-hl : (s : Core) (entry : Activation) (x : MState) → MeansCore s entry x → HoldsTarget (word_target (pair_halves pair.Hl s)) (Effects.hl x.processor)
 unfolding pair_halves machine.pair_value
 HoldsTarget-hl s entry x m = choose (is_word_known (pair_halves pair.Hl s)) refl
   where
@@ -109,7 +109,7 @@ HoldsTarget-hl s entry x m = choose (is_word_known (pair_halves pair.Hl s)) refl
     choose false e = tt
 
 HoldsTarget-target_of :
-    (o : Op) (next : ℕ) (s : Core) (entry x : MState) (l h : ℕ)
+    (o : Op) (next : ℕ) (s : Core) (entry : Activation) (x : MState) (l h : ℕ)
     → MeansCore s entry x → x.processor.pc ≡ next → (Effects.effect_of o x.processor l h).is_taken ≡ true
     → HoldsTarget (target_of o next s) (Effects.effect_of o x.processor l h).processor.pc
 unfolding target_of Effects.effect_of Effects.update_operand Effects.update_a Effects.jump Effects.push Effects.call Effects.return_to
@@ -209,7 +209,7 @@ displaced-small from e8 = omega arith
 wrapped : (n : ℕ) → n % 65536 < 65536
 wrapped n = omega arith
 
-hl-small : (s : Core) (entry x : MState) → IsCore s → MeansCore s entry x → Effects.hl x.processor < 65536
+hl-small : (s : Core) (entry : Activation) (x : MState) → IsCore s → MeansCore s entry x → Effects.hl x.processor < 65536
 unfolding machine.pair_value
 hl-small s entry x is m =
     let high : x.processor.registers.h ≤ 255 = byte-of s.registers.h entry _ (is.registers H) (m.registers H) in
@@ -217,7 +217,7 @@ hl-small s entry x is m =
     omega arith
 
 pub sp-small :
-    (o : Op) (s : Core) (entry x : MState) (l h : ℕ)
+    (o : Op) (s : Core) (entry : Activation) (x : MState) (l h : ℕ)
     → HasBytes o → IsCore s → MeansCore s entry x → x.processor.sp < 65536 → (Effects.effect_of o x.processor l h).processor.sp < 65536
 unfolding Effects.effect_of Effects.push Effects.call Effects.return_to
 sp-small (op.LoadPair to w) s entry x l h bytes is m small = with_pair-small x.processor to w small bytes

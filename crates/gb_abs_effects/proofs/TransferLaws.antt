@@ -19,23 +19,24 @@ use Rattle.gb_domain.specs.declared.types.Core.{Core}
 use Rattle.gb_domain.specs.declared.types.Halves.{Halves}
 use Rattle.gb_domain.specs.Rules.{IsVal, IsCore}
 use Rattle.gb_abs.specs.Below.gb_vals.Vals.{single}
-use Rattle.gb_abs.specs.Below.gb_vals.Logic.{complement, complement_result}
+use Rattle.gb_abs.specs.Below.gb_vals.Logic.{complement_result}
 use Rattle.gb_abs.specs.Below.gb_vals.Shifts.{rotation_of_a, rotation_result}
 use Rattle.gb_abs.specs.Below.gb_vals.Bits.{test_bit}
 use Rattle.gb_abs.specs.Below.gb_vals.Daa.{adjustment_of}
 use Rattle.gb_abs.specs.Below.gb_vals.Carry.{set_carry, complement_carry, set_carry_result, complement_carry_result}
-use Rattle.gb_abs.proofs.Below.gb_vals_laws.LogicLaws.{complement_sound}
 use Rattle.gb_abs.proofs.Below.gb_vals_laws.ShiftLaws.{rotate_a_sound}
 use Rattle.gb_abs.proofs.Below.gb_vals_laws.BitLaws.{test_bit_sound}
 use Rattle.gb_abs.proofs.Below.gb_vals_laws.DaaLaws.{adjust_sound}
 use Rattle.gb_abs.proofs.Below.gb_vals_laws.CarryLaws.{set_carry_sound, complement_carry_sound}
-use Rattle.gb_abs.proofs.Below.gb_vals_laws.OriginLaws.{complement_computed, rotate_a_computed, adjust_computed, test_bit_written}
-use Rattle.gb_abs.specs.Meaning.{MeansCore}
+use Rattle.gb_abs.proofs.Below.gb_vals_laws.OriginLaws.{rotate_a_computed, adjust_computed, test_bit_written}
+use Rattle.gb_abs.specs.Meaning.{Activation, MeansCore}
 use Rattle.gb_abs.proofs.OperationLaws.{MeansCore-set_register, Holds-single}
 use Rattle.gb_abs_effects.specs.declared.writes.AbsEffect.{AbsEffect}
+use Rattle.gb_abs_effects.specs.ByRules.{complement_by}
 use Rattle.gb_abs_effects.specs.Pairs.{known_word, with_indirect, stack_pair_halves, with_stack_pair}
 use Rattle.gb_abs_effects.specs.Transfer.{quiet, pushes, with_ime, only_off, only_on, enabled, operand_val, transfer, untaken}
 use Rattle.gb_abs_effects.specs.Sound.{HasBytes, Follows, Begins, IsSoundTransfer, IsSoundUntaken}
+use Rattle.gb_abs_effects.proofs.ByRulesLaws.{complement_by-sound, complement_by-computed}
 use Rattle.gb_abs_effects.proofs.CoreLaws.{MeansCore-at, MeansCore-ime}
 use Rattle.gb_abs_effects.proofs.PairLaws.{HoldsWord, HoldsWord-known, MeansCore-with_pair, MeansCore-with_stack_pair, HoldsWord-stack_pair}
 use Rattle.gb_abs_effects.proofs.OperandLaws.{Follows-store_operand, Follows-change_a, Follows-change_flags, Follows-test_operand}
@@ -47,18 +48,18 @@ use Rattle.gb_abs_effects.proofs.InstructionLaws.{Follows-moved, a-byte, Follows
 
 -- the address of the next instruction is pushed
 Follows-call :
-    (s : Core) (entry x : MState) (next to : ℕ)
+    (s : Core) (entry : Activation) (x : MState) (next to : ℕ)
     → x.processor.pc ≡ next → MeansCore s entry x → Follows (pushes s (known_word next)) entry x (Effects.call x.processor to)
 unfolding Effects.call
 Follows-call s entry x next to pc m =
     Follows-pushed s entry x (known_word next) x.processor.pc to (subst (λ n. HoldsWord (known_word next) entry n) (sym pc) (HoldsWord-known entry next)) m
 
 Follows-return :
-    (s : Core) (entry x : MState) (l h : ℕ) → MeansCore s entry x → Follows (quiet s) entry x (Effects.return_to x.processor l h)
+    (s : Core) (entry : Activation) (x : MState) (l h : ℕ) → MeansCore s entry x → Follows (quiet s) entry x (Effects.return_to x.processor l h)
 unfolding Effects.return_to
 Follows-return s entry x l h m = Follows-moved s entry x ((x.processor.sp + 2) % 65536) (machine.word h l) m
 
-Follows-jump : (s : Core) (entry x : MState) (to : ℕ) → MeansCore s entry x → Follows (quiet s) entry x (Effects.jump x.processor to)
+Follows-jump : (s : Core) (entry : Activation) (x : MState) (to : ℕ) → MeansCore s entry x → Follows (quiet s) entry x (Effects.jump x.processor to)
 unfolding Effects.jump
 Follows-jump s entry x to m = Follows-moved s entry x x.processor.sp to m
 
@@ -71,93 +72,93 @@ unfolding complement_carry
 complement_carry-written f = refl
 
 Follows-transfer :
-    (o : Op) (next : ℕ) (sp : Halves) (s : Core) (low high : Val) (entry x : MState) (l h : ℕ)
+    (whole : Bool) (o : Op) (next : ℕ) (sp : Halves) (s : Core) (low high : Val) (entry : Activation) (x : MState) (l h : ℕ)
     → HasBytes o → IsCore s → IsVal low → (o ≡ op.Stop → ⊥) → Begins o next sp s low high entry x l h
-    → Follows (transfer o next sp s low high) entry x (Effects.effect_of o x.processor l h)
+    → Follows (transfer whole o next sp s low high) entry x (Effects.effect_of o x.processor l h)
 unfolding transfer Effects.effect_of Effects.push Effects.update_a
-Follows-transfer op.Nop next sp s low high entry x l h bytes is is_low going b = record { core = b.core; write = tt }
-Follows-transfer op.Stop next sp s low high entry x l h bytes is is_low going b = absurd (going refl)
-Follows-transfer op.Halt next sp s low high entry x l h bytes is is_low going b = record { core = b.core; write = tt }
-Follows-transfer (op.LoadPair to w) next sp s low high entry x l h bytes is is_low going b =
+Follows-transfer whole op.Nop next sp s low high entry x l h bytes is is_low going b = record { core = b.core; write = tt }
+Follows-transfer whole op.Stop next sp s low high entry x l h bytes is is_low going b = absurd (going refl)
+Follows-transfer whole op.Halt next sp s low high entry x l h bytes is is_low going b = record { core = b.core; write = tt }
+Follows-transfer whole (op.LoadPair to w) next sp s low high entry x l h bytes is is_low going b =
     record { core = MeansCore-with_pair to s entry x (known_word w) w (HoldsWord-known entry w) b.core; write = tt }
-Follows-transfer (op.StoreA to) next sp s low high entry x l h bytes is is_low going b =
-    record { core = MeansCore-with_indirect to s entry x b.sp is b.core; write = (IsIn-indirect to s entry x b.core, b.core.registers A, a-byte s entry x is b.core) }
-Follows-transfer (op.LoadA from) next sp s low high entry x l h bytes is is_low going b =
-    record { core = MeansCore-set_register (with_indirect from s) entry (record x { processor = Effects.with_indirect x.processor from }) A low l b.low_read (MeansCore-with_indirect from s entry x b.sp is b.core); write = tt }
-Follows-transfer (op.IncrementPair which) next sp s low high entry x l h bytes is is_low going b = Follows-next which s entry x b.sp is b.core
-Follows-transfer (op.DecrementPair which) next sp s low high entry x l h bytes is is_low going b = Follows-previous which s entry x b.sp is b.core
-Follows-transfer (op.Increment which) next sp s low high entry x l h bytes is is_low going b = Follows-increment which s entry x low l is_low b.low_read is b.core
-Follows-transfer (op.Decrement which) next sp s low high entry x l h bytes is is_low going b = Follows-decrement which s entry x low l is_low b.low_read is b.core
-Follows-transfer (op.LoadImmediate to v) next sp s low high entry x l h bytes is is_low going b =
+Follows-transfer whole (op.StoreA to) next sp s low high entry x l h bytes is is_low going b =
+    record { core = MeansCore-with_indirect whole to s entry x b.sp is b.core; write = (IsIn-indirect to s entry x b.core, b.core.registers A, a-byte s entry x is b.core) }
+Follows-transfer whole (op.LoadA from) next sp s low high entry x l h bytes is is_low going b =
+    record { core = MeansCore-set_register (with_indirect whole from s) entry (record x { processor = Effects.with_indirect x.processor from }) A low l b.low_read (MeansCore-with_indirect whole from s entry x b.sp is b.core); write = tt }
+Follows-transfer whole (op.IncrementPair which) next sp s low high entry x l h bytes is is_low going b = Follows-next whole which s entry x b.sp is b.core
+Follows-transfer whole (op.DecrementPair which) next sp s low high entry x l h bytes is is_low going b = Follows-previous whole which s entry x b.sp is b.core
+Follows-transfer whole (op.Increment which) next sp s low high entry x l h bytes is is_low going b = Follows-increment whole which s entry x low l is_low b.low_read is b.core
+Follows-transfer whole (op.Decrement which) next sp s low high entry x l h bytes is is_low going b = Follows-decrement whole which s entry x low l is_low b.low_read is b.core
+Follows-transfer whole (op.LoadImmediate to v) next sp s low high entry x l h bytes is is_low going b =
     Follows-store_operand to s entry x (single v) v (Holds-single v entry) (omega arith) b.core
-Follows-transfer (op.RotateA how) next sp s low high entry x l h bytes is is_low going b =
+Follows-transfer whole (op.RotateA how) next sp s low high entry x l h bytes is is_low going b =
     Follows-change_a (rotation_result how) s entry x (rotation_of_a how s.registers.a s.flags) (rotate_a_sound how s.registers.a s.flags _ refl (is.registers A).hi) (rotate_a_computed how s.registers.a s.flags _ refl) b.core
-Follows-transfer (op.StoreSp w) next sp s low high entry x l h bytes is is_low going b =
+Follows-transfer whole (op.StoreSp w) next sp s low high entry x l h bytes is is_low going b =
     record { core = b.core; write = (refl, b.sp_low, b.sp_high) }
-Follows-transfer (op.AddHl which) next sp s low high entry x l h bytes is is_low going b = Follows-add_hl which sp s entry x b.sp (record { high = b.sp_high; low = b.sp_low }) is b.core
-Follows-transfer (op.JumpRelative e8) next sp s low high entry x l h bytes is is_low going b = Follows-jump s entry x (arithmetic.displaced x.processor.pc e8) b.core
-Follows-transfer (op.JumpRelativeIf c e8) next sp s low high entry x l h bytes is is_low going b =
+Follows-transfer whole (op.AddHl which) next sp s low high entry x l h bytes is is_low going b = Follows-add_hl whole which sp s entry x b.sp (record { high = b.sp_high; low = b.sp_low }) is b.core
+Follows-transfer whole (op.JumpRelative e8) next sp s low high entry x l h bytes is is_low going b = Follows-jump s entry x (arithmetic.displaced x.processor.pc e8) b.core
+Follows-transfer whole (op.JumpRelativeIf c e8) next sp s low high entry x l h bytes is is_low going b =
     Follows-only_if (is_met c x.processor.flags) (quiet s) entry x _ b.taken (Follows-jump s entry x (arithmetic.displaced x.processor.pc e8) b.core)
-Follows-transfer op.DecimalAdjust next sp s low high entry x l h bytes is is_low going b =
+Follows-transfer whole op.DecimalAdjust next sp s low high entry x l h bytes is is_low going b =
     Follows-change_a arithmetic.adjusted s entry x (adjustment_of s.registers.a s.flags) (adjust_sound s.registers.a s.flags _ refl) (adjust_computed s.registers.a s.flags _ refl) b.core
-Follows-transfer op.Complement next sp s low high entry x l h bytes is is_low going b =
-    Follows-change_a complement_result s entry x (complement s.registers.a s.flags) (complement_sound s.registers.a s.flags _ refl) (complement_computed s.registers.a s.flags _ refl) b.core
-Follows-transfer op.SetCarry next sp s low high entry x l h bytes is is_low going b =
+Follows-transfer whole op.Complement next sp s low high entry x l h bytes is is_low going b =
+    Follows-change_a complement_result s entry x (complement_by whole s.registers.a s.flags) (complement_by-sound whole s.registers.a s.flags (is.registers A).hi) (complement_by-computed whole s.registers.a s.flags) b.core
+Follows-transfer whole op.SetCarry next sp s low high entry x l h bytes is is_low going b =
     Follows-change_flags set_carry_result s entry x (set_carry s.flags) (set_carry_sound s.flags _ refl) (set_carry-written s.flags) b.core
-Follows-transfer op.ComplementCarry next sp s low high entry x l h bytes is is_low going b =
+Follows-transfer whole op.ComplementCarry next sp s low high entry x l h bytes is is_low going b =
     Follows-change_flags complement_carry_result s entry x (complement_carry s.flags) (complement_carry_sound s.flags _ refl) (complement_carry-written s.flags) b.core
-Follows-transfer (op.Load to from) next sp s low high entry x l h bytes is is_low going b = Follows-load to from s entry x low l is_low b.low_read is b.core
-Follows-transfer (op.Alu how from) next sp s low high entry x l h bytes is is_low going b = Follows-apply_alu how from s entry x low l is_low b.low_read is b.core
-Follows-transfer (op.AluImmediate how v) next sp s low high entry x l h bytes is is_low going b = Follows-immediate how s entry x v bytes is b.core
-Follows-transfer (op.ReturnIf c) next sp s low high entry x l h bytes is is_low going b =
+Follows-transfer whole (op.Load to from) next sp s low high entry x l h bytes is is_low going b = Follows-load to from s entry x low l is_low b.low_read is b.core
+Follows-transfer whole (op.Alu how from) next sp s low high entry x l h bytes is is_low going b = Follows-apply_alu whole how from s entry x low l is_low b.low_read is b.core
+Follows-transfer whole (op.AluImmediate how v) next sp s low high entry x l h bytes is is_low going b = Follows-immediate whole how s entry x v bytes is b.core
+Follows-transfer whole (op.ReturnIf c) next sp s low high entry x l h bytes is is_low going b =
     Follows-only_if (is_met c x.processor.flags) (quiet s) entry x _ b.taken (Follows-return s entry x l h b.core)
-Follows-transfer op.Return next sp s low high entry x l h bytes is is_low going b = Follows-return s entry x l h b.core
-Follows-transfer op.ReturnFromInterrupt next sp s low high entry x l h bytes is is_low going b =
+Follows-transfer whole op.Return next sp s low high entry x l h bytes is is_low going b = Follows-return s entry x l h b.core
+Follows-transfer whole op.ReturnFromInterrupt next sp s low high entry x l h bytes is is_low going b =
     let m = MeansCore-ime s entry x only_on ime.On refl b.core in
     let f = Follows-return (with_ime only_on s) entry (record x { processor = record x.processor { ime = ime.On } }) l h m in
     record { core = f.core; write = f.write }
-Follows-transfer (op.Pop to) next sp s low high entry x l h bytes is is_low going b =
+Follows-transfer whole (op.Pop to) next sp s low high entry x l h bytes is is_low going b =
     let m = MeansCore-with_stack_pair to s entry x (record { high = high; low = low }) l h b.low_read b.high_read b.core in
     record { core = MeansCore-at (with_stack_pair to (record { high = high; low = low }) s) entry (record x { processor = machine.with_stack_pair x.processor to l h }) ((x.processor.sp + 2) % 65536) _ m; write = tt }
-Follows-transfer (op.Push from) next sp s low high entry x l h bytes is is_low going b =
+Follows-transfer whole (op.Push from) next sp s low high entry x l h bytes is is_low going b =
     Follows-pushed s entry x (stack_pair_halves from s) (machine.stack_pair_value x.processor from) x.processor.pc (HoldsWord-stack_pair from s entry x is b.core) b.core
-Follows-transfer (op.JumpIf c w) next sp s low high entry x l h bytes is is_low going b =
+Follows-transfer whole (op.JumpIf c w) next sp s low high entry x l h bytes is is_low going b =
     Follows-only_if (is_met c x.processor.flags) (quiet s) entry x _ b.taken (Follows-jump s entry x w b.core)
-Follows-transfer (op.Jump w) next sp s low high entry x l h bytes is is_low going b = Follows-jump s entry x w b.core
-Follows-transfer (op.CallIf c w) next sp s low high entry x l h bytes is is_low going b =
+Follows-transfer whole (op.Jump w) next sp s low high entry x l h bytes is is_low going b = Follows-jump s entry x w b.core
+Follows-transfer whole (op.CallIf c w) next sp s low high entry x l h bytes is is_low going b =
     Follows-only_if (is_met c x.processor.flags) (pushes s (known_word next)) entry x _ b.taken (Follows-call s entry x next w b.pc b.core)
-Follows-transfer (op.Call w) next sp s low high entry x l h bytes is is_low going b = Follows-call s entry x next w b.pc b.core
-Follows-transfer (op.Restart w) next sp s low high entry x l h bytes is is_low going b = Follows-call s entry x next w b.pc b.core
-Follows-transfer (op.StoreHigh n) next sp s low high entry x l h bytes is is_low going b =
+Follows-transfer whole (op.Call w) next sp s low high entry x l h bytes is is_low going b = Follows-call s entry x next w b.pc b.core
+Follows-transfer whole (op.Restart w) next sp s low high entry x l h bytes is is_low going b = Follows-call s entry x next w b.pc b.core
+Follows-transfer whole (op.StoreHigh n) next sp s low high entry x l h bytes is is_low going b =
     record { core = b.core; write = (IsIn-one (0xFF00 + n), b.core.registers A, a-byte s entry x is b.core) }
-Follows-transfer (op.LoadHigh n) next sp s low high entry x l h bytes is is_low going b = Follows-loaded s entry x low l b.low_read b.core
-Follows-transfer op.StoreHighC next sp s low high entry x l h bytes is is_low going b =
+Follows-transfer whole (op.LoadHigh n) next sp s low high entry x l h bytes is is_low going b = Follows-loaded s entry x low l b.low_read b.core
+Follows-transfer whole op.StoreHighC next sp s low high entry x l h bytes is is_low going b =
     record { core = b.core; write = (IsIn-high s entry x b.core, b.core.registers A, a-byte s entry x is b.core) }
-Follows-transfer op.LoadHighC next sp s low high entry x l h bytes is is_low going b = Follows-loaded s entry x low l b.low_read b.core
-Follows-transfer (op.StoreAbsolute w) next sp s low high entry x l h bytes is is_low going b =
+Follows-transfer whole op.LoadHighC next sp s low high entry x l h bytes is is_low going b = Follows-loaded s entry x low l b.low_read b.core
+Follows-transfer whole (op.StoreAbsolute w) next sp s low high entry x l h bytes is is_low going b =
     record { core = b.core; write = (IsIn-one w, b.core.registers A, a-byte s entry x is b.core) }
-Follows-transfer (op.LoadAbsolute w) next sp s low high entry x l h bytes is is_low going b = Follows-loaded s entry x low l b.low_read b.core
-Follows-transfer (op.AddSp e8) next sp s low high entry x l h bytes is is_low going b = Follows-add_sp e8 sp s entry x (record { high = b.sp_high; low = b.sp_low }) b.core
-Follows-transfer (op.LoadHlSp e8) next sp s low high entry x l h bytes is is_low going b = Follows-load_hl e8 sp s entry x (record { high = b.sp_high; low = b.sp_low }) b.core
-Follows-transfer op.LoadSpHl next sp s low high entry x l h bytes is is_low going b = Follows-moved s entry x (Effects.hl x.processor) x.processor.pc b.core
-Follows-transfer op.JumpHl next sp s low high entry x l h bytes is is_low going b = Follows-jump s entry x (Effects.hl x.processor) b.core
-Follows-transfer op.DisableInterrupts next sp s low high entry x l h bytes is is_low going b =
+Follows-transfer whole (op.LoadAbsolute w) next sp s low high entry x l h bytes is is_low going b = Follows-loaded s entry x low l b.low_read b.core
+Follows-transfer whole (op.AddSp e8) next sp s low high entry x l h bytes is is_low going b = Follows-add_sp e8 sp s entry x (record { high = b.sp_high; low = b.sp_low }) b.core
+Follows-transfer whole (op.LoadHlSp e8) next sp s low high entry x l h bytes is is_low going b = Follows-load_hl e8 sp s entry x (record { high = b.sp_high; low = b.sp_low }) b.core
+Follows-transfer whole op.LoadSpHl next sp s low high entry x l h bytes is is_low going b = Follows-moved s entry x (Effects.hl x.processor) x.processor.pc b.core
+Follows-transfer whole op.JumpHl next sp s low high entry x l h bytes is is_low going b = Follows-jump s entry x (Effects.hl x.processor) b.core
+Follows-transfer whole op.DisableInterrupts next sp s low high entry x l h bytes is is_low going b =
     record { core = MeansCore-ime s entry x only_off ime.Off refl b.core; write = tt }
-Follows-transfer op.EnableInterrupts next sp s low high entry x l h bytes is is_low going b =
+Follows-transfer whole op.EnableInterrupts next sp s low high entry x l h bytes is is_low going b =
     record { core = MeansCore-ime s entry x (enabled s.ime) (Effects.enabled x.processor.ime) (enabled-holds s.ime x.processor.ime b.core.ime) b.core; write = tt }
-Follows-transfer (op.Shift how which) next sp s low high entry x l h bytes is is_low going b = Follows-shift how which s entry x low l is_low b.low_read is b.core
-Follows-transfer (op.Bit n which) next sp s low high entry x l h bytes is is_low going b =
+Follows-transfer whole (op.Shift how which) next sp s low high entry x l h bytes is is_low going b = Follows-shift whole how which s entry x low l is_low b.low_read is b.core
+Follows-transfer whole (op.Bit n which) next sp s low high entry x l h bytes is is_low going b =
     let v = operand_val which s low in
     Follows-test_operand (arithmetic.bit_tested n) which s entry x low l (test_bit n v s.flags) (test_bit_sound n v s.flags _ refl) (test_bit_written n v s.flags _ refl) b.low_read b.core
-Follows-transfer (op.Reset n which) next sp s low high entry x l h bytes is is_low going b = Follows-reset n which s entry x low l is_low b.low_read is b.core
-Follows-transfer (op.Set n which) next sp s low high entry x l h bytes is is_low going b = Follows-set n which s entry x low l is_low b.low_read is b.core
+Follows-transfer whole (op.Reset n which) next sp s low high entry x l h bytes is is_low going b = Follows-reset whole n which s entry x low l is_low b.low_read is b.core
+Follows-transfer whole (op.Set n which) next sp s low high entry x l h bytes is is_low going b = Follows-set whole n which s entry x low l is_low b.low_read is b.core
 
 pub transfer_sound :
-    (o : Op) (next : ℕ) (sp : Halves) (s : Core) (low high : Val) (t : AbsEffect)
-    → t ≡ transfer o next sp s low high → HasBytes o → IsCore s → IsVal low → IsSoundTransfer o next sp s low high t
-transfer_sound o next sp s low high t e bytes is is_low =
+    (whole : Bool) (o : Op) (next : ℕ) (sp : Halves) (s : Core) (low high : Val) (t : AbsEffect)
+    → t ≡ transfer whole o next sp s low high → HasBytes o → IsCore s → IsVal low → IsSoundTransfer o next sp s low high t
+transfer_sound whole o next sp s low high t e bytes is is_low =
     subst (λ k. IsSoundTransfer o next sp s low high k) (sym e) (record {
-      gives = λ entry x l h going b. Follows-transfer o next sp s low high entry x l h bytes is is_low going b;
+      gives = λ entry x l h going b. Follows-transfer whole o next sp s low high entry x l h bytes is is_low going b;
       sp = λ entry x l h b. sp-small o s entry x l h bytes is b.core b.sp;
     })
 
@@ -184,7 +185,7 @@ untaken-is o p l h e = absurd (true≢false (sym (is_taken-without o p l h refl)
 pub untaken-stays : (o : Op) (p : Processor) (l h : ℕ) → (Effects.effect_of o p l h).is_taken ≡ false → (Effects.effect_of o p l h).processor ≡ p
 untaken-stays o p l h e = ap (λ (f : Effect). f.processor) (untaken-is o p l h e)
 
-Follows-untaken : (s : Core) (entry x : MState) → MeansCore s entry x → Follows (untaken s) entry x (left_alone x.processor)
+Follows-untaken : (s : Core) (entry : Activation) (x : MState) → MeansCore s entry x → Follows (untaken s) entry x (left_alone x.processor)
 unfolding untaken
 Follows-untaken s entry x m = record { core = m; write = tt }
 

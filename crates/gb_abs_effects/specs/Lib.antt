@@ -1,4 +1,5 @@
 pub mod Accesses
+pub mod ByRules
 pub mod Sound
 pub mod Pairs
 pub mod Sides

@@ -1,6 +1,6 @@
 -- Words whose bytes are intervals, and the pairs of a core (abstract interpretation: the interval
 -- domain; CPU instruction set: 16-bit arithmetic; own).
-use Rattle.std.specs.Prelude.{ℕ, ◌+◌, ◌-◌, ◌/◌, ◌%◌, Bool, false, ◌&&◌, if◌then◌else◌, nat_lt}
+use Rattle.std.specs.Prelude.{ℕ, ◌+◌, ◌-◌, ◌/◌, ◌%◌, Bool, false, ◌&&◌, if◌then◌else◌, nat_lt, Some}
 use Rattle.gb_ops.specs.declared.op.Pair.{Pair}
 use Rattle.gb_ops.specs.declared.op.Pair.TheVariants as pair
 use Rattle.gb_ops.specs.declared.op.StackPair.{StackPair}
@@ -12,8 +12,13 @@ use Rattle.gb_ops.specs.Arithmetic as machine
 use Rattle.gb_domain.specs.declared.types.Val.{Val}
 use Rattle.gb_domain.specs.declared.types.Flg.{Flg}
 use Rattle.gb_domain.specs.declared.types.Core.{Core}
+use Rattle.gb_domain.specs.declared.low_bits.LowBits.{LowBits}
+use Rattle.gb_domain.specs.LowBits.{no_low_bits}
 use Rattle.gb_abs.specs.Below.gb_vals.Vals.{between, single, any_val, is_single}
 use Rattle.gb_abs.specs.Below.gb_vals.Flags.{known, either, known_flags, greatest_flags, flags_val, flags_of_val}
+use Rattle.gb_abs.specs.Below.gb_vals.LowShifts.{doubled}
+use Rattle.gb_abs.specs.Below.gb_vals.LowSums.{sum, incremented, decremented, high_incremented, high_decremented}
+use Rattle.gb_abs.specs.Below.gb_vals.Strided.{low_of, cut_to}
 use Rattle.gb_domain.specs.declared.types.Halves.{Halves}
 
 -- ---- words
@@ -86,6 +91,32 @@ displaced_flags_any = record { zero = known false; subtract = known false; half_
 unfoldable pub displaced_flags : Halves → ℕ → Flg
 displaced_flags w e8 = if is_word_known w then known_flags (machine.sp_sum_flags (least_word w) e8) else displaced_flags_any
 
+-- ---- words by the rules of version 4 (whole), cut to low bits, and by those of versions 1 to 3
+
+abbrev pub cut_word : LowBits → LowBits → Halves → Halves
+cut_word high low w = record { high = cut_to high w.high; low = cut_to low w.low }
+
+-- the high byte has its low bits still where the low byte doesn't carry
+unfoldable pub next_word_by : Bool → Halves → Halves
+next_word_by whole h =
+    if whole then cut_word (high_incremented (low_of h.high) h.low.hi) (incremented (low_of h.low)) (next_word h) else next_word h
+
+-- and where it doesn't borrow
+unfoldable pub previous_word_by : Bool → Halves → Halves
+previous_word_by whole h =
+    if whole then cut_word (high_decremented (low_of h.high) h.low.lo) (decremented (low_of h.low)) (previous_word h) else previous_word h
+
+-- the low bits of L after ADD HL: HL itself is doubled, and SP counts where it is known
+abbrev pub summed_low_bits : Pair → Halves → Halves → LowBits
+summed_low_bits pair.Hl hl added = doubled (low_of hl.low)
+summed_low_bits pair.Sp hl added = if is_word_known added then sum (low_of hl.low) (low_of added.low) (Some false) else no_low_bits
+summed_low_bits _ hl added = sum (low_of hl.low) (low_of added.low) (Some false)
+
+-- of the high byte nothing is said
+unfoldable pub word_sum_by : Bool → Pair → Halves → Halves → Halves
+word_sum_by whole which hl added =
+    if whole then cut_word no_low_bits (summed_low_bits which hl added) (word_sum hl added) else word_sum hl added
+
 -- ---- the pairs of a core
 
 -- what a pair holds; of SP a core says nothing
@@ -107,11 +138,11 @@ with_pair pair.Hl w s = record s { registers = record s.registers { h = w.high; 
 with_pair pair.Sp w s = s
 
 -- HL counts as INC HL and DEC HL do, where the operand says so
-unfoldable pub with_indirect : Indirect → Core → Core
-with_indirect indirect.Bc s = s
-with_indirect indirect.De s = s
-with_indirect indirect.HlIncrement s = with_pair pair.Hl (next_word (pair_halves pair.Hl s)) s
-with_indirect indirect.HlDecrement s = with_pair pair.Hl (previous_word (pair_halves pair.Hl s)) s
+unfoldable pub with_indirect : Bool → Indirect → Core → Core
+with_indirect whole indirect.Bc s = s
+with_indirect whole indirect.De s = s
+with_indirect whole indirect.HlIncrement s = with_pair pair.Hl (next_word_by whole (pair_halves pair.Hl s)) s
+with_indirect whole indirect.HlDecrement s = with_pair pair.Hl (previous_word_by whole (pair_halves pair.Hl s)) s
 
 -- what is pushed: copies, F as the interval of its bytes
 unfoldable pub stack_pair_halves : StackPair → Core → Halves

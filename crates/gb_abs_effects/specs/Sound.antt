@@ -16,7 +16,7 @@ use Rattle.gb_domain.specs.declared.types.Core.{Core}
 use Rattle.gb_domain.specs.declared.types.Halves.{Halves}
 use Rattle.gb_domain.specs.Rules.{IsVal, IsCore}
 use Rattle.gb_abs.specs.Span.{IsIn}
-use Rattle.gb_abs.specs.Meaning.{Holds, MeansCore}
+use Rattle.gb_abs.specs.Meaning.{Activation, Holds, MeansCore}
 use Rattle.gb_abs_effects.specs.declared.reads.AbsRead.{AbsRead}
 use Rattle.gb_abs_effects.specs.declared.reads.AbsRead.TheVariants as read
 use Rattle.gb_abs_effects.specs.declared.sides.Sides.{Sides}
@@ -59,7 +59,7 @@ HoldsRead _ sp _ = ⊥
 -- where the instruction is taken, the machine reads what is said
 pub record IsSoundRead (o : Op) (s : Core) (what : AbsRead) : Type 0 where
   pub gives :
-      (entry x : MState) (l h : ℕ)
+      (entry : Activation) (x : MState) (l h : ℕ)
       → MeansCore s entry x → (Effects.effect_of o x.processor l h).is_taken ≡ true
       → HoldsRead what x.processor.sp (Effects.read_of o x.processor)
 
@@ -75,14 +75,14 @@ side_by true sides = sides.taken
 side_by false sides = sides.not_taken
 
 -- the side is possible, and means the state
-abbrev pub IsMeant : Option Core → MState → MState → Type 0
+abbrev pub IsMeant : Option Core → Activation → MState → Type 0
 IsMeant None entry x = ⊥
 IsMeant (Some s) entry x = MeansCore s entry x
 
 -- the side by the machine's own condition means each state that the core means
 pub record AreSoundSides (o : Op) (s : Core) (sides : Sides) : Type 0 where
   pub gives :
-      (entry x : MState) (l h : ℕ)
+      (entry : Activation) (x : MState) (l h : ℕ)
       → MeansCore s entry x → IsMeant (side_by (Effects.effect_of o x.processor l h).is_taken sides) entry x
 
 pub record AreSides (sides : Sides) : Type 0 where
@@ -92,7 +92,7 @@ pub record AreSides (sides : Sides) : Type 0 where
 -- ---- effects
 
 -- the machine, with its stack pointer at sp, writes what is said, where it is said
-abbrev pub HoldsWrite : AbsWrite → MState → ℕ → Write → Type 0
+abbrev pub HoldsWrite : AbsWrite → Activation → ℕ → Write → Type 0
 HoldsWrite write.Nothing entry sp machine_write.Nothing = Unit {0}
 HoldsWrite (write.Byte span v) entry sp (machine_write.Byte a n) = IsIn span a × Holds v entry n × (n ≤ 255)
 HoldsWrite (write.Word a low high) entry sp (machine_write.Word b w) =
@@ -102,12 +102,12 @@ HoldsWrite (write.Push high low) entry sp (machine_write.Push a w) =
 HoldsWrite _ entry sp _ = ⊥
 
 -- an effect on the machine state x is followed
-pub record Follows (t : AbsEffect) (entry x : MState) (e : Effect) : Type 0 where
+pub record Follows (t : AbsEffect) (entry : Activation) (x : MState) (e : Effect) : Type 0 where
   pub core : MeansCore t.core entry (record x { processor = e.processor })
   pub write : HoldsWrite t.write entry x.processor.sp e.write
 
 -- the machine as a taken instruction begins its work: its bytes are fetched, its reads gave l and h, and SP is known as a pair
-pub record Begins (o : Op) (next : ℕ) (sp_halves : Halves) (s : Core) (low high : Val) (entry x : MState) (l h : ℕ) : Type 0 where
+pub record Begins (o : Op) (next : ℕ) (sp_halves : Halves) (s : Core) (low high : Val) (entry : Activation) (x : MState) (l h : ℕ) : Type 0 where
   pub core : MeansCore s entry x
   pub low_read : Holds low entry l
   pub high_read : Holds high entry h
@@ -120,17 +120,17 @@ pub record Begins (o : Op) (next : ℕ) (sp_halves : Halves) (s : Core) (low hig
 -- each effect of the instruction but STOP is followed, and SP stays an address
 pub record IsSoundTransfer (o : Op) (next : ℕ) (sp_halves : Halves) (s : Core) (low high : Val) (t : AbsEffect) : Type 0 where
   pub gives :
-      (entry x : MState) (l h : ℕ)
+      (entry : Activation) (x : MState) (l h : ℕ)
       → (o ≡ op.Stop → ⊥) → Begins o next sp_halves s low high entry x l h → Follows t entry x (Effects.effect_of o x.processor l h)
   pub sp :
-      (entry x : MState) (l h : ℕ)
+      (entry : Activation) (x : MState) (l h : ℕ)
       → Begins o next sp_halves s low high entry x l h → (Effects.effect_of o x.processor l h).processor.sp < 65536
 
 -- each effect of an instruction that isn't taken is followed: it reads nothing but its own bytes, and leaves
 -- the processor as it is, PC behind it
 pub record IsSoundUntaken (s : Core) (t : AbsEffect) : Type 0 where
   pub gives :
-      (o : Op) (entry x : MState) (l h : ℕ)
+      (o : Op) (entry : Activation) (x : MState) (l h : ℕ)
       → MeansCore s entry x → (Effects.effect_of o x.processor l h).is_taken ≡ false
       → Follows t entry x (Effects.effect_of o x.processor l h)
   pub reads :
@@ -152,7 +152,7 @@ HoldsTarget _ pc = Unit {0}
 -- where the instruction is taken, PC being behind it, the machine goes on there
 pub record IsSoundTarget (o : Op) (next : ℕ) (s : Core) (t : Target) : Type 0 where
   pub gives :
-      (entry x : MState) (l h : ℕ)
+      (entry : Activation) (x : MState) (l h : ℕ)
       → MeansCore s entry x → x.processor.pc ≡ next → (Effects.effect_of o x.processor l h).is_taken ≡ true
       → HoldsTarget t (Effects.effect_of o x.processor l h).processor.pc
 

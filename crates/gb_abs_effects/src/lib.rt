@@ -3,11 +3,12 @@
 //! leaves, and says what it writes (`exact`); whatever the machine does from a state that the core
 //! stands for, the outcome stands for (`sound`). STOP is left out, since no certificate may reach it.
 //!
-//! Read `reads`, `sides` and `targets` (where an instruction goes on), then `pairs` and `writes`, and
-//! last `transfer`. Where an OAM transfer is
+//! Read `reads`, `sides` and `targets` (where an instruction goes on), then `pairs`, `by_rules` (by the rules of version 4 what is
+//! computed is cut to its low bits) and `writes`, and last `transfer`. Where an OAM transfer is
 //! meant, it is called so: the word transfer alone is a transfer function's.
 #![tactic(auto)]
 
+mod by_rules;
 pub mod pairs;
 pub mod reads;
 pub mod sides;

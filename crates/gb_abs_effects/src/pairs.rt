@@ -3,10 +3,14 @@
 ghost use Rattle.std.specs.Prelude.{◌≡◌};
 ghost use Rattle.gb_abs_effects.specs.Pairs as Pairs;
 
+use gb_abs::low_shifts::doubled;
+use gb_abs::low_sums::{decremented, high_decremented, high_incremented, incremented, sum};
+use gb_abs::strided::{cut_to, low_of};
 use gb_abs::{
     any, arithmetic, between, displaced, either, flags_of_val, flags_val, greatest_flags,
     is_single, known, known_flags, single, word,
 };
+use gb_domain::low_bits::{LowBits, none};
 use gb_domain::types::{Core, Flg, Halves, Val};
 use gb_ops::op::{Indirect, Pair, StackPair};
 
@@ -69,7 +73,7 @@ fn lowered(high: Val) -> Val
 /// INC of a pair: a known word is counted exactly. Else the low byte moves alone where it can't
 /// wrap; where it may, it is any byte, and the high one may be one more. Neither is a copy.
 #[tactic(auto, unfolding(crate::specs::Pairs::next_word))]
-pub(crate) fn next_word(halves: Halves) -> Halves
+fn next_word(halves: Halves) -> Halves
     ensures { result ≡ Pairs.next_word halves }
 {
     let Halves { high, low } = halves;
@@ -91,7 +95,7 @@ pub(crate) fn next_word(halves: Halves) -> Halves
 /// DEC of a pair: a known word is counted exactly. Else the low byte moves alone where it can't wrap;
 /// where it may, it is any byte, and the high one may be one less. Neither is a copy.
 #[tactic(auto, unfolding(crate::specs::Pairs::previous_word))]
-pub(crate) fn previous_word(halves: Halves) -> Halves
+fn previous_word(halves: Halves) -> Halves
     ensures { result ≡ Pairs.previous_word halves }
 {
     let Halves { high, low } = halves;
@@ -118,7 +122,7 @@ fn are_words_known(left: Halves, right: Halves) -> bool
 
 /// The sum of two words, known where both are.
 #[tactic(auto, unfolding(crate::specs::Pairs::word_sum))]
-pub(crate) fn word_sum(left: Halves, right: Halves) -> Halves
+fn word_sum(left: Halves, right: Halves) -> Halves
     ensures { result ≡ Pairs.word_sum left right }
 {
     if are_words_known(left, right) {
@@ -181,6 +185,83 @@ pub(crate) fn displaced_flags(halves: Halves, e8: u8) -> Flg
     }
 }
 
+// ---- by the rules of version 4, cut to low bits, or by those of versions 1 to 3
+
+/// A computed word, cut to low bits of its bytes.
+fn cut_word(high: LowBits, low: LowBits, halves: Halves) -> Halves
+    ensures { result ≡ Pairs.cut_word high low halves }
+{
+    Halves {
+        high: cut_to(high, halves.high),
+        low: cut_to(low, halves.low),
+    }
+}
+
+/// INC of a pair. By the rules of version 4 the high byte has its low bits still where the low byte doesn't carry.
+#[tactic(auto, unfolding(crate::specs::Pairs::next_word_by))]
+pub(crate) fn next_word_by(is_whole: bool, halves: Halves) -> Halves
+    ensures { result ≡ Pairs.next_word_by is_whole halves }
+{
+    let next = next_word(halves);
+    if !is_whole {
+        return next;
+    }
+    let Halves { high, low } = halves;
+    cut_word(
+        high_incremented(low_of(high), low.hi),
+        incremented(low_of(low)),
+        next,
+    )
+}
+
+/// DEC of a pair. By the rules of version 4 the high byte has its low bits still where the low byte doesn't borrow.
+#[tactic(auto, unfolding(crate::specs::Pairs::previous_word_by))]
+pub(crate) fn previous_word_by(is_whole: bool, halves: Halves) -> Halves
+    ensures { result ≡ Pairs.previous_word_by is_whole halves }
+{
+    let previous = previous_word(halves);
+    if !is_whole {
+        return previous;
+    }
+    let Halves { high, low } = halves;
+    cut_word(
+        high_decremented(low_of(high), low.lo),
+        decremented(low_of(low)),
+        previous,
+    )
+}
+
+/// The low bits of L after ADD HL: HL itself is doubled, and SP counts where it is known.
+fn summed_low_bits(pair: Pair, hl: Halves, added: Halves) -> LowBits
+    ensures { result ≡ Pairs.summed_low_bits pair hl added }
+{
+    match pair {
+        Pair::Hl => doubled(low_of(hl.low)),
+        Pair::Sp => {
+            if is_word_known(added) {
+                sum(low_of(hl.low), low_of(added.low), Some(false))
+            } else {
+                none()
+            }
+        }
+        _ => sum(low_of(hl.low), low_of(added.low), Some(false)),
+    }
+}
+
+/// ADD HL. By the rules of version 4 L has low bits still, and of H nothing is said.
+#[tactic(auto, unfolding(crate::specs::Pairs::word_sum_by))]
+pub(crate) fn word_sum_by(is_whole: bool, pair: Pair, hl: Halves, added: Halves) -> Halves
+    ensures { result ≡ Pairs.word_sum_by is_whole pair hl added }
+{
+    let summed = word_sum(hl, added);
+    if !is_whole {
+        return summed;
+    }
+    cut_word(none(), summed_low_bits(pair, hl, added), summed)
+}
+
+// ---- the pairs of a core
+
 /// What a pair of a core holds; SP isn't part of one, so it is any word.
 #[tactic(auto, unfolding(crate::specs::Pairs::pair_halves))]
 pub fn pair_halves(pair: Pair, core: &Core) -> Halves
@@ -233,14 +314,14 @@ pub(crate) fn set_pair(pair: Pair, halves: Halves, core: &mut Core)
 
 /// HL counts up or down where the operand says so.
 #[tactic(auto, unfolding(crate::specs::Pairs::with_indirect))]
-pub(crate) fn count_hl(indirect: Indirect, core: &mut Core)
-    ensures { core.new ≡ Pairs.with_indirect indirect core.old }
+pub(crate) fn count_hl(is_whole: bool, indirect: Indirect, core: &mut Core)
+    ensures { core.new ≡ Pairs.with_indirect is_whole indirect core.old }
 {
     let hl = pair_halves(Pair::Hl, core);
     match indirect {
         Indirect::Bc | Indirect::De => {}
-        Indirect::HlIncrement => set_pair(Pair::Hl, next_word(hl), core),
-        Indirect::HlDecrement => set_pair(Pair::Hl, previous_word(hl), core),
+        Indirect::HlIncrement => set_pair(Pair::Hl, next_word_by(is_whole, hl), core),
+        Indirect::HlDecrement => set_pair(Pair::Hl, previous_word_by(is_whole, hl), core),
     }
 }
 

@@ -3,22 +3,24 @@
 ghost use Rattle.std.specs.Prelude.{◌≡◌, ◌<◌};
 ghost use Rattle.gb_domain.specs.Rules.{IsVal, IsCore, IsWord};
 ghost use Rattle.gb_ops.specs.declared.op.Pair.TheVariants.{Hl};
-ghost use Rattle.gb_abs.specs.Below.gb_vals.Alu as Alu;
 ghost use Rattle.gb_abs.specs.Below.gb_vals.Bits as Bits;
 ghost use Rattle.gb_abs.specs.Below.gb_vals.Daa as Daa;
-ghost use Rattle.gb_abs.specs.Below.gb_vals.Logic as Logic;
 ghost use Rattle.gb_abs.specs.Below.gb_vals.Shifts as Shifts;
-ghost use Rattle.gb_abs.specs.Below.gb_vals.Sums as Sums;
 ghost use Rattle.gb_abs.specs.Below.gb_vals.Vals as Vals;
+ghost use Rattle.gb_abs_effects.specs.ByRules as ByRules;
 ghost use Rattle.gb_abs_effects.specs.Pairs as Pairs;
 ghost use Rattle.gb_abs_effects.specs.Pairs.{with_pair};
 ghost use Rattle.gb_abs_effects.specs.Transfer as Transfer;
 ghost use Rattle.gb_abs_effects.specs.declared.writes.AbsWrite.TheVariants.{Nothing, Byte};
 ghost use Rattle.gb_abs_effects.specs.Sound.{HasBytes, IsSoundTransfer, IsSoundUntaken, IsAbsEffect};
 
+use crate::by_rules::{
+    alu_by, complement_by, decrement_by, increment_by, itself_by, reset_bit_by, set_bit_by,
+    shift_by,
+};
 use crate::pairs::{
-    count_hl, displaced_flags, displaced_word, known_word, next_word, pair_halves, pair_or_sp,
-    pop_pair, previous_word, set_pair, stack_pair_halves, word_sum, word_sum_flags,
+    count_hl, displaced_flags, displaced_word, known_word, next_word_by, pair_halves, pair_or_sp,
+    pop_pair, previous_word_by, set_pair, stack_pair_halves, word_sum_by, word_sum_flags,
 };
 use crate::reads::{high_span, indirect_span};
 use crate::writes::{
@@ -26,10 +28,7 @@ use crate::writes::{
 };
 use gb_abs::operations::set_register;
 use gb_abs::span::Span;
-use gb_abs::{
-    adjust, alu, alu_itself, complement, complement_carry, decrement, increment, reset_bit,
-    rotate_a, set_bit, set_carry, shift, single, test_bit,
-};
+use gb_abs::{adjust, complement_carry, rotate_a, set_carry, single, test_bit};
 use gb_domain::types::{Core, Halves, ImeSet, Val};
 use gb_ops::op::{AluOp, Op, Operand, Pair, Register, Shift, StackPair};
 
@@ -69,6 +68,8 @@ fn only_on() -> ImeSet
 /// What an instruction takes from elsewhere than the core.
 #[derive(Clone, Copy)]
 pub struct Inputs {
+    /// The rules are those of version 4, by which what is computed is cut to its low bits.
+    pub is_whole: bool,
     /// The address behind it.
     pub next: u16,
     /// SP as a pair.
@@ -92,29 +93,32 @@ fn load_pair(pair: Pair, word: u16, core: &mut Core)
 
 /// INC of a pair.
 #[inline(never)]
-fn increment_pair(pair: Pair, core: &mut Core)
-    ensures { core.new ≡ with_pair pair (Pairs.next_word (Pairs.pair_halves pair core.old)) core.old }
+fn increment_pair(pair: Pair, inputs: &Inputs, core: &mut Core)
+    ensures { core.new ≡ with_pair pair (Pairs.next_word_by inputs.now.is_whole (Pairs.pair_halves pair core.old)) core.old }
 {
-    set_pair(pair, next_word(pair_halves(pair, core)), core);
+    let next = next_word_by(inputs.is_whole, pair_halves(pair, core));
+    set_pair(pair, next, core);
 }
 
 /// DEC of a pair.
 #[inline(never)]
-fn decrement_pair(pair: Pair, core: &mut Core)
-    ensures { core.new ≡ with_pair pair (Pairs.previous_word (Pairs.pair_halves pair core.old)) core.old }
+fn decrement_pair(pair: Pair, inputs: &Inputs, core: &mut Core)
+    ensures { core.new ≡ with_pair pair (Pairs.previous_word_by inputs.now.is_whole (Pairs.pair_halves pair core.old)) core.old }
 {
-    set_pair(pair, previous_word(pair_halves(pair, core)), core);
+    let previous = previous_word_by(inputs.is_whole, pair_halves(pair, core));
+    set_pair(pair, previous, core);
 }
 
 /// ADD HL, of a pair of registers or of SP, whose halves are given.
 #[inline(never)]
 fn add_hl(pair: Pair, inputs: &Inputs, core: &mut Core)
-    ensures { core.new ≡ (Transfer.add_hl pair inputs.now.sp core.old).core }
+    ensures { core.new ≡ (Transfer.add_hl inputs.now.is_whole pair inputs.now.sp core.old).core }
 {
     let hl = pair_halves(Pair::Hl, core);
     let added = pair_or_sp(pair, inputs.sp, core);
     let flags = word_sum_flags(hl, added, core.flags);
-    set_pair(Pair::Hl, word_sum(hl, added), core);
+    let summed = word_sum_by(inputs.is_whole, pair, hl, added);
+    set_pair(Pair::Hl, summed, core);
     core.flags = flags;
 }
 
@@ -172,50 +176,53 @@ fn store_a(span: Span, effect: &mut AbsEffect)
 #[inline(never)]
 fn increment_operand(operand: Operand, inputs: &Inputs, effect: &mut AbsEffect)
     requires { effect.old.write ≡ Nothing }
-    ensures { effect.new ≡ Transfer.update_operand operand (Sums.increment (Transfer.operand_val operand effect.old.core inputs.now.word.low) effect.old.core.flags) effect.old.core }
+    ensures { effect.new ≡ Transfer.update_operand operand (ByRules.increment_by inputs.now.is_whole (Transfer.operand_val operand effect.old.core inputs.now.word.low) effect.old.core.flags) effect.old.core }
 {
     let val = operand_val(operand, &effect.core, inputs.word.low);
-    update_operand(operand, increment(val, effect.core.flags), effect);
+    let outcome = increment_by(inputs.is_whole, val, effect.core.flags);
+    update_operand(operand, outcome, effect);
 }
 
 /// DEC of a byte.
 #[inline(never)]
 fn decrement_operand(operand: Operand, inputs: &Inputs, effect: &mut AbsEffect)
     requires { effect.old.write ≡ Nothing }
-    ensures { effect.new ≡ Transfer.update_operand operand (Sums.decrement (Transfer.operand_val operand effect.old.core inputs.now.word.low) effect.old.core.flags) effect.old.core }
+    ensures { effect.new ≡ Transfer.update_operand operand (ByRules.decrement_by inputs.now.is_whole (Transfer.operand_val operand effect.old.core inputs.now.word.low) effect.old.core.flags) effect.old.core }
 {
     let val = operand_val(operand, &effect.core, inputs.word.low);
-    update_operand(operand, decrement(val, effect.core.flags), effect);
+    let outcome = decrement_by(inputs.is_whole, val, effect.core.flags);
+    update_operand(operand, outcome, effect);
 }
 
 /// A rotation or shift of a byte.
 #[inline(never)]
 fn shift_operand(how: Shift, operand: Operand, inputs: &Inputs, effect: &mut AbsEffect)
     requires { effect.old.write ≡ Nothing }
-    ensures { effect.new ≡ Transfer.update_operand operand (Shifts.shift_of how (Transfer.operand_val operand effect.old.core inputs.now.word.low) effect.old.core.flags) effect.old.core }
+    ensures { effect.new ≡ Transfer.update_operand operand (ByRules.shift_by inputs.now.is_whole how (Transfer.operand_val operand effect.old.core inputs.now.word.low) effect.old.core.flags) effect.old.core }
 {
     let val = operand_val(operand, &effect.core, inputs.word.low);
-    update_operand(operand, shift(how, val, effect.core.flags), effect);
+    let outcome = shift_by(inputs.is_whole, how, val, effect.core.flags);
+    update_operand(operand, outcome, effect);
 }
 
 /// RES of a byte's bit.
 #[inline(never)]
 fn reset_operand(n: u8, operand: Operand, inputs: &Inputs, effect: &mut AbsEffect)
     requires { effect.old.write ≡ Nothing }
-    ensures { effect.new ≡ Transfer.store_operand operand (Bits.reset_bit n (Transfer.operand_val operand effect.old.core inputs.now.word.low)) effect.old.core }
+    ensures { effect.new ≡ Transfer.store_operand operand (ByRules.reset_bit_by inputs.now.is_whole n (Transfer.operand_val operand effect.old.core inputs.now.word.low)) effect.old.core }
 {
     let val = operand_val(operand, &effect.core, inputs.word.low);
-    store_operand(operand, reset_bit(n, val), effect);
+    store_operand(operand, reset_bit_by(inputs.is_whole, n, val), effect);
 }
 
 /// SET of a byte's bit.
 #[inline(never)]
 fn set_operand(n: u8, operand: Operand, inputs: &Inputs, effect: &mut AbsEffect)
     requires { effect.old.write ≡ Nothing }
-    ensures { effect.new ≡ Transfer.store_operand operand (Bits.set_bit n (Transfer.operand_val operand effect.old.core inputs.now.word.low)) effect.old.core }
+    ensures { effect.new ≡ Transfer.store_operand operand (ByRules.set_bit_by inputs.now.is_whole n (Transfer.operand_val operand effect.old.core inputs.now.word.low)) effect.old.core }
 {
     let val = operand_val(operand, &effect.core, inputs.word.low);
-    store_operand(operand, set_bit(n, val), effect);
+    store_operand(operand, set_bit_by(inputs.is_whole, n, val), effect);
 }
 
 /// The flags of BIT.
@@ -269,21 +276,22 @@ fn adjust_a(effect: &mut AbsEffect)
 
 /// CPL.
 #[inline(never)]
-fn complement_a(effect: &mut AbsEffect)
+fn complement_a(inputs: &Inputs, effect: &mut AbsEffect)
     requires { effect.old.write ≡ Nothing }
-    ensures { effect.new ≡ Transfer.update_a (Logic.complement effect.old.core.registers.a effect.old.core.flags) effect.old.core }
+    ensures { effect.new ≡ Transfer.update_a (ByRules.complement_by inputs.now.is_whole effect.old.core.registers.a effect.old.core.flags) effect.old.core }
 {
-    let outcome = complement(effect.core.registers.a, effect.core.flags);
+    let outcome = complement_by(inputs.is_whole, effect.core.registers.a, effect.core.flags);
     update_a(outcome, effect);
 }
 
 /// An operation of A and a number.
 #[inline(never)]
-fn apply_immediate(how: AluOp, value: u8, effect: &mut AbsEffect)
+fn apply_immediate(how: AluOp, value: u8, inputs: &Inputs, effect: &mut AbsEffect)
     requires { effect.old.write ≡ Nothing }
-    ensures { effect.new ≡ Transfer.update_a (Alu.alu how effect.old.core.registers.a (Vals.single value) effect.old.core.flags) effect.old.core }
+    ensures { effect.new ≡ Transfer.update_a (ByRules.alu_by inputs.now.is_whole how effect.old.core.registers.a (Vals.single value) effect.old.core.flags) effect.old.core }
 {
-    let outcome = alu(
+    let outcome = alu_by(
+        inputs.is_whole,
         how,
         effect.core.registers.a,
         single(value),
@@ -297,14 +305,16 @@ fn apply_immediate(how: AluOp, value: u8, effect: &mut AbsEffect)
 #[tactic(auto, unfolding(crate::specs::Transfer::apply_alu))]
 fn apply_alu(how: AluOp, operand: Operand, inputs: &Inputs, effect: &mut AbsEffect)
     requires { effect.old.write ≡ Nothing }
-    ensures { effect.new ≡ Transfer.apply_alu how operand effect.old.core inputs.now.word.low }
+    ensures { effect.new ≡ Transfer.apply_alu inputs.now.is_whole how operand effect.old.core inputs.now.word.low }
 {
     let (a, flags) = (effect.core.registers.a, effect.core.flags);
     match operand {
-        Operand::Register(Register::A) => update_a(alu_itself(how, a, flags), effect),
+        Operand::Register(Register::A) => {
+            update_a(itself_by(inputs.is_whole, how, a, flags), effect);
+        }
         _ => {
             let val = operand_val(operand, &effect.core, inputs.word.low);
-            update_a(alu(how, a, val, flags), effect);
+            update_a(alu_by(inputs.is_whole, how, a, val, flags), effect);
         }
     }
 }
@@ -318,7 +328,7 @@ fn apply_alu(how: AluOp, operand: Operand, inputs: &Inputs, effect: &mut AbsEffe
 #[tactic(auto, using(crate::proofs::TransferLaws::transfer_sound))]
 pub fn transfer_in(op: Op, inputs: &Inputs, effect: &mut AbsEffect)
     requires { effect.old.write ≡ Nothing }
-    ensures exact { effect.new ≡ Transfer.transfer op inputs.now.next inputs.now.sp effect.old.core inputs.now.word.low inputs.now.word.high }
+    ensures exact { effect.new ≡ Transfer.transfer inputs.now.is_whole op inputs.now.next inputs.now.sp effect.old.core inputs.now.word.low inputs.now.word.high }
     ensures sound { IsCore effect.old.core → IsVal inputs.now.word.low → IsSoundTransfer op inputs.now.next inputs.now.sp effect.old.core inputs.now.word.low inputs.now.word.high effect.new }
     ensures inhabited { IsCore effect.old.core → IsVal inputs.now.word.low → IsVal inputs.now.word.high → IsWord inputs.now.sp → IsAbsEffect effect.new }
 {
@@ -337,21 +347,21 @@ fn holds_bytes(op: Op, next: u16)
 #[tactic(auto, unfolding(crate::specs::Transfer::transfer))]
 fn apply(op: Op, inputs: &Inputs, effect: &mut AbsEffect)
     requires { effect.old.write ≡ Nothing }
-    ensures { effect.new ≡ Transfer.transfer op inputs.now.next inputs.now.sp effect.old.core inputs.now.word.low inputs.now.word.high }
+    ensures { effect.new ≡ Transfer.transfer inputs.now.is_whole op inputs.now.next inputs.now.sp effect.old.core inputs.now.word.low inputs.now.word.high }
 {
     let core = &mut effect.core;
     match op {
         Op::LoadPair(to, word) => load_pair(to, word, core),
         Op::StoreA(to) => {
             store_a(indirect_span(to, core), effect);
-            count_hl(to, &mut effect.core);
+            count_hl(inputs.is_whole, to, &mut effect.core);
         }
         Op::LoadA(from) => {
-            count_hl(from, core);
+            count_hl(inputs.is_whole, from, core);
             set_register(Register::A, inputs.word.low, core);
         }
-        Op::IncrementPair(pair) => increment_pair(pair, core),
-        Op::DecrementPair(pair) => decrement_pair(pair, core),
+        Op::IncrementPair(pair) => increment_pair(pair, inputs, core),
+        Op::DecrementPair(pair) => decrement_pair(pair, inputs, core),
         Op::Increment(operand) => increment_operand(operand, inputs, effect),
         Op::Decrement(operand) => decrement_operand(operand, inputs, effect),
         Op::LoadImmediate(to, value) => load_immediate(to, value, effect),
@@ -361,12 +371,12 @@ fn apply(op: Op, inputs: &Inputs, effect: &mut AbsEffect)
         }
         Op::AddHl(pair) => add_hl(pair, inputs, core),
         Op::DecimalAdjust => adjust_a(effect),
-        Op::Complement => complement_a(effect),
+        Op::Complement => complement_a(inputs, effect),
         Op::SetCarry => core.flags = set_carry(core.flags),
         Op::ComplementCarry => core.flags = complement_carry(core.flags),
         Op::Load(to, from) => load_operand(to, from, inputs, effect),
         Op::Alu(how, from) => apply_alu(how, from, inputs, effect),
-        Op::AluImmediate(how, value) => apply_immediate(how, value, effect),
+        Op::AluImmediate(how, value) => apply_immediate(how, value, inputs, effect),
         Op::ReturnFromInterrupt => core.ime = only_on(),
         Op::Pop(to) => pop_word(to, inputs, core),
         Op::Push(from) => push_pair(from, effect),

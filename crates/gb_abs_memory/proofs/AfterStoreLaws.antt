@@ -22,11 +22,11 @@ use Rattle.gb_abs_memory.specs.declared.windows.ControllerRegister.TheVariants a
 use Rattle.gb_abs_memory.specs.declared.windows.Window.{Window}
 use Rattle.gb_abs_memory.specs.declared.store.Area.{Area}
 use Rattle.gb_abs_memory.specs.declared.store.Area.TheVariants as area
-use Rattle.gb_abs_memory.specs.Windows.{windows, window_of, ctl_after}
+use Rattle.gb_abs_memory.specs.Windows.{windows, window_of, ctl_after, ctl_written}
 use Rattle.gb_abs_memory.specs.Access.{may_be_closed, meets_closed_ram, may_copy_closed_ram, store_meets_closed_ram, is_limited, is_store_limited, area_by, area_of, is_storable, ram_stored, stored_in, stored_state, starts_oam_transfer}
 use Rattle.gb_abs_memory.specs.Sound.{IsSoundStore}
 use Rattle.gb_abs_memory.proofs.StoreLaws.{IsSoundStore-stored_state}
-use Rattle.gb_abs_memory.proofs.WindowLaws.{ctl_after-valid}
+use Rattle.gb_abs_memory.proofs.WindowLaws.{ctl_written-valid}
 use Rattle.gb_abs_memory.proofs.ControllerLaws.{IsInWindow-window_of}
 
 -- ---- the core after a store
@@ -41,20 +41,20 @@ record IsWritten (before after : Core) (P : Ctl → Type 0) (Q : Val → Type 0)
 
 IsWritten-stored_in :
     (z : Setting) (region : Region) (o : Option Area) (k : Kind) (span : Span) (v : Val) (s : AbsState) (P : Ctl → Type 0) (Q : Val → Type 0)
-    → P s.core.ctl → ((r : ControllerRegister) → o ≡ Some (area.Controller (Some r)) → P (ctl_after k r v s.core.ctl)) → Q s.core.ie → Q v
+    → P s.core.ctl → ((r : ControllerRegister) → o ≡ Some (area.Controller (Some r)) → P (ctl_written z.is_whole k r v s.core.ctl)) → Q s.core.ie → Q v
     → IsWritten s.core (stored_in z region o k span v s).core P Q
 unfolding ram_stored
 IsWritten-stored_in z region None k span v s P Q p r q h = record { ctl = s.core.ctl; ie = s.core.ie; registers = p; enable = q; is = refl }
 IsWritten-stored_in z region (Some (area.Controller None)) k span v s P Q p r q h = record { ctl = s.core.ctl; ie = s.core.ie; registers = p; enable = q; is = refl }
 IsWritten-stored_in z region (Some (area.Controller (Some which))) k span v s P Q p r q h =
-    record { ctl = ctl_after k which v s.core.ctl; ie = s.core.ie; registers = r which refl; enable = q; is = refl }
+    record { ctl = ctl_written z.is_whole k which v s.core.ctl; ie = s.core.ie; registers = r which refl; enable = q; is = refl }
 IsWritten-stored_in z region (Some area.Hardware) k span v s P Q p r q h = record { ctl = s.core.ctl; ie = s.core.ie; registers = p; enable = q; is = refl }
 IsWritten-stored_in z region (Some area.Ram) k span v s P Q p r q h = record { ctl = s.core.ctl; ie = s.core.ie; registers = p; enable = q; is = refl }
 IsWritten-stored_in z region (Some area.InterruptEnable) k span v s P Q p r q h = record { ctl = s.core.ctl; ie = v; registers = p; enable = h; is = refl }
 
 IsWritten-stored_state :
     (z : Setting) (region : Region) (k : Kind) (span : Span) (v : Val) (s : AbsState) (P : Ctl → Type 0) (Q : Val → Type 0)
-    → P s.core.ctl → ((r : ControllerRegister) → area_of k span ≡ Some (area.Controller (Some r)) → P (ctl_after k r v s.core.ctl)) → Q s.core.ie → Q v
+    → P s.core.ctl → ((r : ControllerRegister) → area_of k span ≡ Some (area.Controller (Some r)) → P (ctl_written z.is_whole k r v s.core.ctl)) → Q s.core.ie → Q v
     → IsWritten s.core (stored_state z region k span v s).core P Q
 unfolding stored_state
 IsWritten-stored_state z region k span v s P Q p r q h = IsWritten-stored_in z region (area_of k span) k span v s P Q p r q h
@@ -66,7 +66,7 @@ Any x = Unit {0}
 -- the core's parts are such after the store
 pub IsCore-stored_state : (z : Setting) (region : Region) (k : Kind) (span : Span) (v : Val) (s : AbsState) → IsVal v → IsCore s.core → IsCore (stored_state z region k span v s).core
 IsCore-stored_state z region k span v s h c =
-    let w = IsWritten-stored_state z region k span v s IsCtl IsVal c.ctl (λ r e. ctl_after-valid k r v s.core.ctl h c.ctl) c.ie h in
+    let w = IsWritten-stored_state z region k span v s IsCtl IsVal c.ctl (λ r e. ctl_written-valid z.is_whole k r v s.core.ctl h c.ctl) c.ie h in
     subst IsCore (sym w.is)
     (record { ime = c.ime; bound = c.bound; ctl = w.registers; flags = c.flags; ie = w.enable; registers = c.registers })
 
@@ -146,7 +146,7 @@ gate-stored z region k span v s a i =
     (λ r e. written r (λ g. gate-below k span a i (e ∙ ap (λ q. Some (area.Controller (Some q))) g))) tt tt in
     subst (λ (c : Core). (c.ctl.gate ≡ s.core.ctl.gate) ⊎ (a < 0x2000)) (sym w.is) w.registers
   where
-    written : (r : ControllerRegister) → (r ≡ register.Gate → a < 0x2000) → ((ctl_after k r v s.core.ctl).gate ≡ s.core.ctl.gate) ⊎ (a < 0x2000)
+    written : (r : ControllerRegister) → (r ≡ register.Gate → a < 0x2000) → ((ctl_written z.is_whole k r v s.core.ctl).gate ≡ s.core.ctl.gate) ⊎ (a < 0x2000)
     written register.Gate low = inr (low refl)
     written register.Bank low = inl (gate-other k register.Bank v s.core.ctl (λ e. cc))
     written register.LowBank low = inl (gate-other k register.LowBank v s.core.ctl (λ e. cc))

@@ -1,5 +1,5 @@
 -- A store to each window of each controller.
-use Rattle.std.proofs.Common.{◌≡◌, ℕ, suc, ◌%◌, ◌≤◌, Bool, true, false, cond, ◌==◌, List, [], ◌∷◌, Some, None, refl, subst, arith}
+use Rattle.std.proofs.Common.{◌≡◌, ℕ, suc, ◌%◌, ◌≤◌, Bool, true, false, cond, ◌==◌, List, [], ◌∷◌, Some, None, refl, sym, subst, arith}
 use Rattle.std.proofs.lemmas.Option.{same_Some}
 use Rattle.std.proofs.lemmas.Bool.Decides.{nat_tests}
 use Rattle.std.specs.List.{AllByRecursion, Contains}
@@ -9,18 +9,21 @@ use Rattle.gb_ops.specs.declared.machine.Kind.TheVariants as kind
 use Rattle.gb_ops.specs.Cartridge.{at_least_one, kind_after, mbc1_after, mbc3_after, mbc5_after, with_gate}
 use Rattle.gb_domain.specs.declared.types.Val.{Val}
 use Rattle.gb_domain.specs.declared.types.Ctl.{Ctl}
+use Rattle.gb_domain.specs.declared.types.KeptBanks.{KeptBanks}
 use Rattle.gb_domain.specs.Rules.{IsVal, IsCtl}
 use Rattle.gb_abs.specs.Below.gb_vals.Meaning.{InBounds}
+use Rattle.gb_abs.specs.Meaning.{KeepsBanks}
+use Rattle.gb_abs.proofs.OriginLaws.{nothing_kept}
 use Rattle.gb_abs_memory.specs.declared.windows.ControllerRegister.{ControllerRegister}
 use Rattle.gb_abs_memory.specs.declared.windows.ControllerRegister.TheVariants as register
 use Rattle.gb_abs_memory.specs.declared.windows.Window.{Window}
-use Rattle.gb_abs_memory.specs.Windows.{windows, window, gate_after, mode_after, ctl_after, InCtl, IsWrittenAlone, IsSoundWrite, IsLeast, IsLeastWrite}
+use Rattle.gb_abs_memory.specs.Windows.{windows, window, gate_after, mode_after, ctl_after, kept_after, IsAddressOf, IsSoundKeeping, InCtl, IsWrittenAlone, IsSoundWrite, IsLeast, IsLeastWrite}
 use Rattle.gb_abs_memory.specs.Windows.{window_of, holds}
 use Rattle.gb_abs.specs.declared.span.Span.{Span}
 use Rattle.gb_abs.specs.Span.{IsIn}
 use Rattle.std.specs.List.{find}
 use Rattle.std.proofs.lemmas.List.Elements.{All-from_recursion}
-use Rattle.gb_abs_memory.proofs.WindowLaws.{IsRight, IsSound, IsWrite, after_window, is_right, write_gate, write_mode, write_bank, write_second, gate_sound, gate_least, gate_holds, gate_reached, mode_sound, mode_least, mode_holds, mode_reached, bank_cut_sound, bank_cut_least, second_cut_sound, second_cut_least, low_written, low_sound, low_least, high_written, high_sound, high_least, some_banks, some_within, within, least_in, ctl_after-valid}
+use Rattle.gb_abs_memory.proofs.WindowLaws.{IsRight, IsSound, IsWrite, after_window, kept_in, gate_keeps, mode_keeps, second_keeps, bank_keeps, low_keeps, high_keeps, nothing_keeps, is_right, write_gate, write_mode, write_bank, write_second, gate_sound, gate_least, gate_holds, gate_reached, mode_sound, mode_least, mode_holds, mode_reached, bank_cut_sound, bank_cut_least, second_cut_sound, second_cut_least, low_written, low_sound, low_least, high_written, high_sound, high_least, some_banks, some_within, within, least_in, ctl_after-valid}
 
 nothing_sound : (v : Val) (c : Ctl) → IsSound (λ old n. old) v c c
 nothing_sound v c = record { gives = λ n old w i byte. w }
@@ -40,85 +43,85 @@ nothing_least v c q k =
     }
 
 rom_whole : IsRight kind.Rom (window 0x0000 0x7FFF None)
-rom_whole = is_right kind.Rom (window 0x0000 0x7FFF None) (λ old n. old) (λ a n old first last byte. refl) nothing_sound nothing_least
+rom_whole = is_right kind.Rom (window 0x0000 0x7FFF None) (λ old n. old) (λ a n old first last byte. refl) nothing_sound nothing_least nothing_keeps
 
 mbc1_gate : IsRight kind.Mbc1 (window 0x0000 0x1FFF (Some register.Gate))
 unfolding mbc1_after ctl_after
 mbc1_gate =
     is_right kind.Mbc1 (window 0x0000 0x1FFF (Some register.Gate)) with_gate (λ a n old first last byte. grind (arith, nat_tests))
     (λ v c. gate_sound (λ n. n % 16 == 10) (gate_after v) v c (gate_holds v))
-    (λ v c q k. gate_least (λ n. n % 16 == 10) (gate_after v) v c q k (gate_reached v q))
+    (λ v c q k. gate_least (λ n. n % 16 == 10) (gate_after v) v c q k (gate_reached v q)) (gate_keeps _)
 
 mbc1_bank : IsRight kind.Mbc1 (window 0x2000 0x3FFF (Some register.Bank))
 unfolding mbc1_after ctl_after
 mbc1_bank =
     is_right kind.Mbc1 (window 0x2000 0x3FFF (Some register.Bank)) (write_bank (λ b n. at_least_one (n % 32))) (λ a n old first last byte. grind (arith, nat_tests))
-    (λ v c. bank_cut_sound 32 v c (omega arith)) (λ v c. bank_cut_least 32 v c (omega arith))
+    (λ v c. bank_cut_sound 32 v c (omega arith)) (λ v c. bank_cut_least 32 v c (omega arith)) (bank_keeps _)
 
 mbc1_second : IsRight kind.Mbc1 (window 0x4000 0x5FFF (Some register.Second))
 unfolding mbc1_after ctl_after
 mbc1_second =
     is_right kind.Mbc1 (window 0x4000 0x5FFF (Some register.Second)) (write_second (λ n. n % 4)) (λ a n old first last byte. grind (arith, nat_tests))
-    (λ v c. second_cut_sound 4 v c (omega arith)) (λ v c. second_cut_least 4 v c (omega arith))
+    (λ v c. second_cut_sound 4 v c (omega arith)) (λ v c. second_cut_least 4 v c (omega arith)) (second_keeps _)
 
 mbc1_mode : IsRight kind.Mbc1 (window 0x6000 0x7FFF (Some register.Mode))
 unfolding mbc1_after ctl_after
 mbc1_mode =
     is_right kind.Mbc1 (window 0x6000 0x7FFF (Some register.Mode)) (write_mode (λ n. n % 2 == 1)) (λ a n old first last byte. grind (arith, nat_tests))
     (λ v c. mode_sound (λ n. n % 2 == 1) (mode_after v) v c (mode_holds v))
-    (λ v c q k. mode_least (λ n. n % 2 == 1) (mode_after v) v c q k (mode_reached v q))
+    (λ v c q k. mode_least (λ n. n % 2 == 1) (mode_after v) v c q k (mode_reached v q)) (mode_keeps _)
 
 mbc3_gate : IsRight kind.Mbc3 (window 0x0000 0x1FFF (Some register.Gate))
 unfolding mbc3_after ctl_after
 mbc3_gate =
     is_right kind.Mbc3 (window 0x0000 0x1FFF (Some register.Gate)) with_gate (λ a n old first last byte. grind (arith, nat_tests))
     (λ v c. gate_sound (λ n. n % 16 == 10) (gate_after v) v c (gate_holds v))
-    (λ v c q k. gate_least (λ n. n % 16 == 10) (gate_after v) v c q k (gate_reached v q))
+    (λ v c q k. gate_least (λ n. n % 16 == 10) (gate_after v) v c q k (gate_reached v q)) (gate_keeps _)
 
 mbc3_bank : IsRight kind.Mbc3 (window 0x2000 0x3FFF (Some register.Bank))
 unfolding mbc3_after ctl_after
 mbc3_bank =
     is_right kind.Mbc3 (window 0x2000 0x3FFF (Some register.Bank)) (write_bank (λ b n. at_least_one (n % 128))) (λ a n old first last byte. grind (arith, nat_tests))
-    (λ v c. bank_cut_sound 128 v c (omega arith)) (λ v c. bank_cut_least 128 v c (omega arith))
+    (λ v c. bank_cut_sound 128 v c (omega arith)) (λ v c. bank_cut_least 128 v c (omega arith)) (bank_keeps _)
 
 mbc3_second : IsRight kind.Mbc3 (window 0x4000 0x5FFF (Some register.Second))
 unfolding mbc3_after ctl_after
 mbc3_second =
     is_right kind.Mbc3 (window 0x4000 0x5FFF (Some register.Second)) (write_second (λ n. n % 256)) (λ a n old first last byte. grind (arith, nat_tests))
-    (λ v c. second_cut_sound 256 v c (omega arith)) (λ v c. second_cut_least 256 v c (omega arith))
+    (λ v c. second_cut_sound 256 v c (omega arith)) (λ v c. second_cut_least 256 v c (omega arith)) (second_keeps _)
 
 mbc3_rest : IsRight kind.Mbc3 (window 0x6000 0x7FFF None)
 unfolding mbc3_after ctl_after
 mbc3_rest =
-    is_right kind.Mbc3 (window 0x6000 0x7FFF None) (λ old n. old) (λ a n old first last byte. grind (arith, nat_tests)) nothing_sound nothing_least
+    is_right kind.Mbc3 (window 0x6000 0x7FFF None) (λ old n. old) (λ a n old first last byte. grind (arith, nat_tests)) nothing_sound nothing_least nothing_keeps
 
 mbc5_gate : IsRight kind.Mbc5 (window 0x0000 0x1FFF (Some register.Gate))
 unfolding mbc5_after ctl_after
 mbc5_gate =
     is_right kind.Mbc5 (window 0x0000 0x1FFF (Some register.Gate)) with_gate (λ a n old first last byte. grind (arith, nat_tests))
     (λ v c. gate_sound (λ n. n % 16 == 10) (gate_after v) v c (gate_holds v))
-    (λ v c q k. gate_least (λ n. n % 16 == 10) (gate_after v) v c q k (gate_reached v q))
+    (λ v c q k. gate_least (λ n. n % 16 == 10) (gate_after v) v c q k (gate_reached v q)) (gate_keeps _)
 
 mbc5_low : IsRight kind.Mbc5 (window 0x2000 0x2FFF (Some register.LowBank))
 unfolding mbc5_after ctl_after
 mbc5_low =
-    is_right kind.Mbc5 (window 0x2000 0x2FFF (Some register.LowBank)) (write_bank low_written) (λ a n old first last byte. grind (arith, nat_tests)) low_sound low_least
+    is_right kind.Mbc5 (window 0x2000 0x2FFF (Some register.LowBank)) (write_bank low_written) (λ a n old first last byte. grind (arith, nat_tests)) low_sound low_least low_keeps
 
 mbc5_high : IsRight kind.Mbc5 (window 0x3000 0x3FFF (Some register.HighBank))
 unfolding mbc5_after ctl_after
 mbc5_high =
-    is_right kind.Mbc5 (window 0x3000 0x3FFF (Some register.HighBank)) (write_bank high_written) (λ a n old first last byte. grind (arith, nat_tests)) high_sound high_least
+    is_right kind.Mbc5 (window 0x3000 0x3FFF (Some register.HighBank)) (write_bank high_written) (λ a n old first last byte. grind (arith, nat_tests)) high_sound high_least high_keeps
 
 mbc5_second : IsRight kind.Mbc5 (window 0x4000 0x5FFF (Some register.Second))
 unfolding mbc5_after ctl_after
 mbc5_second =
     is_right kind.Mbc5 (window 0x4000 0x5FFF (Some register.Second)) (write_second (λ n. n % 16)) (λ a n old first last byte. grind (arith, nat_tests))
-    (λ v c. second_cut_sound 16 v c (omega arith)) (λ v c. second_cut_least 16 v c (omega arith))
+    (λ v c. second_cut_sound 16 v c (omega arith)) (λ v c. second_cut_least 16 v c (omega arith)) (second_keeps _)
 
 mbc5_rest : IsRight kind.Mbc5 (window 0x6000 0x7FFF None)
 unfolding mbc5_after ctl_after
 mbc5_rest =
-    is_right kind.Mbc5 (window 0x6000 0x7FFF None) (λ old n. old) (λ a n old first last byte. grind (arith, nat_tests)) nothing_sound nothing_least
+    is_right kind.Mbc5 (window 0x6000 0x7FFF None) (λ old n. old) (λ a n old first last byte. grind (arith, nat_tests)) nothing_sound nothing_least nothing_keeps
 
 all_right : (k : Kind) → AllByRecursion (IsRight k) (windows k)
 unfolding windows
@@ -176,6 +179,15 @@ ctl_after-alone k register.LowBank v c = refl
 ctl_after-alone k register.HighBank v c = refl
 ctl_after-alone k register.Second v c = refl
 ctl_after-alone k register.Mode v c = refl
+
+pub kept_after_sound : (w : Bool) (r : ControllerRegister) (kept after : KeptBanks) → after ≡ kept_after w r kept → IsSoundKeeping r kept after
+kept_after_sound w r kept after e = record { gives = λ k a n before old at byte m. subst (λ p. KeepsBanks p before (kind_after k old a n)) (sym e) (by w k a n before old at byte m) }
+  where
+    by : (w : Bool) (k : Kind) (a n : ℕ) (before old : Banks) → IsAddressOf k r a → n ≤ 255 → KeepsBanks kept before old → KeepsBanks (kept_after w r kept) before (kind_after k old a n)
+    by false k a n before old at byte m = nothing_kept before _
+    by true k a n before old at byte m =
+        subst (λ o. KeepsBanks (kept_in o kept) before (kind_after k old a n)) at.register
+        ((right_in k at.window at.is_window).keeps a n kept before old at.first at.last byte m)
 
 -- ---- the window that all addresses lie in
 

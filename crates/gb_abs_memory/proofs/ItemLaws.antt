@@ -18,7 +18,7 @@ use Rattle.gb_abs.specs.declared.span.Span.{Span}
 use Rattle.gb_abs.specs.Span.{IsIn, is_one}
 use Rattle.gb_abs.specs.Storage.{is_ram, peek}
 use Rattle.gb_abs.specs.Located.{base_by, stack_base}
-use Rattle.gb_abs.specs.Meaning.{Holds, AreItems, IsMemory}
+use Rattle.gb_abs.specs.Meaning.{Activation, Holds, AreItems, IsMemory}
 use Rattle.gb_abs.specs.Poked.{IsPoked}
 use Rattle.gb_abs.specs.Stack.{AreInRegion}
 use Rattle.gb_abs.proofs.CoveringLaws.{Holds-any}
@@ -148,7 +148,7 @@ apart_from span a b i h =
 
 -- a byte is stored to one of the addresses: where the value stands for what is then at each of them, each item stands for its byte
 AreItems-below :
-    (region : Region) (items : List Val) (entry : MState) (top a n : ℕ) (span : Span) (v : Val) (s t : Storage)
+    (region : Region) (items : List Val) (entry : Activation) (top a n : ℕ) (span : Span) (v : Val) (s t : Storage)
     → IsPoked a n s t → IsIn span a → ((b : ℕ) → is_within span.first span.last b ≡ true → Holds v entry (peek t b))
     → IsRegion region → AreInRegion region top (length items) → AreItems items entry top s → AreItems (items_below top span v items) entry top t
 AreItems-below region [] entry top a n span v s t p i met r room h = tt
@@ -167,7 +167,7 @@ AreItems-below region (item ∷ items) entry top a n span v s t p i met r room h
 
 -- of a store to one address the value is what is there
 one_met :
-    (entry : MState) (a n : ℕ) (span : Span) (v : Val) (s t : Storage) → IsPoked a n s t → IsIn span a → Holds v entry n → is_one span ≡ true
+    (entry : Activation) (a n : ℕ) (span : Span) (v : Val) (s t : Storage) → IsPoked a n s t → IsIn span a → Holds v entry n → is_one span ≡ true
     → (b : ℕ) → is_within span.first span.last b ≡ true → Holds v entry (peek t b)
 one_met entry a n span v s t p i h one b e =
     let low = i.first in
@@ -175,13 +175,13 @@ one_met entry a n span v s t p i h one b e =
     let same : b ≡ a = grind (arith, nat_tests) in
     subst (λ c. Holds v entry (peek t c)) (sym same) (subst (λ m. Holds v entry m) (sym p.byte) h)
 
-AreItems-any : (items : List Val) (entry : MState) (top : ℕ) (t : Storage) → IsMemory t → AreItems (replicate (length items) any_val) entry top t
+AreItems-any : (items : List Val) (entry : Activation) (top : ℕ) (t : Storage) → IsMemory t → AreItems (replicate (length items) any_val) entry top t
 AreItems-any [] entry top t m = tt
 AreItems-any (item ∷ items) entry top t m = (Holds-any entry (peek t (top - 1)) (m.bytes (top - 1)), AreItems-any items entry (top - 1) t m)
 
 -- a byte is stored to RAM, by the rules of versions 1 and 2 outside the stack region: each item stands for its byte
 pub AreItems-stored :
-    (z : Setting) (region : Region) (core : Core) (items : List Val) (entry : MState) (base a n : ℕ) (span : Span) (v : Val) (s t : Storage)
+    (z : Setting) (region : Region) (core : Core) (items : List Val) (entry : Activation) (base a n : ℕ) (span : Span) (v : Val) (s t : Storage)
     → IsBase z base → IsPoked a n s t → IsIn span a → Holds v entry n → (z.rules ≡ Simple → meets region span.first span.last ≡ false)
     → IsRegion region → AreInRegion region base (length items) → AreItems items entry base s → AreItems (items_stored z region span v core items) entry base t
 unfolding items_stored

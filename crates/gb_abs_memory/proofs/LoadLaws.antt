@@ -33,7 +33,7 @@ use Rattle.gb_abs.specs.declared.reason.Reason.{Reason}
 use Rattle.gb_abs.specs.Span.{IsIn, is_one, is_inside, may_meet}
 use Rattle.gb_abs.specs.Storage.{is_ram, peek, peek_by}
 use Rattle.gb_abs.specs.Covering.{cell_at}
-use Rattle.gb_abs.specs.Meaning.{Holds, HoldsController, MeansCore, MeansParts}
+use Rattle.gb_abs.specs.Meaning.{Activation, Holds, HoldsController, MeansCore, MeansParts}
 use Rattle.gb_abs.proofs.CoveringLaws.{Holds-cell}
 use Rattle.gb_abs.proofs.OperationLaws.{Holds-single}
 use Rattle.gb_header.specs.Header.{IsCartridge}
@@ -56,7 +56,7 @@ must_be_set : (m : May) (b : Bool) → m.clear ≡ false → may_be m b ≡ true
 must_be_set m true none h = refl
 must_be_set m false none h = absurd (let bad : false ≡ true = sym none ∙ h in cc)
 
-pub ram-open : (rom : List ℕ) (core : Core) (entry x : MState) (starting : Bool) → MeansCore core entry x → may_be_closed rom core ≡ false → is_ram_closed (view rom x starting) ≡ false
+pub ram-open : (rom : List ℕ) (core : Core) (entry : Activation) (x : MState) (starting : Bool) → MeansCore core entry x → may_be_closed rom core ≡ false → is_ram_closed (view rom x starting) ≡ false
 unfolding is_ram_closed may_be_closed
 ram-open rom core entry x starting m h =
     let open_both = or_parts _ _ h in
@@ -74,7 +74,7 @@ both_false true b (inr h) = h
 both_false false b h = refl
 
 pub not_closed_ram :
-    (rom : List ℕ) (core : Core) (entry x : MState) (starting : Bool) (span : Span) (a : ℕ) → MeansCore core entry x → IsIn span a
+    (rom : List ℕ) (core : Core) (entry : Activation) (x : MState) (starting : Bool) (span : Span) (a : ℕ) → MeansCore core entry x → IsIn span a
     → meets_closed_ram rom core span ≡ false → (is_within 0xA000 0xBFFF a && is_ram_closed (view rom x starting)) ≡ false
 unfolding meets_closed_ram
 not_closed_ram rom core entry x starting span a m i h = elim (and_cases _ _ h) [
@@ -93,7 +93,7 @@ not_running : (count : ℕ) → count ≡ 0 → not (count == 0) ≡ false
 not_running count h = grind (arith, nat_tests)
 
 -- no OAM transfer closes the address
-pub not_limited : (core : Core) (entry x : MState) (span : Span) (a : ℕ) → MeansCore core entry x → IsIn span a → is_limited core span ≡ false → is_closed x.storage a ≡ false
+pub not_limited : (core : Core) (entry : Activation) (x : MState) (span : Span) (a : ℕ) → MeansCore core entry x → IsIn span a → is_limited core span ≡ false → is_closed x.storage a ≡ false
 unfolding is_limited is_closed
 not_limited core entry x span a m i h = elim (and_cases _ _ h) [
   | inl none ↦
@@ -115,7 +115,7 @@ not_limited core entry x span a m i h = elim (and_cases _ _ h) [
     within span h = (grind (arith, nat_tests), grind (arith, nat_tests))
 
 pub access-faultless :
-    (rom : List ℕ) (core : Core) (entry x : MState) (starting : Bool) (span : Span) (a : ℕ) → MeansCore core entry x → IsIn span a
+    (rom : List ℕ) (core : Core) (entry : Activation) (x : MState) (starting : Bool) (span : Span) (a : ℕ) → MeansCore core entry x → IsIn span a
     → meets_closed_ram rom core span ≡ false → is_limited core span ≡ false → access_faults (view rom x starting) a ≡ no_faults
 unfolding access_faults
 access-faultless rom core entry x starting span a m i ram limited =
@@ -142,11 +142,11 @@ answer_byte mapped.InterruptEnable m a free ram ie rom byte = ie
 answer_byte mapped.Transfer m a free ram ie rom byte = byte
 answer_byte mapped.Hardware m a free ram ie rom byte = byte
 
-any_holds : (entry : MState) (n : ℕ) → n ≤ 255 → Holds any_val entry n
+any_holds : (entry : Activation) (n : ℕ) → n ≤ 255 → Holds any_val entry n
 any_holds entry n h = record { least = omega arith; most = h; low = refl; origin = λ o e. cc }
 
 -- IE is a byte
-ie_byte : (s : AbsState) (entry : MState) (base : ℕ) (x : MState) → MeansParts s entry base x → IsVal s.core.ie → x.storage.ie ≤ 255
+ie_byte : (s : AbsState) (entry : Activation) (base : ℕ) (x : MState) → MeansParts s entry base x → IsVal s.core.ie → x.storage.ie ≤ 255
 ie_byte s entry base x m q =
     let ie = m.core.ie in
     let most = ie.most in
@@ -155,13 +155,13 @@ ie_byte s entry base x m q =
 
 -- whatever is read is a byte
 read_byte :
-    (rom : List ℕ) (s : AbsState) (entry : MState) (base : ℕ) (x : MState) (starting : Bool) (a : ℕ) (free : List ℕ) → IsRom rom → MeansParts s entry base x → IsVal s.core.ie
+    (rom : List ℕ) (s : AbsState) (entry : Activation) (base : ℕ) (x : MState) (starting : Bool) (a : ℕ) (free : List ℕ) → IsRom rom → MeansParts s entry base x → IsVal s.core.ie
     → slice_index free 0 ≤ 255 → (answer (mapped_at a) (view rom x starting) a free).value ≤ 255
 unfolding peek
 read_byte rom s entry base x starting a free r m q byte =
     answer_byte (mapped_at a) (view rom x starting) a free (m.memory.bytes a) (ie_byte s entry base x m q) r.bytes byte
 
-pub within_ctl : (c : Ctl) (entry : MState) (r : Banks) → HoldsController c entry r → InCtl c r
+pub within_ctl : (c : Ctl) (entry : Activation) (r : Banks) → HoldsController c entry r → InCtl c r
 within_ctl c entry r h = record {
   bank_least = h.bank_least;
   bank_most = h.bank_most;
@@ -176,7 +176,7 @@ pub rom_at : (a : ℕ) → a < 0x8000 → mapped_at a ≡ mapped.Rom
 unfolding mapped_at
 rom_at a h = grind (arith, nat_tests)
 
-known_rom : (rom : List ℕ) (a : ℕ) (entry : MState) (o : Option ℕ) (bank : ℕ) → ((i : ℕ) → slice_index rom i ≤ 255) → IfSome o (λ b. bank ≡ b) → Holds (rom_val rom a o) entry (rom_byte rom bank a)
+known_rom : (rom : List ℕ) (a : ℕ) (entry : Activation) (o : Option ℕ) (bank : ℕ) → ((i : ℕ) → slice_index rom i ≤ 255) → IfSome o (λ b. bank ≡ b) → Holds (rom_val rom a o) entry (rom_byte rom bank a)
 known_rom rom a entry None bank bytes h = any_holds entry _ (bytes _)
 known_rom rom a entry (Some b) bank bytes h = subst (λ n. Holds (single (rom_byte rom b a)) entry (rom_byte rom n a)) (sym h) (Holds-single _ entry)
 
@@ -224,7 +224,7 @@ ie_at a h = grind (arith, nat_tests)
 
 -- what is known of a byte stands for what is read
 Holds-val_at :
-    (rom : List ℕ) (s : AbsState) (entry : MState) (base : ℕ) (x : MState) (starting : Bool) (a : ℕ) (free : List ℕ) → IsRom rom → MeansParts s entry base x → IsVal s.core.ie
+    (rom : List ℕ) (s : AbsState) (entry : Activation) (base : ℕ) (x : MState) (starting : Bool) (a : ℕ) (free : List ℕ) → IsRom rom → MeansParts s entry base x → IsVal s.core.ie
     → a < 65536 → slice_index free 0 ≤ 255 → Holds (val_at rom s a) entry (answer (mapped_at a) (view rom x starting) a free).value
 unfolding val_at
 Holds-val_at rom s entry base x starting a free r m q lt byte =
@@ -261,7 +261,7 @@ unfolding peek
 ram_here rom x starting a free h = ram_answer (mapped_at a) a (view rom x starting) free (ram_byte a h)
 
 Holds-val_or_item :
-    (z : Setting) (rom : List ℕ) (s : AbsState) (entry : MState) (base : ℕ) (x : MState) (starting : Bool) (a : ℕ) (free : List ℕ) → IsBase z base → IsRom rom → MeansParts s entry base x
+    (z : Setting) (rom : List ℕ) (s : AbsState) (entry : Activation) (base : ℕ) (x : MState) (starting : Bool) (a : ℕ) (free : List ℕ) → IsBase z base → IsRom rom → MeansParts s entry base x
     → IsVal s.core.ie → a < 65536 → slice_index free 0 ≤ 255 → Holds (val_or_item z rom s a) entry (answer (mapped_at a) (view rom x starting) a free).value
 unfolding val_or_item
 Holds-val_or_item z rom s entry base x starting a free right r m q lt byte = choose (is_ram a) refl
@@ -278,17 +278,17 @@ Holds-val_or_item z rom s entry base x starting a free right r m q lt byte = cho
     choose false e = known
 
 -- the least interval that holds another one and a byte
-joined-old : (v : Val) (n k : ℕ) (entry : MState) → Holds v entry k → Holds (joined v n) entry k
+joined-old : (v : Val) (n k : ℕ) (entry : Activation) → Holds v entry k → Holds (joined v n) entry k
 joined-old v n k entry h =
     let least = h.least in
     let most = h.most in
     record { least = grind (arith, nat_tests); most = grind (arith, nat_tests); low = refl; origin = λ o e. cc }
 
-joined-new : (v : Val) (n : ℕ) (entry : MState) → Holds (joined v n) entry n
+joined-new : (v : Val) (n : ℕ) (entry : Activation) → Holds (joined v n) entry n
 joined-new v n entry = record { least = grind (arith, nat_tests); most = grind (arith, nat_tests); low = refl; origin = λ o e. cc }
 
 -- bytes of a bank
-Holds-table : (rom : List ℕ) (bank a more k : ℕ) (entry : MState) → k ≤ more → Holds (table rom bank a more) entry (rom_byte rom bank (a + k))
+Holds-table : (rom : List ℕ) (bank a more k : ℕ) (entry : Activation) → k ≤ more → Holds (table rom bank a more) entry (rom_byte rom bank (a + k))
 Holds-table rom bank a zero k entry h =
     let same : a ≡ a + k = omega arith in
     subst (λ n. Holds (single (rom_byte rom bank a)) entry (rom_byte rom bank n)) same (Holds-single _ entry)
@@ -321,7 +321,7 @@ unfolding known_bank
 known_bank-half rom c span a t = rw (t.half, t.first, t.here) refl
 
 Holds-table_by :
-    (o : Option ℕ) (rom : List ℕ) (span : Span) (a bank : ℕ) (entry : MState) → ((i : ℕ) → slice_index rom i ≤ 255) → IsIn span a → IfSome o (λ b. bank ≡ b)
+    (o : Option ℕ) (rom : List ℕ) (span : Span) (a bank : ℕ) (entry : Activation) → ((i : ℕ) → slice_index rom i ≤ 255) → IsIn span a → IfSome o (λ b. bank ≡ b)
     → Holds (table_by o rom span) entry (rom_byte rom bank a)
 Holds-table_by None rom span a bank entry bytes i h = any_holds entry _ (bytes _)
 Holds-table_by (Some b) rom span a bank entry bytes i h =
@@ -333,7 +333,7 @@ Holds-table_by (Some b) rom span a bank entry bytes i h =
     (subst (λ n. Holds (table rom b span.first (span.last - span.first)) entry (rom_byte rom b n)) there held)
 
 Holds-several :
-    (rules : Rules) (rom : List ℕ) (s : AbsState) (span : Span) (entry : MState) (base : ℕ) (x : MState) (starting : Bool) (a : ℕ) (free : List ℕ) → IsRom rom → MeansParts s entry base x
+    (rules : Rules) (rom : List ℕ) (s : AbsState) (span : Span) (entry : Activation) (base : ℕ) (x : MState) (starting : Bool) (a : ℕ) (free : List ℕ) → IsRom rom → MeansParts s entry base x
     → IsVal s.core.ie → IsIn span a → slice_index free 0 ≤ 255 → Holds (several_by rules rom s.core span) entry (answer (mapped_at a) (view rom x starting) a free).value
 Holds-several Simple rom s span entry base x starting a free r m q i byte = any_holds entry _ (read_byte rom s entry base x starting a free r m q byte)
 Holds-several Extended rom s span entry base x starting a free r m q i byte = choose (is_table span) refl
@@ -351,7 +351,7 @@ Holds-several Extended rom s span entry base x starting a free r m q i byte = ch
     choose false e = any_holds entry _ (read_byte rom s entry base x starting a free r m q byte)
 
 Holds-loaded :
-    (z : Setting) (rom : List ℕ) (s : AbsState) (span : Span) (entry : MState) (base : ℕ) (x : MState) (starting : Bool) (a : ℕ) (free : List ℕ) → IsBase z base → IsRom rom
+    (z : Setting) (rom : List ℕ) (s : AbsState) (span : Span) (entry : Activation) (base : ℕ) (x : MState) (starting : Bool) (a : ℕ) (free : List ℕ) → IsBase z base → IsRom rom
     → MeansParts s entry base x → IsVal s.core.ie → IsIn span a → a < 65536 → slice_index free 0 ≤ 255
     → Holds (loaded_val z rom s span) entry (answer (mapped_at a) (view rom x starting) a free).value
 unfolding loaded_val
@@ -372,7 +372,7 @@ unfolding within
 within-view rom x = refl
 
 pub IsLoaded-loaded_val :
-    (z : Setting) (rom : List ℕ) (s : AbsState) (span : Span) (entry : MState) (base : ℕ) (x : MState) (starting : Bool) (a : ℕ) (free : List ℕ)
+    (z : Setting) (rom : List ℕ) (s : AbsState) (span : Span) (entry : Activation) (base : ℕ) (x : MState) (starting : Bool) (a : ℕ) (free : List ℕ)
     → meets_closed_ram rom s.core span ≡ false → is_limited s.core span ≡ false → IsIn span a → a < 65536 → IsBase z base → MeansParts s entry base x → IsVal s.core.ie → IsRom rom
     → slice_index free 0 ≤ 255 → IsLoaded (view rom x starting) a free (loaded_val z rom s span) entry
 IsLoaded-loaded_val z rom s span entry base x starting a free ram limited i lt right m q r byte =

@@ -20,7 +20,7 @@ use Rattle.gb_abs.specs.Span.{IsIn, one, is_one}
 use Rattle.gb_abs.specs.Storage.{is_ram, peek}
 use Rattle.gb_abs.specs.Covering.{covers_origin}
 use Rattle.gb_abs.specs.Cells.{IsPlaced, ArePlaced, with_cell, widened, widened_cells}
-use Rattle.gb_abs.specs.Meaning.{Holds, MeansParts}
+use Rattle.gb_abs.specs.Meaning.{Activation, Holds, MeansParts}
 use Rattle.gb_abs.specs.Poked.{IsPoked}
 use Rattle.gb_abs.specs.Stack.{AreInRegion}
 use Rattle.gb_abs.proofs.CellLaws.{ArePlaced-with_cell, ArePlaced-without_cells}
@@ -32,7 +32,7 @@ use Rattle.gb_abs_memory.proofs.ItemLaws.{AreItems-stored, length-items_stored}
 
 -- a byte of RAM is stored to one of the addresses, in one of the states; by the rules of versions 1 and 2 they lie outside the
 -- stack region
-pub record AtRam (z : Setting) (region : Region) (s : AbsState) (span : Span) (v : Val) (entry : MState) (base : ℕ) (x : MState) (t : Storage) (a n : ℕ) : Type 0 where
+pub record AtRam (z : Setting) (region : Region) (s : AbsState) (span : Span) (v : Val) (entry : Activation) (base : ℕ) (x : MState) (t : Storage) (a n : ℕ) : Type 0 where
   pub base_is : IsBase z base
   pub means : MeansParts s entry base x
   pub placed : ArePlaced region s.cells
@@ -48,7 +48,7 @@ pub record AtRam (z : Setting) (region : Region) (s : AbsState) (span : Span) (v
 
 -- a byte of the stack region is no cell's
 AreCells-region :
-    (region : Region) (cells : List Cell) (entry : MState) (a n : ℕ) (s t : Storage) → IsPoked a n s t → meets region a a ≡ true → ArePlaced region cells
+    (region : Region) (cells : List Cell) (entry : Activation) (a n : ℕ) (s t : Storage) → IsPoked a n s t → meets region a a ≡ true → ArePlaced region cells
     → AreCells cells entry s → AreCells cells entry t
 AreCells-region region [] entry a n s t p met placed h = tt
 AreCells-region region (c ∷ cells) entry a n s t p met placed h = (
@@ -59,7 +59,7 @@ AreCells-region region (c ∷ cells) entry a n s t p met placed h = (
     differs : (b : ℕ) → meets region b b ≡ false → (b == a) ≡ false
     differs b apart = grind (arith, nat_tests)
 
-Holds-wider : (v w : Val) (entry : MState) (n : ℕ) → Holds v entry n → Holds (widened v w) entry n
+Holds-wider : (v w : Val) (entry : Activation) (n : ℕ) → Holds v entry n → Holds (widened v w) entry n
 Holds-wider v w entry n h =
     let least = h.least in
     let most = h.most in
@@ -69,7 +69,7 @@ Holds-wider v w entry n h =
     kept o true covers e = origin_from v.origin w.origin o covers e
     kept o false covers e = absurd (let bad : None ≡ Some o = e in cc)
 
-AreCells-wider : (cells : List Cell) (entry : MState) (first last : ℕ) (v : Val) (s : Storage) → AreCells cells entry s → AreCells (widened_cells first last v cells) entry s
+AreCells-wider : (cells : List Cell) (entry : Activation) (first last : ℕ) (v : Val) (s : Storage) → AreCells cells entry s → AreCells (widened_cells first last v cells) entry s
 unfolding widened_cells
 AreCells-wider [] entry first last v s h = tt
 AreCells-wider (c ∷ cells) entry first last v s h = (wider (is_within first last c.address), AreCells-wider cells entry first last v s h.1)
@@ -80,13 +80,13 @@ AreCells-wider (c ∷ cells) entry first last v s h = (wider (is_within first la
     wider false = h.0
 
 -- cells stand for their bytes, outside the region
-record Stand (region : Region) (cells : List Cell) (entry : MState) (t : Storage) : Type 0 where
+record Stand (region : Region) (cells : List Cell) (entry : Activation) (t : Storage) : Type 0 where
   means : AreCells cells entry t
   placed : ArePlaced region cells
 
 -- an address outside the region gets a cell
 Stand-with_cell :
-    (z : Setting) (room : ℕ) (region : Region) (s : AbsState) (span : Span) (v : Val) (entry : MState) (base : ℕ) (x : MState) (t : Storage) (a n : ℕ)
+    (z : Setting) (room : ℕ) (region : Region) (s : AbsState) (span : Span) (v : Val) (entry : Activation) (base : ℕ) (x : MState) (t : Storage) (a n : ℕ)
     → AtRam z region s span v entry base x t a n → meets region a a ≡ false → Stand region (with_cell room (record { address = a; val = v }) s.cells) entry t
 Stand-with_cell z room region s span v entry base x t a n h apart =
     let ram = h.ram in
@@ -97,7 +97,7 @@ Stand-with_cell z room region s span v entry base x t a n h apart =
     }
 
 Stand-one :
-    (z : Setting) (rules : Rules) (region : Region) (s : AbsState) (span : Span) (v : Val) (entry : MState) (base : ℕ) (x : MState) (t : Storage) (a n : ℕ)
+    (z : Setting) (rules : Rules) (region : Region) (s : AbsState) (span : Span) (v : Val) (entry : Activation) (base : ℕ) (x : MState) (t : Storage) (a n : ℕ)
     → AtRam z region s span v entry base x t a n → z.rules ≡ rules → Stand region (one_stored rules region (one a) v s.cells) entry t
 Stand-one z Simple region s span v entry base x t a n h e =
     Stand-with_cell z (cell_room Simple) region s span v entry base x t a n h (meets-inside region span.first span.last a (h.simple e) h.at.first h.at.last)
@@ -108,7 +108,7 @@ Stand-one z Extended region s span v entry base x t a n h e = choose (meets regi
     choose false apart = Stand-with_cell z (cell_room Extended) region s span v entry base x t a n h apart
 
 Stand-several :
-    (z : Setting) (rules : Rules) (region : Region) (s : AbsState) (span : Span) (v : Val) (entry : MState) (base : ℕ) (x : MState) (t : Storage) (a n : ℕ)
+    (z : Setting) (rules : Rules) (region : Region) (s : AbsState) (span : Span) (v : Val) (entry : Activation) (base : ℕ) (x : MState) (t : Storage) (a n : ℕ)
     → AtRam z region s span v entry base x t a n → z.rules ≡ rules → Stand region (several_stored rules span v s.cells) entry t
 Stand-several z Simple region s span v entry base x t a n h e =
     record {
@@ -124,7 +124,7 @@ Stand-several z Extended region s span v entry base x t a n h e =
         (MeansParts-widened_cells region s entry base x t a n span.first span.last v h.means h.poked h.holds h.at.first h.at.last apart h.placed h.room h.is_region).cells
 
 Stand-stored :
-    (z : Setting) (region : Region) (s : AbsState) (span : Span) (v : Val) (entry : MState) (base : ℕ) (x : MState) (t : Storage) (a n : ℕ)
+    (z : Setting) (region : Region) (s : AbsState) (span : Span) (v : Val) (entry : Activation) (base : ℕ) (x : MState) (t : Storage) (a n : ℕ)
     → AtRam z region s span v entry base x t a n → Stand region (cells_stored z.rules region span v s.cells) entry t
 Stand-stored z region s span v entry base x t a n h = choose (is_one span) refl
   where
@@ -144,14 +144,14 @@ Stand-stored z region s span v entry base x t a n h = choose (is_one span) refl
 -- ---- states
 
 pub ArePlaced-ram_stored :
-    (z : Setting) (region : Region) (s : AbsState) (span : Span) (v : Val) (entry : MState) (base : ℕ) (x : MState) (t : Storage) (a n : ℕ)
+    (z : Setting) (region : Region) (s : AbsState) (span : Span) (v : Val) (entry : Activation) (base : ℕ) (x : MState) (t : Storage) (a n : ℕ)
     → AtRam z region s span v entry base x t a n → ArePlaced region (ram_stored z region span v s).cells
 unfolding ram_stored
 ArePlaced-ram_stored z region s span v entry base x t a n h = (Stand-stored z region s span v entry base x t a n h).placed
 
 -- what is left is meant
 pub MeansParts-ram_stored :
-    (z : Setting) (region : Region) (s : AbsState) (span : Span) (v : Val) (entry : MState) (base : ℕ) (x : MState) (t : Storage) (a n : ℕ)
+    (z : Setting) (region : Region) (s : AbsState) (span : Span) (v : Val) (entry : Activation) (base : ℕ) (x : MState) (t : Storage) (a n : ℕ)
     → AtRam z region s span v entry base x t a n → MeansParts (ram_stored z region span v s) entry base (record x { storage = t })
 unfolding ram_stored
 MeansParts-ram_stored z region s span v entry base x t a n h =

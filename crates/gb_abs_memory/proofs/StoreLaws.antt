@@ -32,7 +32,7 @@ use Rattle.gb_abs.specs.Storage.{is_ram, peek}
 use Rattle.gb_abs.specs.Operations.{with_core}
 use Rattle.gb_abs.specs.Cells.{ArePlaced}
 use Rattle.gb_abs.specs.Stack.{AreInRegion}
-use Rattle.gb_abs.specs.Meaning.{Holds, HoldsController, MeansCore, AreItems, MeansParts, IsMemory}
+use Rattle.gb_abs.specs.Meaning.{Activation, Holds, KeepsBanks, HoldsController, MeansCore, AreItems, MeansParts, IsMemory}
 use Rattle.gb_abs.proofs.StorageLaws.{region_in_ram, wrote-poked, wrote_ram-starting, wrote_ram-rom}
 use Rattle.gb_abs_memory.specs.declared.windows.ControllerRegister.{ControllerRegister}
 use Rattle.gb_abs_memory.specs.declared.windows.ControllerRegister.TheVariants as register
@@ -40,14 +40,14 @@ use Rattle.gb_abs_memory.specs.declared.windows.Window.{Window}
 use Rattle.gb_abs_memory.specs.declared.store.Area.{Area}
 use Rattle.gb_abs_memory.specs.declared.store.Area.TheVariants as area
 use Rattle.gb_abs_memory.specs.declared.store.Stored.{Stored}
-use Rattle.gb_abs_memory.specs.Windows.{InCtl, windows, window_of, ctl_after}
+use Rattle.gb_abs_memory.specs.Windows.{InCtl, windows, window_of, ctl_after, kept_after, ctl_written}
 use Rattle.gb_abs_memory.specs.Access.{may_be_closed, meets_closed_ram, may_copy_closed_ram, store_meets_closed_ram, is_limited, may_start_oam_transfer, is_store_limited, area_by, area_of, is_range, is_below_base, is_ram_allowed, is_allowed, is_storable, store_reason, ram_stored, stored_in, stored_state, starts_oam_transfer, store}
 use Rattle.gb_abs_memory.specs.Sound.{view, IsStored, IsSoundStore}
 use Rattle.gb_abs_memory.specs.Kept.{keeps, keeps_by, IsKept}
 use Rattle.gb_abs_memory.proofs.ItemLaws.{items_stored-simple, length-items_stored}
 use Rattle.gb_abs_memory.proofs.RamLaws.{AtRam, ArePlaced-ram_stored, MeansParts-ram_stored}
 use Rattle.gb_abs_memory.proofs.WindowLaws.{after_window}
-use Rattle.gb_abs_memory.proofs.ControllerLaws.{IsInWindow, IsInWindow-window_of, window-sound, window-nothing}
+use Rattle.gb_abs_memory.proofs.ControllerLaws.{IsInWindow, IsInWindow-window_of, window-sound, window-nothing, kept_after_sound}
 use Rattle.gb_abs_memory.proofs.LoadLaws.{both_false, within_ctl, rom_at, ram-open, not_limited, taken, not_refused, if_ok}
 
 -- ---- no fault
@@ -59,7 +59,7 @@ and_first true true false d h p q = refl
 and_first true false c d h p q = refl
 and_first false b c d h p q = absurd (let bad : false ≡ true = q in cc)
 
-no_page : (v : Val) (entry : MState) (n : ℕ) → Holds v entry n → (nat_le v.lo 0xBF && nat_le 0xA0 v.hi) ≡ false → is_within 0xA0 0xBF n ≡ false
+no_page : (v : Val) (entry : Activation) (n : ℕ) → Holds v entry n → (nat_le v.lo 0xBF && nat_le 0xA0 v.hi) ≡ false → is_within 0xA0 0xBF n ≡ false
 no_page v entry n m h =
     let low = m.least in
     let high = m.most in
@@ -73,7 +73,7 @@ meets_at span a b i h =
 
 -- an OAM transfer that is started copies no closed cartridge RAM
 page_open :
-    (rom : List ℕ) (core : Core) (entry : MState) (span : Span) (v : Val) (a n : ℕ) → may_copy_closed_ram rom core span v ≡ false → may_be_closed rom core ≡ true
+    (rom : List ℕ) (core : Core) (entry : Activation) (span : Span) (v : Val) (a n : ℕ) → may_copy_closed_ram rom core span v ≡ false → may_be_closed rom core ≡ true
     → IsIn span a → Holds v entry n → ((a == 0xFF46) && is_within 0xA0 0xBF n) ≡ false
 unfolding may_copy_closed_ram
 page_open rom core entry span v a n h closed i m = choose (a == 0xFF46) refl
@@ -89,7 +89,7 @@ apart_from first last a span i h =
     grind (arith, nat_tests)
 
 closed_faultless :
-    (rom : List ℕ) (core : Core) (entry x : MState) (starting : Bool) (span : Span) (v : Val) (a n : ℕ) → store_meets_closed_ram rom core span v ≡ false
+    (rom : List ℕ) (core : Core) (entry : Activation) (x : MState) (starting : Bool) (span : Span) (v : Val) (a n : ℕ) → store_meets_closed_ram rom core span v ≡ false
     → MeansCore core entry x → IsIn span a → Holds v entry n
     → ((is_within 0xA000 0xBFFF a || ((a == 0xFF46) && is_within 0xA0 0xBF n)) && is_ram_closed (view rom x starting)) ≡ false
 unfolding store_meets_closed_ram meets_closed_ram
@@ -109,7 +109,7 @@ closed_faultless rom core entry x starting span v a n h m i k = choose (may_be_c
     choose false e = both_false _ _ (inr (ram-open rom core entry x starting m e))
 
 pub write-faultless :
-    (rom : List ℕ) (core : Core) (entry x : MState) (starting : Bool) (span : Span) (v : Val) (a n : ℕ) → store_meets_closed_ram rom core span v ≡ false
+    (rom : List ℕ) (core : Core) (entry : Activation) (x : MState) (starting : Bool) (span : Span) (v : Val) (a n : ℕ) → store_meets_closed_ram rom core span v ≡ false
     → is_limited core span ≡ false → MeansCore core entry x → IsIn span a → Holds v entry n → write_faults (view rom x starting) a n ≡ no_faults
 unfolding write_faults access_faults
 write-faultless rom core entry x starting span v a n ram limited m i k =
@@ -122,12 +122,12 @@ unfolding wrote
 written_at m a n k open_ e = rw open_ (ap (λ j. wrote_by j m a n) e)
 
 -- a state holds of another storage with the same RAM
-items_same : (items : List Val) (entry : MState) (top : ℕ) (s t : Storage) → ((b : ℕ) → peek t b ≡ peek s b) → AreItems items entry top s → AreItems items entry top t
+items_same : (items : List Val) (entry : Activation) (top : ℕ) (s t : Storage) → ((b : ℕ) → peek t b ≡ peek s b) → AreItems items entry top s → AreItems items entry top t
 items_same [] entry top s t e h = tt
 items_same (v ∷ items) entry top s t e h = (subst (λ n. Holds v entry n) (sym (e (top - 1))) h.0, items_same items entry (top - 1) s t e h.1)
 
 cells_same :
-    (cells : List Cell) (entry : MState) (s t : Storage) → ((b : ℕ) → peek t b ≡ peek s b)
+    (cells : List Cell) (entry : Activation) (s t : Storage) → ((b : ℕ) → peek t b ≡ peek s b)
     → AllByRecursion (λ c. Holds c.val entry (peek s c.address)) cells → AllByRecursion (λ c. Holds c.val entry (peek t c.address)) cells
 cells_same [] entry s t e h = tt
 cells_same (c ∷ cells) entry s t e h = (subst (λ n. Holds c.val entry n) (sym (e c.address)) h.0, cells_same cells entry s t e h.1)
@@ -145,7 +145,7 @@ memory_same t banks ie m = record { work = m.work; high = m.high; bytes = λ b. 
 
 -- another controller's registers, and another IE
 MeansParts-others :
-    (s : AbsState) (core : Core) (entry : MState) (base : ℕ) (x : MState) (banks : Banks) (ie : ℕ) → MeansParts s entry base x → core.stack_set ≡ s.core.stack_set
+    (s : AbsState) (core : Core) (entry : Activation) (base : ℕ) (x : MState) (banks : Banks) (ie : ℕ) → MeansParts s entry base x → core.stack_set ≡ s.core.stack_set
     → MeansCore core entry (record x { storage = with_others x.storage banks ie }) → MeansParts (with_core s core) entry base (record x { storage = with_others x.storage banks ie })
 MeansParts-others s core entry base x banks ie m set c =
     record {
@@ -159,7 +159,7 @@ MeansParts-others s core entry base x banks ie m set c =
 
 -- ---- a register of the controller
 
-controller_core : (core : Core) (ctl : Ctl) (entry x : MState) (banks : Banks) → MeansCore core entry x → HoldsController ctl entry banks
+controller_core : (core : Core) (ctl : Ctl) (entry : Activation) (x : MState) (banks : Banks) → MeansCore core entry x → HoldsController ctl entry banks
     → MeansCore (record core { ctl = ctl }) entry (record x { storage = with_others x.storage banks x.storage.ie })
 controller_core core ctl entry x banks m h =
     record {
@@ -173,36 +173,36 @@ controller_core core ctl entry x banks m h =
       stopped = m.stopped;
     }
 
-not_kept : (k : Kind) (r : ControllerRegister) (v : Val) (c : Ctl) → (ctl_after k r v c).is_kept ≡ true → ⊥
-unfolding ctl_after
-not_kept k register.Gate v c h = cc
-not_kept k register.Bank v c h = cc
-not_kept k register.LowBank v c h = cc
-not_kept k register.HighBank v c h = cc
-not_kept k register.Second v c h = cc
-not_kept k register.Mode v c h = cc
-
 controller_holds :
-    (k : Kind) (r : ControllerRegister) (v : Val) (c : Ctl) (entry : MState) (banks : Banks) → InCtl (ctl_after k r v c) banks → HoldsController (ctl_after k r v c) entry banks
-controller_holds k r v c entry banks i = record {
+    (whole : Bool) (k : Kind) (r : ControllerRegister) (v : Val) (c : Ctl) (entry : Activation) (banks : Banks)
+    → InCtl (ctl_after k r v c) banks → KeepsBanks (kept_after whole r c.kept) entry.entered.storage.banks banks
+    → HoldsController (ctl_written whole k r v c) entry banks
+controller_holds whole k r v c entry banks i m = record {
   bank_least = i.bank_least;
   bank_most = i.bank_most;
   second_least = i.second_least;
   second_most = i.second_most;
   gate = i.gate;
   mode = i.mode;
-  kept = λ e. absurd (not_kept k r v c e);
+  kept = m;
 }
+
+-- the controller after a store to a window
+abbrev written_in : Bool → Kind → Option ControllerRegister → Val → Ctl → Ctl
+written_in whole k None v c = c
+written_in whole k (Some r) v c = ctl_written whole k r v c
 
 -- a store in a window
 window_holds :
-    (k : Kind) (w : Window) (a n : ℕ) (v : Val) (c : Ctl) (entry : MState) (old : Banks) (o : Option ControllerRegister) → IsInWindow k w a → w.register ≡ o
-    → HoldsController c entry old → Holds v entry n → n ≤ 255 → HoldsController (after_window k o v c) entry (kind_after k old a n)
-window_holds k w a n v c entry old None at e h m byte = subst (λ b. HoldsController c entry b) (sym (window-nothing k w a n old at e)) h
-window_holds k w a n v c entry old (Some r) at e h m byte =
-    controller_holds k r v c entry _
+    (whole : Bool) (k : Kind) (w : Window) (a n : ℕ) (v : Val) (c : Ctl) (entry : Activation) (old : Banks) (o : Option ControllerRegister) → IsInWindow k w a → w.register ≡ o
+    → HoldsController c entry old → Holds v entry n → n ≤ 255 → HoldsController (written_in whole k o v c) entry (kind_after k old a n)
+window_holds whole k w a n v c entry old None at e h m byte = subst (λ b. HoldsController c entry b) (sym (window-nothing k w a n old at e)) h
+window_holds whole k w a n v c entry old (Some r) at e h m byte =
+    controller_holds whole k r v c entry _
     (subst (λ o. InCtl (after_window k o v c) (kind_after k old a n)) e
     (window-sound k w a n v c old at (within_ctl c entry old h) (record { least = m.least; most = m.most }) byte))
+    ((kept_after_sound whole r c.kept _ refl).gives k a n entry.entered.storage.banks old
+    (record { window = w; is_window = at.is_window; register = e; first = at.first; last = at.last }) byte h.kept)
 
 -- ---- one store
 
@@ -212,7 +212,7 @@ pub record IsLawful (z : Setting) (region : Region) (ranges : List Range) (base 
   pub held : keeps z ≡ true → meets region a a ≡ true → list_any (is_range (one a)) ranges ≡ false → a < base
 
 -- a byte is stored to one of the addresses, in one of the states, and nothing is against it
-pub record AtStore (z : Setting) (rom : List ℕ) (region : Region) (ranges : List Range) (s : AbsState) (span : Span) (v : Val) (entry : MState) (base : ℕ) (x : MState) (starting : Bool) (a n : ℕ) : Type 0 where
+pub record AtStore (z : Setting) (rom : List ℕ) (region : Region) (ranges : List Range) (s : AbsState) (span : Span) (v : Val) (entry : Activation) (base : ℕ) (x : MState) (starting : Bool) (a n : ℕ) : Type 0 where
   pub means : MeansParts s entry base x
   pub placed : ArePlaced region s.cells
   pub room : AreInRegion region base (length s.items)
@@ -229,7 +229,7 @@ pub record AtStore (z : Setting) (rom : List ℕ) (region : Region) (ranges : Li
 
 -- what is left, given as another view
 stored_as :
-    (z : Setting) (m m' : View) (a n : ℕ) (region : Region) (ranges : List Range) (s : AbsState) (entry : MState) (base : ℕ) (x : MState) (o : Stored) → wrote m a n ≡ m' → write_faults m a n ≡ no_faults
+    (z : Setting) (m m' : View) (a n : ℕ) (region : Region) (ranges : List Range) (s : AbsState) (entry : Activation) (base : ℕ) (x : MState) (o : Stored) → wrote m a n ≡ m' → write_faults m a n ≡ no_faults
     → MeansParts o.state entry base (record x { storage = m'.storage }) → m'.starting ≡ (m.starting || o.starts) → m'.rom ≡ m.rom → o.state.items ≡ s.items
     → ArePlaced region o.state.cells → ((b : ℕ) → peek m'.storage b ≡ peek x.storage b) → IsLawful z region ranges base a
     → IsStored z m a n region ranges s entry base x o
@@ -282,7 +282,7 @@ window_below k w a at =
     omega arith
 
 window_state : (z : Setting) (region : Region) (k : Kind) (o : Option ControllerRegister) (span : Span) (v : Val) (s : AbsState)
-    → with_core s (record s.core { ctl = after_window k o v s.core.ctl }) ≡ stored_in z region (Some (area.Controller o)) k span v s
+    → with_core s (record s.core { ctl = written_in z.is_whole k o v s.core.ctl }) ≡ stored_in z region (Some (area.Controller o)) k span v s
 window_state z region k None span v s = refl
 window_state z region k (Some r) span v s = refl
 
@@ -290,7 +290,7 @@ below_not : (a : ℕ) → a < 0x8000 → (a == 0xFF46) ≡ false
 below_not a h = grind (arith, nat_tests)
 
 stored_window :
-    (z : Setting) (rom : List ℕ) (region : Region) (ranges : List Range) (s : AbsState) (span : Span) (v : Val) (entry : MState) (base : ℕ) (x : MState) (starting : Bool) (a n : ℕ) (w : Window)
+    (z : Setting) (rom : List ℕ) (region : Region) (ranges : List Range) (s : AbsState) (span : Span) (v : Val) (entry : Activation) (base : ℕ) (x : MState) (starting : Bool) (a n : ℕ) (w : Window)
     → AtStore z rom region ranges s span v entry base x starting a n → window_of (kind_of rom) span ≡ Some w
     → IsStored z (view rom x starting) a n region ranges s entry base x (record { state = stored_in z region (Some (area.Controller w.register)) (kind_of rom) span v s; starts = starts_oam_transfer span })
 unfolding banks_after
@@ -299,8 +299,8 @@ stored_window z rom region ranges s span v entry base x starting a n w h e =
     let low = window_below (kind_of rom) w a at in
     let m = h.means in
     let banks = kind_after (kind_of rom) x.storage.banks a n in
-    let ctl = after_window (kind_of rom) w.register v s.core.ctl in
-    let holds = window_holds (kind_of rom) w a n v s.core.ctl entry x.storage.banks w.register at refl m.core.controller h.holds h.byte in
+    let ctl = written_in z.is_whole (kind_of rom) w.register v s.core.ctl in
+    let holds = window_holds z.is_whole (kind_of rom) w a n v s.core.ctl entry x.storage.banks w.register at refl m.core.controller h.holds h.byte in
     let core = controller_core s.core ctl entry x banks m.core holds in
     subst (λ (t : AbsState). IsStored z (view rom x starting) a n region ranges s entry base x (record { state = t; starts = starts_oam_transfer span })) (window_state z region (kind_of rom) w.register span v s)
     (stored_as z (view rom x starting) (wrote_by mapped.Rom (view rom x starting) a n) a n region ranges s entry base x _ (written_at (view rom x starting) a n mapped.Rom h.free (rom_at a low)) h.faults
@@ -351,7 +351,7 @@ starts_here span a i h seen =
     grind (arith, nat_tests)
 
 stored_hardware :
-    (z : Setting) (rom : List ℕ) (region : Region) (ranges : List Range) (s : AbsState) (span : Span) (v : Val) (entry : MState) (base : ℕ) (x : MState) (starting : Bool) (a n : ℕ)
+    (z : Setting) (rom : List ℕ) (region : Region) (ranges : List Range) (s : AbsState) (span : Span) (v : Val) (entry : Activation) (base : ℕ) (x : MState) (starting : Bool) (a n : ℕ)
     → AtStore z rom region ranges s span v entry base x starting a n → is_hardware span ≡ true
     → IsStored z (view rom x starting) a n region ranges s entry base x (record { state = s; starts = starts_oam_transfer span })
 stored_hardware z rom region ranges s span v entry base x starting a n h inside = choose (a == 0xFF46) refl
@@ -386,7 +386,7 @@ apart_at region span a i h =
     grind (arith, nat_tests)
 
 stored_ram :
-    (z : Setting) (rom : List ℕ) (region : Region) (ranges : List Range) (s : AbsState) (span : Span) (v : Val) (entry : MState) (base : ℕ) (x : MState) (starting : Bool) (a n : ℕ)
+    (z : Setting) (rom : List ℕ) (region : Region) (ranges : List Range) (s : AbsState) (span : Span) (v : Val) (entry : Activation) (base : ℕ) (x : MState) (starting : Bool) (a n : ℕ)
     → AtStore z rom region ranges s span v entry base x starting a n → is_ram_span span ≡ true → (z.rules ≡ Simple → meets region span.first span.last ≡ false)
     → IsStored z (view rom x starting) a n region ranges s entry base x (record { state = ram_stored z region span v s; starts = starts_oam_transfer span })
 unfolding ram_stored
@@ -423,7 +423,7 @@ ie_mapped a h = grind (arith, nat_tests)
 ie_not : (a : ℕ) → a ≡ 0xFFFF → (a == 0xFF46) ≡ false
 ie_not a h = grind (arith, nat_tests)
 
-ie_core : (core : Core) (v : Val) (entry x : MState) (n : ℕ) → MeansCore core entry x → Holds v entry n → MeansCore (record core { ie = v }) entry (record x { storage = with_others x.storage x.storage.banks n })
+ie_core : (core : Core) (v : Val) (entry : Activation) (x : MState) (n : ℕ) → MeansCore core entry x → Holds v entry n → MeansCore (record core { ie = v }) entry (record x { storage = with_others x.storage x.storage.banks n })
 ie_core core v entry x n m h =
     record {
       registers = m.registers;
@@ -437,7 +437,7 @@ ie_core core v entry x n m h =
     }
 
 stored_ie :
-    (z : Setting) (rom : List ℕ) (region : Region) (ranges : List Range) (s : AbsState) (span : Span) (v : Val) (entry : MState) (base : ℕ) (x : MState) (starting : Bool) (a n : ℕ)
+    (z : Setting) (rom : List ℕ) (region : Region) (ranges : List Range) (s : AbsState) (span : Span) (v : Val) (entry : Activation) (base : ℕ) (x : MState) (starting : Bool) (a n : ℕ)
     → AtStore z rom region ranges s span v entry base x starting a n → is_inside 0xFFFF 0xFFFF span ≡ true
     → IsStored z (view rom x starting) a n region ranges s entry base x (record { state = with_core s (record s.core { ie = v }); starts = starts_oam_transfer span })
 stored_ie z rom region ranges s span v entry base x starting a n h inside =
@@ -471,7 +471,7 @@ apart_simple : (z : Setting) (region : Region) (ranges : List Range) (span : Spa
 apart_simple z region ranges span e allowed = not-true _ (first_true _ _ (subst (λ rules. is_ram_allowed rules z region ranges span ≡ true) e allowed))
 
 stored_above :
-    (z : Setting) (rom : List ℕ) (region : Region) (ranges : List Range) (s : AbsState) (span : Span) (v : Val) (entry : MState) (base : ℕ) (x : MState) (starting : Bool) (a n : ℕ)
+    (z : Setting) (rom : List ℕ) (region : Region) (ranges : List Range) (s : AbsState) (span : Span) (v : Val) (entry : Activation) (base : ℕ) (x : MState) (starting : Bool) (a n : ℕ)
     → AtStore z rom region ranges s span v entry base x starting a n → is_allowed z (area_by None span) region ranges span ≡ true
     → IsStored z (view rom x starting) a n region ranges s entry base x (leaves z region (area_by None span) (kind_of rom) span v s)
 stored_above z rom region ranges s span v entry base x starting a n h = choose (is_hardware span) (is_ram_span span) (is_inside 0xFFFF 0xFFFF span) (λ e. e) (λ e. e) (λ e. e)
@@ -486,7 +486,7 @@ stored_above z rom region ranges s span v entry base x starting a n h = choose (
     choose false false false p q r allowed = absurd (let bad : false ≡ true = allowed in cc)
 
 stored_by :
-    (z : Setting) (rom : List ℕ) (region : Region) (ranges : List Range) (s : AbsState) (span : Span) (v : Val) (entry : MState) (base : ℕ) (x : MState) (starting : Bool) (a n : ℕ) (o : Option Window)
+    (z : Setting) (rom : List ℕ) (region : Region) (ranges : List Range) (s : AbsState) (span : Span) (v : Val) (entry : Activation) (base : ℕ) (x : MState) (starting : Bool) (a n : ℕ) (o : Option Window)
     → AtStore z rom region ranges s span v entry base x starting a n → window_of (kind_of rom) span ≡ o → is_allowed z (area_by o span) region ranges span ≡ true
     → IsStored z (view rom x starting) a n region ranges s entry base x (leaves z region (area_by o span) (kind_of rom) span v s)
 stored_by z rom region ranges s span v entry base x starting a n None h e allowed = stored_above z rom region ranges s span v entry base x starting a n h allowed
@@ -627,7 +627,7 @@ IsSoundStore-stored_state z rom region ranges s span v storable ram limited = re
 
 -- what a store leaves is what a bus shows of the state after it
 pub stored-view :
-    (z : Setting) (rom : List ℕ) (region : Region) (ranges : List Range) (s : AbsState) (entry : MState) (base : ℕ) (x : MState) (starting : Bool) (a n : ℕ) (o : Stored)
+    (z : Setting) (rom : List ℕ) (region : Region) (ranges : List Range) (s : AbsState) (entry : Activation) (base : ℕ) (x : MState) (starting : Bool) (a n : ℕ) (o : Stored)
     → IsStored z (view rom x starting) a n region ranges s entry base x o
     → wrote (view rom x starting) a n ≡ view rom (record x { storage = (wrote (view rom x starting) a n).storage }) (starting || o.starts)
 stored-view z rom region ranges s entry base x starting a n o h = same (wrote (view rom x starting) a n) h.rom h.starting

@@ -8,13 +8,15 @@ use Rattle.gb_ops.specs.Cartridge.{at_least_one, kind_after}
 use Rattle.gb_domain.specs.declared.types.Val.{Val}
 use Rattle.gb_domain.specs.declared.types.May.{May}
 use Rattle.gb_domain.specs.declared.types.Ctl.{Ctl}
+use Rattle.gb_domain.specs.declared.types.KeptBanks.{KeptBanks}
+use Rattle.gb_abs.specs.Meaning.{KeepsBanks}
 use Rattle.gb_domain.specs.Rules.{IsVal, IsCtl, has_value}
 use Rattle.gb_abs.specs.Below.gb_vals.Meaning.{InBounds, may_be}
 use Rattle.gb_abs.proofs.Below.gb_vals_laws.MeaningLaws.{may_be-by}
 use Rattle.gb_abs_memory.specs.declared.windows.ControllerRegister.{ControllerRegister}
 use Rattle.gb_abs_memory.specs.declared.windows.ControllerRegister.TheVariants as register
 use Rattle.gb_abs_memory.specs.declared.windows.Window.{Window}
-use Rattle.gb_abs_memory.specs.Windows.{cut_least, cut_most, has_rest, has_other_rest, gate_after, mode_after, bank_after, low_bank_after, high_bank_after, second_after, bank_values, second_values, ctl_after, InCtl, Leads, IsLeast}
+use Rattle.gb_abs_memory.specs.Windows.{kept_but, ctl_written, cut_least, cut_most, has_rest, has_other_rest, gate_after, mode_after, bank_after, low_bank_after, high_bank_after, second_after, bank_values, second_values, ctl_after, InCtl, Leads, IsLeast}
 use Rattle.gb_abs_memory.proofs.CutLaws.{cut_holds, cut_least-reached, cut_most-reached, cut_most-below, cut_order}
 
 -- ---- the gate and the mode
@@ -68,7 +70,7 @@ write_bank g r n = record r { bank = g r.bank n }
 pub record IsSound (write : Banks → ℕ → Banks) (v : Val) (c after : Ctl) : Type 0 where
   pub gives : (n : ℕ) (old : Banks) → InCtl c old → InBounds v n → n ≤ 255 → InCtl after (write old n)
 
-pub gate_sound : (g : ℕ → Bool) (m : May) (v : Val) (c : Ctl) → ((n : ℕ) → InBounds v n → may_be m (g n) ≡ true) → IsSound (write_gate g) v c (record c { gate = m; is_kept = false })
+pub gate_sound : (g : ℕ → Bool) (m : May) (v : Val) (c : Ctl) → ((n : ℕ) → InBounds v n → may_be m (g n) ≡ true) → IsSound (write_gate g) v c (record c { gate = m })
 gate_sound g m v c h = record {
   gives = λ n old w i byte. record {
     bank_least = w.bank_least;
@@ -80,7 +82,7 @@ gate_sound g m v c h = record {
   };
 }
 
-pub mode_sound : (g : ℕ → Bool) (m : May) (v : Val) (c : Ctl) → ((n : ℕ) → InBounds v n → may_be m (g n) ≡ true) → IsSound (write_mode g) v c (record c { mode = m; is_kept = false })
+pub mode_sound : (g : ℕ → Bool) (m : May) (v : Val) (c : Ctl) → ((n : ℕ) → InBounds v n → may_be m (g n) ≡ true) → IsSound (write_mode g) v c (record c { mode = m })
 mode_sound g m v c h = record {
   gives = λ n old w i byte. record {
     bank_least = w.bank_least;
@@ -94,7 +96,7 @@ mode_sound g m v c h = record {
 
 second_sound :
     (g : ℕ → ℕ) (lo hi : ℕ) (v : Val) (c : Ctl) → ((n : ℕ) → InBounds v n → n ≤ 255 → (lo ≤ g n) × (g n ≤ hi))
-    → IsSound (write_second g) v c (record c { second_lo = lo; second_hi = hi; is_kept = false })
+    → IsSound (write_second g) v c (record c { second_lo = lo; second_hi = hi })
 second_sound g lo hi v c h = record {
   gives = λ n old w i byte. record {
     bank_least = w.bank_least;
@@ -108,7 +110,7 @@ second_sound g lo hi v c h = record {
 
 bank_sound :
     (g : ℕ → ℕ → ℕ) (lo hi : ℕ) (v : Val) (c : Ctl) → ((b n : ℕ) → c.bank_lo ≤ b → b ≤ c.bank_hi → InBounds v n → (lo ≤ g b n) × (g b n ≤ hi))
-    → IsSound (write_bank g) v c (record c { bank_lo = lo; bank_hi = hi; is_kept = false })
+    → IsSound (write_bank g) v c (record c { bank_lo = lo; bank_hi = hi })
 bank_sound g lo hi v c h = record {
   gives = λ n old w i byte. record {
     bank_least = (h old.bank n w.bank_least w.bank_most i).0;
@@ -209,7 +211,7 @@ least_in v q = record { least = omega arith; most = q.order }
 
 pub gate_least :
     (g : ℕ → Bool) (m : May) (v : Val) (c : Ctl) → IsVal v → IsCtl c → ((b : Bool) → may_be m b ≡ true → Gives g v b)
-    → IsLeast (write_gate g) v c (record c { gate = m; is_kept = false })
+    → IsLeast (write_gate g) v c (record c { gate = m })
 gate_least g m v c q k h =
     let some = some_within c k in
     let others = within c k in
@@ -225,7 +227,7 @@ gate_least g m v c q k h =
 
 pub mode_least :
     (g : ℕ → Bool) (m : May) (v : Val) (c : Ctl) → IsVal v → IsCtl c → ((b : Bool) → may_be m b ≡ true → Gives g v b)
-    → IsLeast (write_mode g) v c (record c { mode = m; is_kept = false })
+    → IsLeast (write_mode g) v c (record c { mode = m })
 mode_least g m v c q k h =
     let some = some_within c k in
     let others = within c k in
@@ -247,7 +249,7 @@ pub record Comes (g : ℕ → ℕ) (v : Val) (x : ℕ) : Type 0 where
 
 second_least :
     (g : ℕ → ℕ) (lo hi : ℕ) (v : Val) (c : Ctl) → IsVal v → IsCtl c → Comes g v lo → Comes g v hi
-    → IsLeast (write_second g) v c (record c { second_lo = lo; second_hi = hi; is_kept = false })
+    → IsLeast (write_second g) v c (record c { second_lo = lo; second_hi = hi })
 second_least g lo hi v c q k low high =
     let some = some_within c k in
     let others = within c k in
@@ -272,7 +274,7 @@ pub record ComesOf (g : ℕ → ℕ → ℕ) (c : Ctl) (v : Val) (x : ℕ) : Typ
 
 bank_least :
     (g : ℕ → ℕ → ℕ) (lo hi : ℕ) (v : Val) (c : Ctl) → IsVal v → IsCtl c → ComesOf g c v lo → ComesOf g c v hi
-    → IsLeast (write_bank g) v c (record c { bank_lo = lo; bank_hi = hi; is_kept = false })
+    → IsLeast (write_bank g) v c (record c { bank_lo = lo; bank_hi = hi })
 bank_least g lo hi v c q k low high =
     let some = some_within c k in
     let others = within c k in
@@ -297,10 +299,37 @@ abbrev pub after_window : Kind → Option ControllerRegister → Val → Ctl →
 after_window k None v c = c
 after_window k (Some r) v c = ctl_after k r v c
 
--- a store to a window leaves registers within the bounds, and no smaller ones hold them
+-- what is kept after a store to a window, where that is known by register
+abbrev pub kept_in : Option ControllerRegister → KeptBanks → KeptBanks
+kept_in None k = k
+kept_in (Some r) k = kept_but r k
+
+-- a write leaves what is kept
+abbrev pub Keeps : Option ControllerRegister → (Banks → ℕ → Banks) → Type 0
+Keeps o write = (kept : KeptBanks) (before old : Banks) (n : ℕ) → n ≤ 255 → KeepsBanks kept before old → KeepsBanks (kept_in o kept) before (write old n)
+
+pub gate_keeps : (g : ℕ → Bool) → Keeps (Some register.Gate) (write_gate g)
+gate_keeps g kept before old n byte m = record { bank = m.bank; second = m.second; gate = λ e. absurd (cc); mode = m.mode; high_bank = m.high_bank }
+
+pub mode_keeps : (g : ℕ → Bool) → Keeps (Some register.Mode) (write_mode g)
+mode_keeps g kept before old n byte m = record { bank = m.bank; second = m.second; gate = m.gate; mode = λ e. absurd (cc); high_bank = m.high_bank }
+
+pub second_keeps : (g : ℕ → ℕ) → Keeps (Some register.Second) (write_second g)
+second_keeps g kept before old n byte m = record { bank = m.bank; second = λ e. absurd (cc); gate = m.gate; mode = m.mode; high_bank = m.high_bank }
+
+pub bank_keeps : (g : ℕ → ℕ → ℕ) → Keeps (Some register.Bank) (write_bank g)
+bank_keeps g kept before old n byte m = record { bank = λ e. absurd (cc); second = m.second; gate = m.gate; mode = m.mode; high_bank = λ e. absurd (cc) }
+
+pub nothing_keeps : Keeps None (λ old n. old)
+nothing_keeps kept before old n byte m = m
+
+-- a store to a window leaves registers within the bounds, and no smaller ones hold them; what is kept by the others stays so
 pub record IsRight (k : Kind) (w : Window) : Type 0 where
   pub sound : (a n : ℕ) (v : Val) (c : Ctl) (old : Banks) → w.first ≤ a → a ≤ w.last → InCtl c old → InBounds v n → n ≤ 255 → InCtl (after_window k w.register v c) (kind_after k old a n)
   pub least : (a : ℕ) (v : Val) (c : Ctl) → w.first ≤ a → a ≤ w.last → IsVal v → IsCtl c → IsLeast (λ old n. kind_after k old a n) v c (after_window k w.register v c)
+  pub keeps :
+      (a n : ℕ) (kept : KeptBanks) (before old : Banks)
+      → w.first ≤ a → a ≤ w.last → n ≤ 255 → KeepsBanks kept before old → KeepsBanks (kept_in w.register kept) before (kind_after k old a n)
 
 leads_as :
     (f g : Banks → ℕ → Banks) (v : Val) (c : Ctl) (P : Banks → Type 0) → ((n : ℕ) (old : Banks) → n ≤ 255 → f old n ≡ g old n) → IsVal v
@@ -331,10 +360,11 @@ least_as f g v c after e q l = record {
 pub is_right :
     (k : Kind) (w : Window) (write : Banks → ℕ → Banks) → IsWrite k w write
     → ((v : Val) (c : Ctl) → IsSound write v c (after_window k w.register v c))
-    → ((v : Val) (c : Ctl) → IsVal v → IsCtl c → IsLeast write v c (after_window k w.register v c)) → IsRight k w
-is_right k w write e sound least = record {
+    → ((v : Val) (c : Ctl) → IsVal v → IsCtl c → IsLeast write v c (after_window k w.register v c)) → Keeps w.register write → IsRight k w
+is_right k w write e sound least keep = record {
   sound = λ a n v c old first last m i byte. subst (λ r. InCtl (after_window k w.register v c) r) (sym (e a n old first last byte)) ((sound v c).gives n old m i byte);
   least = λ a v c first last q k'. least_as (λ old n. kind_after k old a n) write v c (after_window k w.register v c) (λ n old byte. e a n old first last byte) q (least v c q k');
+  keeps = λ a n kept before old first last byte m. subst (KeepsBanks (kept_in w.register kept) before) (sym (e a n old first last byte)) (keep kept before old n byte m);
 }
 
 -- ---- the registers' new values
@@ -426,8 +456,8 @@ values_small kind.Mbc1 = (omega arith, omega arith, omega arith, omega arith)
 values_small kind.Mbc3 = (omega arith, omega arith, omega arith, omega arith)
 values_small kind.Mbc5 = (omega arith, omega arith, omega arith, omega arith)
 
-bank_valid : (c : Ctl) (lo hi : ℕ) (kept : Bool) → IsCtl c → lo ≤ hi → hi ≤ 511 → IsCtl (record c { bank_lo = lo; bank_hi = hi; is_kept = kept })
-bank_valid c lo hi kept q order most = record {
+bank_valid : (c : Ctl) (lo hi : ℕ) → IsCtl c → lo ≤ hi → hi ≤ 511 → IsCtl (record c { bank_lo = lo; bank_hi = hi })
+bank_valid c lo hi q order most = record {
   bank = order;
   bank_hi = most;
   second = q.second;
@@ -451,19 +481,19 @@ ctl_after-valid k register.Bank v c p q =
     let below = cut_most-below (bank_values k) v.lo v.hi small.0 in
     let few = small.1 in
     let most : at_least_one (cut_most (bank_values k) v.lo v.hi) ≤ 511 = grind (arith, nat_tests) in
-    bank_valid c _ _ false q (at_least_one-mono _ _ (cut_order (bank_values k) v.lo v.hi small.0 p.order)) most
+    bank_valid c _ _ q (at_least_one-mono _ _ (cut_order (bank_values k) v.lo v.hi small.0 p.order)) most
 ctl_after-valid k register.LowBank v c p q =
     let order = p.order in
     let hi = p.hi in
     let banks = q.bank in
     let most = q.bank_hi in
-    bank_valid c _ _ false q (omega arith) (omega arith)
+    bank_valid c _ _ q (omega arith) (omega arith)
 ctl_after-valid k register.HighBank v c p q =
     let bit = cut_most-below 2 v.lo v.hi (omega arith) in
     let low = cut_most-below 256 c.bank_lo c.bank_hi (omega arith) in
     let first = cut_order 2 v.lo v.hi (omega arith) p.order in
     let second = cut_order 256 c.bank_lo c.bank_hi (omega arith) q.bank in
-    bank_valid c _ _ false q (omega arith) (omega arith)
+    bank_valid c _ _ q (omega arith) (omega arith)
 ctl_after-valid k register.Second v c p q =
     let small = values_small k in
     let below = cut_most-below (second_values k) v.lo v.hi small.2 in
@@ -484,3 +514,14 @@ ctl_after-valid k register.Mode v c p q = record {
   gate = q.gate;
   mode = value_from (mode_after v) _ (mode_holds v v.lo (least_in v p));
 }
+
+pub low_keeps : Keeps (Some register.LowBank) (write_bank low_written)
+low_keeps kept before old n byte m = record { bank = λ e. absurd (cc); second = m.second; gate = m.gate; mode = m.mode; high_bank = λ e. let h = m.high_bank e in omega arith }
+
+pub high_keeps : Keeps (Some register.HighBank) (write_bank high_written)
+high_keeps kept before old n byte m = record { bank = λ e. let h = m.bank e in omega arith; second = m.second; gate = m.gate; mode = m.mode; high_bank = λ e. absurd (cc) }
+
+pub ctl_written-valid : (whole : Bool) (k : Kind) (r : ControllerRegister) (v : Val) (c : Ctl) → IsVal v → IsCtl c → IsCtl (ctl_written whole k r v c)
+ctl_written-valid whole k r v c p q =
+    let h = ctl_after-valid k r v c p q in
+    record { bank = h.bank; bank_hi = h.bank_hi; second = h.second; second_hi = h.second_hi; gate = h.gate; mode = h.mode }

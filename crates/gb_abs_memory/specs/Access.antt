@@ -31,7 +31,7 @@ use Rattle.gb_abs_memory.specs.declared.windows.Window.{Window}
 use Rattle.gb_abs_memory.specs.declared.store.Area.{Area}
 use Rattle.gb_abs_memory.specs.declared.store.Area.TheVariants as area
 use Rattle.gb_abs_memory.specs.declared.store.Stored.{Stored}
-use Rattle.gb_abs_memory.specs.Windows.{window_of, ctl_after}
+use Rattle.gb_abs_memory.specs.Windows.{window_of, ctl_written}
 use Rattle.gb_abs_memory.specs.Shown.{known_bank}
 use Rattle.gb_abs_memory.specs.Items.{items_stored}
 
@@ -200,7 +200,7 @@ ram_stored z region span v s =
     }
 
 abbrev pub stored_in : Setting → Region → Option Area → Kind → Span → Val → AbsState → AbsState
-stored_in z region (Some (area.Controller (Some r))) k span v s = with_core s (record s.core { ctl = ctl_after k r v s.core.ctl })
+stored_in z region (Some (area.Controller (Some r))) k span v s = with_core s (record s.core { ctl = ctl_written z.is_whole k r v s.core.ctl })
 stored_in z region (Some area.Ram) k span v s = ram_stored z region span v s
 stored_in z region (Some area.InterruptEnable) k span v s = with_core s (record s.core { ie = v })
 stored_in z region _ k span v s = s
@@ -210,13 +210,13 @@ unfoldable pub stored_state : Setting → Region → Kind → Span → Val → A
 stored_state z region k span v s = stored_in z region (area_of k span) k span v s
 
 -- what a store makes of the core
-abbrev pub stored_core_in : Option Area → Kind → Span → Val → Core → Core
-stored_core_in (Some (area.Controller (Some r))) k span v c = record c { ctl = ctl_after k r v c.ctl }
-stored_core_in (Some area.InterruptEnable) k span v c = record c { ie = v }
-stored_core_in _ k span v c = c
+abbrev pub stored_core_in : Bool → Option Area → Kind → Span → Val → Core → Core
+stored_core_in w (Some (area.Controller (Some r))) k span v c = record c { ctl = ctl_written w k r v c.ctl }
+stored_core_in w (Some area.InterruptEnable) k span v c = record c { ie = v }
+stored_core_in w _ k span v c = c
 
-unfoldable pub stored_core : Kind → Span → Val → Core → Core
-stored_core k span v c = stored_core_in (area_of k span) k span v c
+unfoldable pub stored_core : Bool → Kind → Span → Val → Core → Core
+stored_core w k span v c = stored_core_in w (area_of k span) k span v c
 
 -- FF46 alone starts an OAM transfer
 abbrev pub starts_oam_transfer : Span → Bool

@@ -21,7 +21,7 @@ use Rattle.gb_abs.specs.Span.{IsIn, one}
 use Rattle.gb_abs.specs.Cells.{ArePlaced}
 use Rattle.gb_abs.specs.Stack.{AreInRegion}
 use Rattle.gb_abs.specs.Storage.{is_ram, peek}
-use Rattle.gb_abs.specs.Meaning.{Holds, MeansParts}
+use Rattle.gb_abs.specs.Meaning.{Activation, Holds, MeansParts}
 use Rattle.gb_abs_memory.specs.declared.store.Stored.{Stored}
 use Rattle.gb_abs_memory.specs.Access.{is_range}
 use Rattle.gb_abs_memory.specs.Kept.{keeps, IsKept}
@@ -46,21 +46,21 @@ abbrev pub AreVals : List Cell → Type 0
 AreVals cells = AllByRecursion (λ c. IsVal c.val) cells
 
 -- a byte is read without a fault, and v stands for it
-pub record IsLoaded (m : View) (a : ℕ) (free : List ℕ) (v : Val) (entry : MState) : Type 0 where
+pub record IsLoaded (m : View) (a : ℕ) (free : List ℕ) (v : Val) (entry : Activation) : Type 0 where
   pub holds : Holds v entry (read_at m a free).value
   pub byte : (read_at m a free).value ≤ 255
   pub faults : access_faults m a ≡ no_faults
 
 -- of each of these states, of a procedure whose base is what is said, from each of these addresses, whatever free reads give
 pub record IsSoundLoad (z : Setting) (rom : List ℕ) (s : AbsState) (span : Span) (v : Val) : Type 0 where
-  pub gives : (entry : MState) (base : ℕ) (x : MState) (starting : Bool) (a : ℕ) (free : List ℕ)
+  pub gives : (entry : Activation) (base : ℕ) (x : MState) (starting : Bool) (a : ℕ) (free : List ℕ)
       → IsBase z base → IsRom rom → MeansParts s entry base x → IsVal s.core.ie → IsIn span a → a < 65536 → slice_index free 0 ≤ 255
       → IsLoaded (view rom x starting) a free v entry
 
 -- a byte is stored without a fault: what is left is meant, with as many items, the other bytes of RAM and the places of cells
 -- are kept, and an OAM transfer starts exactly where it is said; what the procedure keeps isn't stored to, and a byte of the stack
 -- region outside its ranges lies below its base; by the rules of versions 1 and 2 the items stay
-pub record IsStored (z : Setting) (m : View) (a n : ℕ) (region : Region) (ranges : List Range) (s : AbsState) (entry : MState) (base : ℕ) (x : MState) (o : Stored) : Type 0 where
+pub record IsStored (z : Setting) (m : View) (a n : ℕ) (region : Region) (ranges : List Range) (s : AbsState) (entry : Activation) (base : ℕ) (x : MState) (o : Stored) : Type 0 where
   pub means : MeansParts o.state entry base (record x { storage = (wrote m a n).storage })
   pub faults : write_faults m a n ≡ no_faults
   pub starting : (wrote m a n).starting ≡ (m.starting || o.starts)
@@ -74,7 +74,7 @@ pub record IsStored (z : Setting) (m : View) (a n : ℕ) (region : Region) (rang
 
 -- of each of these states, of a procedure whose base is what is said, to each of these addresses, each byte that v stands for
 pub record IsSoundStore (z : Setting) (rom : List ℕ) (region : Region) (ranges : List Range) (s : AbsState) (span : Span) (v : Val) (o : Stored) : Type 0 where
-  pub gives : (entry : MState) (base : ℕ) (x : MState) (starting : Bool) (a n : ℕ)
+  pub gives : (entry : Activation) (base : ℕ) (x : MState) (starting : Bool) (a n : ℕ)
       → IsBase z base → MeansParts s entry base x → ArePlaced region s.cells → AreInRegion region base (length s.items) → IsRegion region
       → IsIn span a → a < 65536 → Holds v entry n → n ≤ 255
       → IsStored z (view rom x starting) a n region ranges s entry base x o

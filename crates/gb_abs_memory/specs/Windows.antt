@@ -8,7 +8,10 @@ use Rattle.gb_ops.specs.Cartridge.{at_least_one, kind_after}
 use Rattle.gb_domain.specs.declared.types.Val.{Val}
 use Rattle.gb_domain.specs.declared.types.May.{May}
 use Rattle.gb_domain.specs.declared.types.Ctl.{Ctl}
+use Rattle.gb_domain.specs.declared.types.KeptBanks.{KeptBanks}
+use Rattle.gb_domain.specs.Types.{all_or_none}
 use Rattle.gb_abs.specs.Below.gb_vals.Meaning.{InBounds, may_be}
+use Rattle.gb_abs.specs.Meaning.{KeepsBanks}
 use Rattle.gb_abs.specs.declared.span.Span.{Span}
 use Rattle.gb_abs.specs.Span.{is_inside}
 use Rattle.gb_abs_memory.specs.declared.windows.ControllerRegister.{ControllerRegister}
@@ -79,32 +82,49 @@ mode_after v = record { clear = has_rest 2 0 v; set = has_rest 2 1 v }
 -- the bank of MBC1 and MBC3: 0 counts as 1
 abbrev pub bank_after : ℕ → Val → Ctl → Ctl
 bank_after n v c =
-    record c { bank_lo = at_least_one (cut_least n v.lo v.hi); bank_hi = at_least_one (cut_most n v.lo v.hi); is_kept = false }
+    record c { bank_lo = at_least_one (cut_least n v.lo v.hi); bank_hi = at_least_one (cut_most n v.lo v.hi) }
 
 -- the bank of MBC5: its low eight bits, and its bit 8
 abbrev pub low_bank_after : Val → Ctl → Ctl
 low_bank_after v c =
-    record c { bank_lo = c.bank_lo / 256 * 256 + v.lo; bank_hi = c.bank_hi / 256 * 256 + v.hi; is_kept = false }
+    record c { bank_lo = c.bank_lo / 256 * 256 + v.lo; bank_hi = c.bank_hi / 256 * 256 + v.hi }
 
 abbrev pub high_bank_after : Val → Ctl → Ctl
 high_bank_after v c =
     record c {
       bank_lo = cut_least 2 v.lo v.hi * 256 + cut_least 256 c.bank_lo c.bank_hi;
       bank_hi = cut_most 2 v.lo v.hi * 256 + cut_most 256 c.bank_lo c.bank_hi;
-      is_kept = false;
     }
 
 abbrev pub second_after : ℕ → Val → Ctl → Ctl
-second_after n v c = record c { second_lo = cut_least n v.lo v.hi; second_hi = cut_most n v.lo v.hi; is_kept = false }
+second_after n v c = record c { second_lo = cut_least n v.lo v.hi; second_hi = cut_most n v.lo v.hi }
 
--- the registers after a store of any of these bytes to one of them
+-- the registers after a store of any of these bytes to one of them; what is said of what is kept stays
 unfoldable pub ctl_after : Kind → ControllerRegister → Val → Ctl → Ctl
-ctl_after k register.Gate v c = record c { gate = gate_after v; is_kept = false }
+ctl_after k register.Gate v c = record c { gate = gate_after v }
 ctl_after k register.Bank v c = bank_after (bank_values k) v c
 ctl_after k register.LowBank v c = low_bank_after v c
 ctl_after k register.HighBank v c = high_bank_after v c
 ctl_after k register.Second v c = second_after (second_values k) v c
-ctl_after k register.Mode v c = record c { mode = mode_after v; is_kept = false }
+ctl_after k register.Mode v c = record c { mode = mode_after v }
+
+-- all that is kept but the register; a bank that is one register is both its parts
+abbrev pub kept_but : ControllerRegister → KeptBanks → KeptBanks
+kept_but register.Gate k = record k { gate = false }
+kept_but register.Bank k = record k { bank = false; high_bank = false }
+kept_but register.LowBank k = record k { bank = false }
+kept_but register.HighBank k = record k { high_bank = false }
+kept_but register.Second k = record k { second = false }
+kept_but register.Mode k = record k { mode = false }
+
+-- what is kept after a store to a register, whatever the values: by the rules of version 4 all else that was, by those before nothing
+abbrev pub kept_after : Bool → ControllerRegister → KeptBanks → KeptBanks
+kept_after true r k = kept_but r k
+kept_after false r k = all_or_none false
+
+-- the controller after a store
+abbrev pub ctl_written : Bool → Kind → ControllerRegister → Val → Ctl → Ctl
+ctl_written w k r v c = record (ctl_after k r v c) { kept = kept_after w r c.kept }
 
 -- ---- what that promises
 
@@ -150,9 +170,15 @@ pub record IsLeast (write : Banks → ℕ → Banks) (v : Val) (c after : Ctl) :
 pub record IsLeastWrite (k : Kind) (r : ControllerRegister) (v : Val) (c after : Ctl) : Type 0 where
   pub reached : (a : ℕ) → IsAddressOf k r a → IsLeast (λ old n. kind_after k old a n) v c after
 
--- all but the register stays; whatever the values, it isn't what it was as the procedure was entered
+-- all but the register stays
 abbrev pub IsWrittenAlone : ControllerRegister → Ctl → Ctl → Type 0
-IsWrittenAlone register.Gate c after = after ≡ record c { gate = after.gate; is_kept = false }
-IsWrittenAlone register.Second c after = after ≡ record c { second_lo = after.second_lo; second_hi = after.second_hi; is_kept = false }
-IsWrittenAlone register.Mode c after = after ≡ record c { mode = after.mode; is_kept = false }
-IsWrittenAlone _ c after = after ≡ record c { bank_lo = after.bank_lo; bank_hi = after.bank_hi; is_kept = false }
+IsWrittenAlone register.Gate c after = after ≡ record c { gate = after.gate }
+IsWrittenAlone register.Second c after = after ≡ record c { second_lo = after.second_lo; second_hi = after.second_hi }
+IsWrittenAlone register.Mode c after = after ≡ record c { mode = after.mode }
+IsWrittenAlone _ c after = after ≡ record c { bank_lo = after.bank_lo; bank_hi = after.bank_hi }
+
+-- of the registers that were what they were before something, those that are said to be kept are so after the store
+pub record IsSoundKeeping (r : ControllerRegister) (kept after : KeptBanks) : Type 0 where
+  pub gives :
+      (k : Kind) (a n : ℕ) (before old : Banks)
+      → IsAddressOf k r a → n ≤ 255 → KeepsBanks kept before old → KeepsBanks after before (kind_after k old a n)

@@ -8,7 +8,7 @@ ghost use Rattle.gb_abs_memory.specs.Sound.{IsSoundStore};
 
 use crate::items::store_to_items;
 use crate::refusals::{is_store_limited, store_meets_closed_ram};
-use crate::windows::{ControllerRegister, ctl_after, window_of};
+use crate::windows::{ControllerRegister, ctl_written, window_of};
 use gb_abs::cells::{widened_cells, with_cell, without_cells};
 use gb_abs::reason::Reason;
 use gb_abs::span::Span;
@@ -185,12 +185,12 @@ fn store_to_ram(setting: Setting, region: Region, span: Span, val: &Val, state: 
 /// A store changes the core.
 #[inline(never)]
 #[tactic(auto, unfolding(crate::specs::Access::stored_core))]
-pub fn store_in_core(kind: Kind, span: Span, val: &Val, core: &mut Core)
-    ensures { core.new ≡ Access.stored_core kind span val.now core.old }
+pub fn store_in_core(is_whole: bool, kind: Kind, span: Span, val: &Val, core: &mut Core)
+    ensures { core.new ≡ Access.stored_core is_whole kind span val.now core.old }
 {
     match area_of(kind, span) {
         Some(Area::Controller(Some(register))) => {
-            core.ctl = ctl_after(kind, register, val, &core.ctl);
+            core.ctl = ctl_written(is_whole, kind, register, val, &core.ctl);
         }
         Some(Area::InterruptEnable) => core.ie = *val,
         Some(Area::Controller(None) | Area::Hardware | Area::Ram) | None => {}
@@ -213,7 +213,7 @@ pub fn store_in(
     match area_of(kind, span) {
         Some(Area::Controller(Some(register))) => {
             let core = *state.core();
-            let ctl = ctl_after(kind, register, val, &core.ctl);
+            let ctl = ctl_written(setting.is_whole, kind, register, val, &core.ctl);
             state.set_core(Core { ctl, ..core });
         }
         Some(Area::Ram) => store_to_ram(setting, region, span, val, state),

@@ -5,7 +5,7 @@ ghost use Rattle.gb_domain.specs.Rules.{IsVal, IsCtl};
 ghost use Rattle.gb_abs_memory.specs.Windows as Windows;
 
 use gb_abs::span::Span;
-use gb_domain::types::{Ctl, May, Val};
+use gb_domain::types::{Ctl, KeptBanks, May, Val};
 use gb_ops::machine::Kind;
 
 /// The registers of controllers that a store reaches. MBC5's bank has two windows.
@@ -205,7 +205,6 @@ fn bank_after(count: u16, val: &Val, ctl: &Ctl) -> Ctl
     Ctl {
         bank_lo: cut_least(count, lo, hi).max(1),
         bank_hi: cut_most(count, lo, hi).max(1),
-        is_kept: false,
         ..*ctl
     }
 }
@@ -217,7 +216,6 @@ fn low_bank_after(val: &Val, ctl: &Ctl) -> Ctl
     Ctl {
         bank_lo: ctl.bank_lo / 256 * 256 + val.lo as u16,
         bank_hi: ctl.bank_hi / 256 * 256 + val.hi as u16,
-        is_kept: false,
         ..*ctl
     }
 }
@@ -230,7 +228,6 @@ fn high_bank_after(val: &Val, ctl: &Ctl) -> Ctl
     Ctl {
         bank_lo: cut_least(2, lo, hi) * 256 + cut_least(256, ctl.bank_lo, ctl.bank_hi),
         bank_hi: cut_most(2, lo, hi) * 256 + cut_most(256, ctl.bank_lo, ctl.bank_hi),
-        is_kept: false,
         ..*ctl
     }
 }
@@ -245,7 +242,6 @@ fn second_after(count: u16, val: &Val, ctl: &Ctl) -> Ctl
     Ctl {
         second_lo: cut_least(count, lo, hi) as u8,
         second_hi: cut_most(count, lo, hi) as u8,
-        is_kept: false,
         ..*ctl
     }
 }
@@ -258,7 +254,6 @@ fn written(kind: Kind, register: ControllerRegister, val: &Val, ctl: &Ctl) -> Ct
     match register {
         ControllerRegister::Gate => Ctl {
             gate: gate_after(val),
-            is_kept: false,
             ..*ctl
         },
         ControllerRegister::Bank => bank_after(bank_values(kind), val, ctl),
@@ -267,15 +262,82 @@ fn written(kind: Kind, register: ControllerRegister, val: &Val, ctl: &Ctl) -> Ct
         ControllerRegister::Second => second_after(second_values(kind), val, ctl),
         ControllerRegister::Mode => Ctl {
             mode: mode_after(val),
-            is_kept: false,
             ..*ctl
         },
     }
 }
 
+/// All that is kept but a register. A bank that is one register is both its parts.
+fn kept_but(register: ControllerRegister, kept: KeptBanks) -> KeptBanks
+    ensures { result ≡ Windows.kept_but register kept }
+{
+    match register {
+        ControllerRegister::Gate => KeptBanks {
+            gate: false,
+            ..kept
+        },
+        ControllerRegister::Bank => KeptBanks {
+            bank: false,
+            high_bank: false,
+            ..kept
+        },
+        ControllerRegister::LowBank => KeptBanks {
+            bank: false,
+            ..kept
+        },
+        ControllerRegister::HighBank => KeptBanks {
+            high_bank: false,
+            ..kept
+        },
+        ControllerRegister::Second => KeptBanks {
+            second: false,
+            ..kept
+        },
+        ControllerRegister::Mode => KeptBanks {
+            mode: false,
+            ..kept
+        },
+    }
+}
+
+fn kept_by(is_whole: bool, register: ControllerRegister, kept: KeptBanks) -> KeptBanks
+    ensures { result ≡ Windows.kept_after is_whole register kept }
+{
+    if is_whole {
+        kept_but(register, kept)
+    } else {
+        KeptBanks::all_or_none(false)
+    }
+}
+
+/// What is kept after a store to a register, even where no value changes: by the rules of version 4 (`is_whole`) all else that was,
+/// by those of the others nothing.
+#[tactic(auto, using(crate::proofs::ControllerLaws::kept_after_sound))]
+pub fn kept_after(is_whole: bool, register: ControllerRegister, kept: KeptBanks) -> KeptBanks
+    ensures exact { result ≡ Windows.kept_after is_whole register kept }
+    ensures sound { Windows.IsSoundKeeping register kept result }
+{
+    kept_by(is_whole, register, kept)
+}
+
+/// The controller after a store of any of these bytes to one of its registers: what `ctl_after` and `kept_after` say.
+pub fn ctl_written(
+    is_whole: bool,
+    kind: Kind,
+    register: ControllerRegister,
+    val: &Val,
+    ctl: &Ctl,
+) -> Ctl
+    ensures { result ≡ Windows.ctl_written is_whole kind register val.now ctl.now }
+{
+    Ctl {
+        kept: kept_after(is_whole, register, ctl.kept),
+        ..ctl_after(kind, register, val, ctl)
+    }
+}
+
 /// The controller's registers after a store of any of these bytes to one of them: the least bounds
-/// and sets that hold its new value, whatever the registers were. The other registers stay. They
-/// aren't kept any more, even where no value changes.
+/// and sets that hold its new value, whatever the registers were. The other registers stay, and so does what is said of what is kept.
 #[tactic(auto, using(crate::proofs::ControllerLaws::ctl_after_laws))]
 pub fn ctl_after(kind: Kind, register: ControllerRegister, val: &Val, ctl: &Ctl) -> Ctl
     ensures exact { result ≡ Windows.ctl_after kind register val.now ctl.now }

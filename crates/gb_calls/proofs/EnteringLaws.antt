@@ -11,7 +11,7 @@ use Rattle.gb_domain.specs.declared.types.Origin.TheVariants as origin
 use Rattle.gb_domain.specs.declared.types.Val.{Val}
 use Rattle.gb_domain.specs.declared.types.Core.{Core}
 use Rattle.gb_domain.specs.Types.{AbsState, origin_of_register}
-use Rattle.gb_product.specs.Below.gb_abs.Meaning.{Holds, MeansCore}
+use Rattle.gb_product.specs.Below.gb_abs.Meaning.{Activation, Holds, MeansCore}
 use Rattle.gb_product.specs.Below.gb_abs.Origins.{own}
 use Rattle.gb_product.proofs.Below.gb_abs_laws.OriginLaws.{origin_value-of_register, Holds-own, AreCells-without_origins}
 use Rattle.gb_product.specs.Meaning.{Means}
@@ -31,11 +31,12 @@ register_own s E = refl
 register_own s H = refl
 register_own s L = refl
 
-MeansCore-entered : (s : Core) (entry x : MState) → MeansCore s entry x → MeansCore (entered_core s) x x
-MeansCore-entered s entry x m =
+MeansCore-entered : (s : Core) (entry begun : Activation) → MeansCore s entry begun.entered → MeansCore (entered_core s) begun begun.entered
+MeansCore-entered s entry begun m =
     record {
-      registers = λ r. subst (λ v. Holds v x (get r x.processor.registers)) (sym (register_own s.registers r))
-          (Holds-own (origin_of_register r) (get r s.registers) entry x (get r x.processor.registers) (m.registers r) (sym (origin_value-of_register r x)));
+      registers = λ r. subst (λ v. Holds v begun (get r begun.entered.processor.registers)) (sym (register_own s.registers r))
+          (Holds-own (origin_of_register r) (get r s.registers) entry begun (get r begun.entered.processor.registers) (m.registers r)
+          (sym (origin_value-of_register r begun)));
       flags = record {
         zero = m.flags.zero;
         subtract = m.flags.subtract;
@@ -43,7 +44,7 @@ MeansCore-entered s entry x m =
         carry = m.flags.carry;
         own = λ e. refl;
       };
-      ie = Holds-own origin.Ie s.ie entry x x.storage.ie m.ie refl;
+      ie = Holds-own origin.Ie s.ie entry begun begun.entered.storage.ie m.ie refl;
       ime = m.ime;
       controller = record {
         bank_least = m.controller.bank_least;
@@ -52,7 +53,7 @@ MeansCore-entered s entry x m =
         second_most = m.controller.second_most;
         gate = m.controller.gate;
         mode = m.controller.mode;
-        kept = λ e. refl;
+        kept = record { bank = λ e. refl; second = λ e. refl; gate = λ e. refl; mode = λ e. refl; high_bank = λ e. refl };
       };
       count = m.count;
       locked = m.locked;
@@ -60,7 +61,7 @@ MeansCore-entered s entry x m =
     }
 
 -- where SP points doesn't matter to what it says
-pub MeansCore-with_word : (s : Core) (entry x : MState) → MeansCore s entry (without_word x) → MeansCore s entry x
+pub MeansCore-with_word : (s : Core) (entry : Activation) (x : MState) → MeansCore s entry (without_word x) → MeansCore s entry x
 MeansCore-with_word s entry x m =
     record {
       registers = m.registers;
@@ -75,49 +76,52 @@ MeansCore-with_word s entry x m =
 
 -- a procedure that is entered, its return word at SP and no item of its caller's, begins with what is said
 pub Means-entered :
-    (k : ℕ) (s : AbsState) (entry : MState) (base : ℕ) (x : MState)
-    → Means s entry base (without_word x) → x.processor.sp < 65536 → Means (entered_by Simple k s) x x.processor.sp x
+    (k : ℕ) (s : AbsState) (entry : Activation) (base : ℕ) (begun : Activation)
+    → Means s entry base (without_word begun.entered) → begun.entered.processor.sp < 65536
+    → Means (entered_by Simple k s) begun begun.entered.processor.sp begun.entered
 unfolding entered_by
-Means-entered k s entry base x m lt =
+Means-entered k s entry base begun m lt =
     record {
       parts = record {
-        core = MeansCore-entered s.core entry x (MeansCore-with_word s.core entry x m.parts.core);
+        core = MeansCore-entered s.core entry begun (MeansCore-with_word s.core entry begun.entered m.parts.core);
         memory = m.parts.memory;
         sp = lt;
         stack = λ e. omega arith;
         items = tt;
-        cells = AreCells-without_origins s.cells entry x x.storage m.parts.cells;
+        cells = AreCells-without_origins s.cells entry begun begun.entered.storage m.parts.cells;
       };
       related = m.related;
     }
 
 -- a procedure that takes over items of its caller's, its return word among them, begins with what is said
 pub Means-taken_over :
-    (k : ℕ) (s : AbsState) (entry : MState) (base : ℕ) (x : MState)
-    → IsCalled k s entry base x → Means (entered_by Extended k s) x (base_below k s.items base) x
+    (k : ℕ) (s : AbsState) (entry : Activation) (base : ℕ) (begun : Activation)
+    → IsCalled k s entry base begun.entered → Means (entered_by Extended k s) begun (base_below k s.items base) begun.entered
 unfolding entered_by
-Means-taken_over k s entry base x h =
+Means-taken_over k s entry base begun h =
     record {
       parts = record {
-        core = MeansCore-entered s.core entry x h.caller.parts.core;
+        core = MeansCore-entered s.core entry begun h.caller.parts.core;
         memory = h.caller.parts.memory;
         sp = h.caller.parts.sp;
-        stack = λ e. taken_over-pointer k s.items x.processor.sp base h.few (h.caller.parts.stack h.stack_set);
-        items = taken_over-items k s entry base x h.few h.stack_set h.caller.parts;
-        cells = AreCells-without_origins s.cells entry x x.storage h.caller.parts.cells;
+        stack = λ e. taken_over-pointer k s.items begun.entered.processor.sp base h.few (h.caller.parts.stack h.stack_set);
+        items = taken_over-items k s entry base begun h.few h.stack_set h.caller.parts;
+        cells = AreCells-without_origins s.cells entry begun begun.entered.storage h.caller.parts.cells;
       };
       related = h.caller.related;
     }
 
 -- by either rules
 Means-begun :
-    (rules : Rules) (k : ℕ) (s : AbsState) (entry : MState) (base : ℕ) (x : MState)
-    → Begins rules k s entry base x → Means (entered_by rules k s) x (callee_base rules k s.items base x) x
-Means-begun Simple k s entry base x h = Means-entered k s entry base x h.0 h.1
-Means-begun Extended k s entry base x h = Means-taken_over k s entry base x h
+    (rules : Rules) (k : ℕ) (s : AbsState) (entry : Activation) (base : ℕ) (begun : Activation)
+    → Begins rules k s entry base begun.entered
+    → Means (entered_by rules k s) begun (callee_base rules k s.items base begun.entered) begun.entered
+Means-begun Simple k s entry base begun h = Means-entered k s entry base begun h.0 h.1
+Means-begun Extended k s entry base begun h = Means-taken_over k s entry base begun h
 
 pub enter_sound : (rules : Rules) (k : ℕ) (s o : AbsState) → o ≡ entered_by rules k s → IsSoundEntering rules k s o
 enter_sound rules k s o e =
     record {
-      gives = λ entry base x h. subst (λ (w : AbsState). Means w x (callee_base rules k s.items base x) x) (sym e) (Means-begun rules k s entry base x h);
+      gives = λ entry base begun h.
+          subst (λ (w : AbsState). Means w begun (callee_base rules k s.items base begun.entered) begun.entered) (sym e) (Means-begun rules k s entry base begun h);
     }

@@ -1,5 +1,5 @@
 -- What a caller goes on with holds of the machine, whatever its callee did.
-use Rattle.std.proofs.Common.{◌≡◌, ℕ, ◌+◌, ◌≤◌, ◌<◌, Bool, true, false, ◌&&◌, not, cond, List, [], ◌∷◌, length, map, Option, Some, None, refl, sym, ◌∙◌, ap, subst, arith}
+use Rattle.std.proofs.Common.{◌≡◌, ℕ, ◌+◌, ◌/◌, ◌%◌, ◌≤◌, ◌<◌, Bool, true, false, ◌&&◌, not, cond, List, [], ◌∷◌, length, map, Option, Some, None, refl, sym, ◌∙◌, ap, subst, arith}
 use Rattle.std.proofs.lemmas.Bool.{and_parts, or_from}
 use Rattle.std.proofs.lemmas.Option.{same_Some}
 use Rattle.std.specs.Prelude.{IfSome}
@@ -19,6 +19,7 @@ use Rattle.gb_domain.specs.declared.types.Origin.TheVariants as origin
 use Rattle.gb_domain.specs.declared.types.Val.{Val}
 use Rattle.gb_domain.specs.declared.types.Flg.{Flg}
 use Rattle.gb_domain.specs.declared.types.Ctl.{Ctl}
+use Rattle.gb_domain.specs.declared.types.KeptBanks.{KeptBanks}
 use Rattle.gb_domain.specs.declared.types.Cell.{Cell}
 use Rattle.gb_domain.specs.declared.types.Core.{Core}
 use Rattle.gb_domain.specs.declared.setting.Setting.{Setting}
@@ -56,7 +57,8 @@ use Rattle.gb_domain.specs.Areas.{IsRegion, meets}
 use Rattle.gb_product.specs.Below.gb_abs.Span.{one}
 use Rattle.gb_product.specs.Below.gb_abs.Covering.{covers_origin}
 use Rattle.gb_product.specs.Below.gb_abs.Cells.{IsPlaced, ArePlaced}
-use Rattle.gb_product.specs.Below.gb_abs.Meaning.{origin_value, Holds, HoldsFlags, HoldsController, MeansCore}
+use Rattle.gb_product.specs.Below.gb_abs.Meaning.{Activation, origin_value, Holds, HoldsFlags, KeepsBanks, HoldsController, MeansCore}
+use Rattle.gb_product.specs.Below.gb_vals.Meaning.{may_be}
 use Rattle.gb_product.specs.Meaning.{Means}
 use Rattle.gb_product.specs.Below.gb_abs.Storage.{peek, is_ram}
 use Rattle.gb_product.proofs.Below.gb_abs_laws.CellLaws.{AllByRecursion-where}
@@ -68,7 +70,7 @@ use Rattle.gb_product.specs.Below.gb_abs.Origins.{is_own, without_origin, cell_w
 use Rattle.gb_product.proofs.Below.gb_abs_laws.OriginLaws.{origin_value-of_register, Holds-without_origin, AreCells-without_origins}
 use Rattle.gb_calls.specs.declared.resuming.Resumed.{Resumed}
 use Rattle.gb_calls.specs.declared.resuming.Resumed.TheVariants.{Nothing, States, TooDeep}
-use Rattle.gb_calls.specs.Resuming.{given_back, registers_back, core_back, is_address_in, is_in_ranges, is_out_of_ranges, merged, byte_back, cells_back, resumed_alone, is_address_kept, own_by_register, kept_by, rejoined, with_values, with_values_if, reduced_state, resumed, IsTooDeep, IsResumed}
+use Rattle.gb_calls.specs.Resuming.{kept_back, is_bank_kept, controller_back, given_back, registers_back, core_back, is_address_in, is_in_ranges, is_out_of_ranges, merged, byte_back, cells_back, resumed_alone, is_address_kept, own_by_register, kept_by, rejoined, with_values, with_values_if, reduced_state, resumed, IsTooDeep, IsResumed}
 use Rattle.gb_calls.specs.Sound.{ComesBack, HandsBack, ComesBackBy, MeansIf, MeansResumed, ReducesSoundly, IsSoundResuming}
 use Rattle.gb_calls.specs.TakenOver.{base_below, given_back_items}
 use Rattle.gb_calls.proofs.EnteringLaws.{MeansCore-with_word}
@@ -82,11 +84,11 @@ same_own None o h = cc
 same_own (Some q) o h = ap Some (same_origin q o h)
 
 -- what an exit gives back is what its procedure was entered with
-own-value : (o : Origin) (v : Val) (called : MState) (n : ℕ) → is_own o v ≡ true → Holds v called n → n ≡ origin_value o called
+own-value : (o : Origin) (v : Val) (called : Activation) (n : ℕ) → is_own o v ≡ true → Holds v called n → n ≡ origin_value o called
 own-value o v called n is h = h.origin o (same_own v.origin o is)
 
 Holds-given_back :
-    (o : Origin) (caller exit : Val) (entry called : MState) (n : ℕ)
+    (o : Origin) (caller exit : Val) (entry called : Activation) (n : ℕ)
     → Holds caller entry (origin_value o called) → Holds exit called n → Holds (given_back o caller exit) entry n
 Holds-given_back o caller exit entry called n m h = choose (is_own o exit) refl
   where
@@ -105,8 +107,8 @@ register_back s x H = refl
 register_back s x L = refl
 
 HoldsFlags-back :
-    (s x : Flg) (entry called : MState) (f : Flags)
-    → HoldsFlags s entry called.processor.flags → HoldsFlags x called f → HoldsFlags (cond x.is_own s x) entry f
+    (s x : Flg) (entry called : Activation) (f : Flags)
+    → HoldsFlags s entry called.entered.processor.flags → HoldsFlags x called f → HoldsFlags (cond x.is_own s x) entry f
 HoldsFlags-back s x entry called f m h = choose x.is_own refl
   where
     choose : (b : Bool) → x.is_own ≡ b → HoldsFlags (cond b s x) entry f
@@ -114,27 +116,65 @@ HoldsFlags-back s x entry called f m h = choose x.is_own refl
     choose false is =
         record { zero = h.zero; subtract = h.subtract; half_carry = h.half_carry; carry = h.carry; own = λ e. absurd (cc) }
 
+-- a bank whose low eight bits and ninth are what they were is what it was
+same_bank : (a b : ℕ) → a % 256 ≡ b % 256 → a / 256 ≡ b / 256 → a ≡ b
+same_bank a b low high = omega arith
+
+KeepsBanks-back :
+    (s x : KeptBanks) (before called b : Banks) → KeepsBanks s before called → KeepsBanks x called b → KeepsBanks (kept_back s x) before b
+KeepsBanks-back s x before called b m h =
+    record {
+      bank = λ e. let p = and_parts _ _ e in h.bank p.0 ∙ m.bank p.1;
+      second = λ e. let p = and_parts _ _ e in h.second p.0 ∙ m.second p.1;
+      gate = λ e. let p = and_parts _ _ e in h.gate p.0 ∙ m.gate p.1;
+      mode = λ e. let p = and_parts _ _ e in h.mode p.0 ∙ m.mode p.1;
+      high_bank = λ e. let p = and_parts _ _ e in h.high_bank p.0 ∙ m.high_bank p.1;
+    }
+
 HoldsController-back :
-    (s x : Ctl) (entry called : MState) (b : Banks)
-    → HoldsController s entry called.storage.banks → HoldsController x called b → HoldsController (cond x.is_kept s x) entry b
-HoldsController-back s x entry called b m h = choose x.is_kept refl
+    (s x : Ctl) (entry called : Activation) (b : Banks)
+    → HoldsController s entry called.entered.storage.banks → HoldsController x called b → HoldsController (controller_back s x) entry b
+HoldsController-back s x entry called b m h =
+    record {
+      bank_least = bank_least (is_bank_kept x.kept) refl;
+      bank_most = bank_most (is_bank_kept x.kept) refl;
+      second_least = second_least x.kept.second refl;
+      second_most = second_most x.kept.second refl;
+      gate = gate x.kept.gate refl;
+      mode = mode x.kept.mode refl;
+      kept = KeepsBanks-back s.kept x.kept entry.entered.storage.banks called.entered.storage.banks b m.kept h.kept;
+    }
   where
-    choose : (k : Bool) → x.is_kept ≡ k → HoldsController (cond k s x) entry b
-    choose true is = subst (λ c. HoldsController s entry c) (sym (h.kept is)) m
-    choose false is =
-        record {
-          bank_least = h.bank_least;
-          bank_most = h.bank_most;
-          second_least = h.second_least;
-          second_most = h.second_most;
-          gate = h.gate;
-          mode = h.mode;
-          kept = λ e. absurd (cc);
-        }
+    same : is_bank_kept x.kept ≡ true → b.bank ≡ called.entered.storage.banks.bank
+    same e = let p = and_parts _ _ e in same_bank _ _ (h.kept.bank p.0) (h.kept.high_bank p.1)
+
+    bank_least : (k : Bool) → is_bank_kept x.kept ≡ k → cond k s.bank_lo x.bank_lo ≤ b.bank
+    bank_least true e = subst (λ n. s.bank_lo ≤ n) (sym (same e)) m.bank_least
+    bank_least false e = h.bank_least
+
+    bank_most : (k : Bool) → is_bank_kept x.kept ≡ k → b.bank ≤ cond k s.bank_hi x.bank_hi
+    bank_most true e = subst (λ n. n ≤ s.bank_hi) (sym (same e)) m.bank_most
+    bank_most false e = h.bank_most
+
+    second_least : (k : Bool) → x.kept.second ≡ k → cond k s.second_lo x.second_lo ≤ b.second
+    second_least true e = subst (λ n. s.second_lo ≤ n) (sym (h.kept.second e)) m.second_least
+    second_least false e = h.second_least
+
+    second_most : (k : Bool) → x.kept.second ≡ k → b.second ≤ cond k s.second_hi x.second_hi
+    second_most true e = subst (λ n. n ≤ s.second_hi) (sym (h.kept.second e)) m.second_most
+    second_most false e = h.second_most
+
+    gate : (k : Bool) → x.kept.gate ≡ k → may_be (cond k s.gate x.gate) b.gate ≡ true
+    gate true e = subst (λ g. may_be s.gate g ≡ true) (sym (h.kept.gate e)) m.gate
+    gate false e = h.gate
+
+    mode : (k : Bool) → x.kept.mode ≡ k → may_be (cond k s.mode x.mode) b.mode ≡ true
+    mode true e = subst (λ g. may_be s.mode g ≡ true) (sym (h.kept.mode e)) m.mode
+    mode false e = h.mode
 
 MeansCore-resumed :
-    (s x : Core) (entry called y : MState)
-    → MeansCore s entry called → MeansCore x called y → MeansCore (core_back s x) entry y
+    (s x : Core) (entry called : Activation) (y : MState)
+    → MeansCore s entry called.entered → MeansCore x called y → MeansCore (core_back s x) entry y
 MeansCore-resumed s x entry called y m h =
     record {
       registers = λ r. subst (λ v. Holds v entry (get r y.processor.registers)) (sym (register_back s.registers x.registers r))
@@ -186,13 +226,13 @@ IsKept-stack z region ranges base b does is apart low high above =
 
 -- ---- cells
 
-AreCells-where : (test : Cell → Bool) (cells : List Cell) (entry : MState) (m : Storage) → AreCells cells entry m → AreCells (filter test cells) entry m
+AreCells-where : (test : Cell → Bool) (cells : List Cell) (entry : Activation) (m : Storage) → AreCells cells entry m → AreCells (filter test cells) entry m
 AreCells-where test cells entry m h =
     AllByRecursion-where (λ c. Holds c.val entry (peek m c.address)) (λ c. Holds c.val entry (peek m c.address)) (λ c. Holds c.val entry (peek m c.address))
     test (λ c e p q. p) cells h h
 
 AreCells-kept :
-    (z : Setting) (region : Region) (ranges : List Range) (base : ℕ) (cells : List Cell) (entry : MState) (m t : Storage)
+    (z : Setting) (region : Region) (ranges : List Range) (base : ℕ) (cells : List Cell) (entry : Activation) (m t : Storage)
     → keeps z ≡ true → ((b : ℕ) → IsKept z region ranges base b → peek t b ≡ peek m b) → ArePlaced region cells → AreCells cells entry m
     → AreCells (filter (is_out_of_ranges ranges) cells) entry t
 AreCells-kept z region ranges base cells entry m t does kept placed h =
@@ -201,7 +241,7 @@ AreCells-kept z region ranges base cells entry m t does kept placed h =
     cells placed h
 
 AreCells-back :
-    (room : ℕ) (z : Setting) (region : Region) (ranges : List Range) (base : ℕ) (caller exit : List Cell) (entry called : MState) (m t : Storage)
+    (room : ℕ) (z : Setting) (region : Region) (ranges : List Range) (base : ℕ) (caller exit : List Cell) (entry called : Activation) (m t : Storage)
     → keeps z ≡ true → ((b : ℕ) → IsKept z region ranges base b → peek t b ≡ peek m b) → ArePlaced region caller → AreCells caller entry m → AreCells exit called t
     → AreCells (cells_back room ranges caller exit) entry t
 unfolding cells_back
@@ -215,19 +255,19 @@ AreCells-back room z region ranges base caller exit entry called m t does kept p
 
 -- ---- what is known together
 
-registers_are_bytes : (c : Core) (entry x : MState) → IsCore c → MeansCore c entry x → AreBytes x.processor.registers
+registers_are_bytes : (c : Core) (entry : Activation) (x : MState) → IsCore c → MeansCore c entry x → AreBytes x.processor.registers
 registers_are_bytes c entry x is m =
     record { each = λ r. let k : Holds (get r c.registers) entry (get r x.processor.registers) = m.registers r in let v = is.registers r in let most = k.most in let hi = v.hi in omega arith }
 
 HoldOneByte-back :
-    (s exit : AbsState) (called x : MState) → HoldOneByte s.relations.byte called.processor.registers (peek called.storage) called.processor.flags
+    (s exit : AbsState) (called : Activation) (x : MState) → HoldOneByte s.relations.byte called.entered.processor.registers (peek called.entered.storage) called.entered.processor.flags
     → MeansCore exit.core called x → HoldOneByte (byte_back s exit) x.processor.registers (peek x.storage) x.processor.flags
 HoldOneByte-back s exit called x holds h = choose (is_own origin.A exit.core.registers.a) exit.core.flags.is_own refl refl
   where
     choose : (p q : Bool) → is_own origin.A exit.core.registers.a ≡ p → exit.core.flags.is_own ≡ q
         → HoldOneByte (cond (p && q) (only_of_a s.relations.byte) no_byte) x.processor.registers (peek x.storage) x.processor.flags
     choose true true is own =
-        HoldOneByte-only_of_a s.relations.byte called.processor.registers x.processor.registers (peek called.storage) (peek x.storage) called.processor.flags x.processor.flags
+        HoldOneByte-only_of_a s.relations.byte called.entered.processor.registers x.processor.registers (peek called.entered.storage) (peek x.storage) called.entered.processor.flags x.processor.flags
         (own-value origin.A exit.core.registers.a called x.processor.registers.a is (h.registers A)) (h.flags.own own) holds
     choose true false is own = HoldOneByte-nothing _ _ _
     choose false q is own = HoldOneByte-nothing _ _ _
@@ -262,17 +302,17 @@ address_kept z region ranges base (Some b) m t does kept free out a is =
     subst (λ n. peek t n ≡ peek m n) (same_Some b a is) (kept b (IsKept-address z region ranges base b does (not_in_ranges (is_address_in ranges b) out) free))
 
 Returned-kept :
-    (z : Setting) (region : Region) (ranges : List Range) (base : ℕ) (s exit : AbsState) (called x : MState)
-    → keeps z ≡ true → ((b : ℕ) → IsKept z region ranges base b → peek x.storage b ≡ peek called.storage b) → IsByteFree region s.relations.byte.address
+    (z : Setting) (region : Region) (ranges : List Range) (base : ℕ) (s exit : AbsState) (called : Activation) (x : MState)
+    → keeps z ≡ true → ((b : ℕ) → IsKept z region ranges base b → peek x.storage b ≡ peek called.entered.storage b) → IsByteFree region s.relations.byte.address
     → MeansCore exit.core called x
-    → Returned.IsKept (kept_by ranges s.relations.byte exit.core) s.relations.byte.address called.processor.registers x.processor.registers
-    (peek called.storage) (peek x.storage) called.processor.flags x.processor.flags
+    → Returned.IsKept (kept_by ranges s.relations.byte exit.core) s.relations.byte.address called.entered.processor.registers x.processor.registers
+    (peek called.entered.storage) (peek x.storage) called.entered.processor.flags x.processor.flags
 Returned-kept z region ranges base s exit called x does kept free h =
     record {
       registers = λ r is. own-value (origin_of_register r) (get r exit.core.registers) called (get r x.processor.registers)
           (sym (register_own exit.core.registers r) ∙ is) (h.registers r)
           ∙ origin_value-of_register r called;
-      memory = λ out a is. address_kept z region ranges base s.relations.byte.address called.storage x.storage does kept free out a is;
+      memory = λ out a is. address_kept z region ranges base s.relations.byte.address called.entered.storage x.storage does kept free out a is;
       flags = λ is. h.flags.own is;
     }
 
@@ -280,25 +320,25 @@ Returned-kept z region ranges base s exit called x does kept free h =
 
 -- the callee has come back: what its caller goes on with holds
 pub Means-resumed_alone :
-    (region : Region) (ranges : List Range) (s exit : AbsState) (entry : MState) (base : ℕ) (called x : MState)
+    (region : Region) (ranges : List Range) (s exit : AbsState) (entry : Activation) (base : ℕ) (called : Activation) (x : MState)
     → ComesBack region ranges s exit entry base called x → Means (resumed_alone ranges s exit) entry base x
 unfolding resumed_alone
 Means-resumed_alone region ranges s exit entry base called x h =
-    let stack : called.processor.sp + 2 + length s.items ≡ base = h.caller.parts.stack h.stack_set in
+    let stack : called.entered.processor.sp + 2 + length s.items ≡ base = h.caller.parts.stack h.stack_set in
     let none : length exit.items ≡ 0 = ap length h.exit_items in
-    let back : x.processor.sp + length exit.items ≡ called.processor.sp + 2 = h.exits.parts.stack h.exit_set in
+    let back : x.processor.sp + length exit.items ≡ called.entered.processor.sp + 2 = h.exits.parts.stack h.exit_set in
     let first = h.room.first in
     let last = h.room.last in
     record {
       parts = record {
-        core = MeansCore-resumed s.core exit.core entry called x (MeansCore-with_word s.core entry called h.caller.parts.core) h.exits.parts.core;
+        core = MeansCore-resumed s.core exit.core entry called x (MeansCore-with_word s.core entry called.entered h.caller.parts.core) h.exits.parts.core;
         memory = h.exits.parts.memory;
         sp = h.exits.parts.sp;
         stack = λ e. omega arith;
-        items = AreItems-same s.items entry (called.processor.sp + 2) base called.storage x.storage (omega arith)
-            (λ b low high. h.kept b (IsKept-stack h.callee region ranges called.processor.sp b h.keeps h.is_region h.apart (omega arith) (omega arith) (omega arith)))
+        items = AreItems-same s.items entry (called.entered.processor.sp + 2) base called.entered.storage x.storage (omega arith)
+            (λ b low high. h.kept b (IsKept-stack h.callee region ranges called.entered.processor.sp b h.keeps h.is_region h.apart (omega arith) (omega arith) (omega arith)))
             h.caller.parts.items;
-        cells = AreCells-back (cell_room Simple) h.callee region ranges called.processor.sp s.cells exit.cells entry called called.storage x.storage h.keeps h.kept h.placed h.caller.parts.cells h.exits.parts.cells;
+        cells = AreCells-back (cell_room Simple) h.callee region ranges called.entered.processor.sp s.cells exit.cells entry called called.entered.storage x.storage h.keeps h.kept h.placed h.caller.parts.cells h.exits.parts.cells;
       };
       related = record {
         byte = HoldOneByte-back s exit called x h.caller.related.byte h.exits.parts.core;
@@ -311,7 +351,7 @@ Means-resumed_alone region ranges s exit entry base called x h =
 
 -- the waiting items stand, the exit's behind them
 pub Means-rejoined :
-    (k : ℕ) (region : Region) (ranges : List Range) (s exit : AbsState) (entry : MState) (base : ℕ) (called x : MState)
+    (k : ℕ) (region : Region) (ranges : List Range) (s exit : AbsState) (entry : Activation) (base : ℕ) (called : Activation) (x : MState)
     → HandsBack k region ranges s exit entry base called x → Means (rejoined k ranges s exit) entry base x
 unfolding rejoined
 Means-rejoined k region ranges s exit entry base called x h =
@@ -326,20 +366,20 @@ Means-rejoined k region ranges s exit entry base called x h =
         memory = h.exits.parts.memory;
         sp = h.exits.parts.sp;
         stack = λ e. given_back-pointer k s.items exit.items base x.processor.sp h.begins.few (omega arith) left;
-        items = given_back-items k s.items exit.items entry called base called.storage x.storage h.begins.few (omega arith) caller.parts.items
+        items = given_back-items k s.items exit.items entry called base called.entered.storage x.storage h.begins.few (omega arith) caller.parts.items
             (λ b low high. h.kept b (IsKept-stack h.callee region ranges under b h.keeps h.is_region h.apart (omega arith) (omega arith) low))
             h.exits.parts.items;
-        cells = AreCells-back (cell_room Extended) h.callee region ranges under s.cells exit.cells entry called called.storage x.storage h.keeps h.kept h.placed.cells caller.parts.cells h.exits.parts.cells;
+        cells = AreCells-back (cell_room Extended) h.callee region ranges under s.cells exit.cells entry called called.entered.storage x.storage h.keeps h.kept h.placed.cells caller.parts.cells h.exits.parts.cells;
       };
       related = (returned_sound (kept_by ranges s.relations.byte exit.core) s.relations exit.relations _ refl).gives
-          called.processor.registers x.processor.registers (peek called.storage) (peek x.storage) called.processor.flags x.processor.flags
+          called.entered.processor.registers x.processor.registers (peek called.entered.storage) (peek x.storage) called.entered.processor.flags x.processor.flags
           (Returned-kept h.callee region ranges under s exit called x h.keeps h.kept h.placed.byte h.exits.parts.core)
           caller.related h.exits.related;
     }
 
 -- what registers and pairs leave each other
 pub Means-with_values :
-    (s : AbsState) (v : Values) (entry : MState) (base : ℕ) (x : MState)
+    (s : AbsState) (v : Values) (entry : Activation) (base : ℕ) (x : MState)
     → IsCut (values_of s.core.registers s.relations.pairs) v → HoldsValues v x.processor.registers → Means s entry base x → Means (with_values s v) entry base x
 Means-with_values s v entry base x cuts holds m =
     record {
@@ -370,7 +410,7 @@ Means-with_values s v entry base x cuts holds m =
 
 -- cut, they mean the same; where nothing is left, none is meant
 pub Means-reduced :
-    (s : AbsState) (entry : MState) (base : ℕ) (x : MState)
+    (s : AbsState) (entry : Activation) (base : ℕ) (x : MState)
     → ReducesSoundly s → AreBytes x.processor.registers → Means s entry base x → MeansIf (reduced_state s) entry base x
 unfolding reduced_state
 Means-reduced s entry base x sound bytes m =
@@ -390,7 +430,7 @@ Means-reduced s entry base x sound bytes m =
     choose (Some w) cuts h = Means-with_values s w entry base x cuts h m
 
 Means-rejoined_reduced :
-    (k : ℕ) (region : Region) (ranges : List Range) (s exit : AbsState) (entry : MState) (base : ℕ) (called x : MState)
+    (k : ℕ) (region : Region) (ranges : List Range) (s exit : AbsState) (entry : Activation) (base : ℕ) (called : Activation) (x : MState)
     → ReducesSoundly (rejoined k ranges s exit) → HandsBack k region ranges s exit entry base called x
     → MeansIf (reduced_state (rejoined k ranges s exit)) entry base x
 Means-rejoined_reduced k region ranges s exit entry base called x sound h =
@@ -415,7 +455,7 @@ too_deep k ranges s exit kept core relations v is is_core are e many =
     ∙ ap (λ (r : Relations). reduced (values_of (core_back s.core exit.core).registers r.pairs)) same) in
     record { state = with_values (rejoined k ranges s exit) v; is = ap (with_values_if (rejoined k ranges s exit)) (sym cut); deep = many }
 
-computed : (r : Resumed) (s : Option AbsState) (entry : MState) (base : ℕ) (x : MState) → IsResumed r s → MeansIf s entry base x → MeansResumed r entry base x
+computed : (r : Resumed) (s : Option AbsState) (entry : Activation) (base : ℕ) (x : MState) → IsResumed r s → MeansIf s entry base x → MeansResumed r entry base x
 computed Nothing s entry base x e m = subst (λ (o : Option AbsState). MeansIf o entry base x) e m
 computed (States t) s entry base x e m = subst (λ (o : Option AbsState). MeansIf o entry base x) e m
 computed TooDeep s entry base x e m = tt
@@ -476,7 +516,7 @@ ReducesSoundly-rejoined k ranges s exit h i =
 
 -- the callee has come back: there is something that its caller goes on with, and it holds
 pub Means-resumed :
-    (rules : Rules) (k : ℕ) (region : Region) (ranges : List Range) (s exit : AbsState) (entry : MState) (base : ℕ) (called x : MState)
+    (rules : Rules) (k : ℕ) (region : Region) (ranges : List Range) (s exit : AbsState) (entry : Activation) (base : ℕ) (called : Activation) (x : MState)
     → ArePairs s.relations.pairs → ArePairs exit.relations.pairs → ComesBackBy rules k region ranges s exit entry base called x
     → MeansIf (resumed rules k ranges s exit) entry base x
 unfolding resumed

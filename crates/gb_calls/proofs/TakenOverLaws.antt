@@ -6,7 +6,7 @@ use Rattle.gb_ops.specs.Play.{MState}
 use Rattle.gb_domain.specs.declared.types.Origin.TheVariants.{ReturnHigh, ReturnLow}
 use Rattle.gb_domain.specs.declared.types.Val.{Val}
 use Rattle.gb_domain.specs.Types.{AbsState}
-use Rattle.gb_product.specs.Below.gb_abs.Meaning.{AreItems, MeansParts}
+use Rattle.gb_product.specs.Below.gb_abs.Meaning.{Activation, AreItems, MeansParts}
 use Rattle.gb_product.specs.Below.gb_abs.Storage.{peek}
 use Rattle.gb_product.proofs.Below.gb_abs_laws.StorageLaws.{AreItems-same}
 use Rattle.gb_product.specs.Below.gb_abs.Origins.{without_origin}
@@ -15,16 +15,16 @@ use Rattle.gb_calls.specs.TakenOver.{newest, waiting, returning, taken_over, bas
 
 -- ---- two lists end to end
 
-AreItems-left : (xs ys : List Val) (entry : MState) (top : ℕ) (s : Storage) → AreItems (xs ++ ys) entry top s → AreItems xs entry top s
+AreItems-left : (xs ys : List Val) (entry : Activation) (top : ℕ) (s : Storage) → AreItems (xs ++ ys) entry top s → AreItems xs entry top s
 AreItems-left [] ys entry top s h = tt
 AreItems-left (x ∷ xs) ys entry top s h = (h.0, AreItems-left xs ys entry (top - 1) s h.1)
 
-AreItems-right : (xs ys : List Val) (entry : MState) (top : ℕ) (s : Storage) → AreItems (xs ++ ys) entry top s → AreItems ys entry (top - length xs) s
+AreItems-right : (xs ys : List Val) (entry : Activation) (top : ℕ) (s : Storage) → AreItems (xs ++ ys) entry top s → AreItems ys entry (top - length xs) s
 AreItems-right [] ys entry top s h = let e : top ≡ top - 0 = omega arith in subst (λ n. AreItems ys entry n s) e h
 AreItems-right (x ∷ xs) ys entry top s h =
     let e : top - 1 - length xs ≡ top - suc (length xs) = omega arith in subst (λ n. AreItems ys entry n s) e (AreItems-right xs ys entry (top - 1) s h.1)
 
-AreItems-both : (xs ys : List Val) (entry : MState) (top : ℕ) (s : Storage) → AreItems xs entry top s → AreItems ys entry (top - length xs) s → AreItems (xs ++ ys) entry top s
+AreItems-both : (xs ys : List Val) (entry : Activation) (top : ℕ) (s : Storage) → AreItems xs entry top s → AreItems ys entry (top - length xs) s → AreItems (xs ++ ys) entry top s
 AreItems-both [] ys entry top s h k = let e : top - 0 ≡ top = omega arith in subst (λ n. AreItems ys entry n s) e k
 AreItems-both (x ∷ xs) ys entry top s h k =
     let e : top - suc (length xs) ≡ top - 1 - length xs = omega arith in
@@ -33,14 +33,14 @@ AreItems-both (x ∷ xs) ys entry top s h k =
 -- ---- put on: the callee's items are the caller's newest
 
 -- the last two are the bytes at SP
-AreItems-returning : (items : List Val) (entry s : MState) (top : ℕ) → s.processor.sp + length items ≡ top → AreItems items entry top s.storage → AreItems (returning items) s top s.storage
+AreItems-returning : (items : List Val) (entry s : Activation) (top : ℕ) → s.entered.processor.sp + length items ≡ top → AreItems items entry top s.entered.storage → AreItems (returning items) s top s.entered.storage
 AreItems-returning [] entry s top e h = tt
 AreItems-returning (low ∷ []) entry s top e h =
-    let at : top - 1 ≡ s.processor.sp = omega arith in (Holds-own ReturnLow low entry s _ h.0 (ap (peek s.storage) at), tt)
+    let at : top - 1 ≡ s.entered.processor.sp = omega arith in (Holds-own ReturnLow low entry s _ h.0 (ap (peek s.entered.storage) at), tt)
 AreItems-returning (high ∷ low ∷ []) entry s top e h =
-    let above : top - 1 ≡ s.processor.sp + 1 = omega arith in
-    let at : top - 1 - 1 ≡ s.processor.sp = omega arith in
-    (Holds-own ReturnHigh high entry s _ h.0 (ap (peek s.storage) above), (Holds-own ReturnLow low entry s _ h.1.0 (ap (peek s.storage) at), tt))
+    let above : top - 1 ≡ s.entered.processor.sp + 1 = omega arith in
+    let at : top - 1 - 1 ≡ s.entered.processor.sp = omega arith in
+    (Holds-own ReturnHigh high entry s _ h.0 (ap (peek s.entered.storage) above), (Holds-own ReturnLow low entry s _ h.1.0 (ap (peek s.entered.storage) at), tt))
 AreItems-returning (v ∷ w ∷ u ∷ rest) entry s top e h =
     (Holds-without_origin v entry s _ h.0, AreItems-returning (w ∷ u ∷ rest) entry s (top - 1) (omega arith) h.1)
 
@@ -48,7 +48,7 @@ AreItems-returning (v ∷ w ∷ u ∷ rest) entry s top e h =
 two_parts : (k : ℕ) (items : List Val) → waiting k items ++ newest k items ≡ items
 two_parts k items = take-append-drop (length items - k) items
 
-parted : (k : ℕ) (items : List Val) (entry : MState) (top : ℕ) (s : Storage) → AreItems items entry top s → AreItems (waiting k items ++ newest k items) entry top s
+parted : (k : ℕ) (items : List Val) (entry : Activation) (top : ℕ) (s : Storage) → AreItems items entry top s → AreItems (waiting k items ++ newest k items) entry top s
 parted k items entry top s h = subst (λ (xs : List Val). AreItems xs entry top s) (sym (two_parts k items)) h
 
 waiting-length : (k : ℕ) (items : List Val) → length (waiting k items) ≡ length items - k
@@ -56,16 +56,16 @@ waiting-length k items = length-take-le (length items - k) items (omega arith)
 
 -- what a caller's state means as its callee is entered, the callee's base and items mean too
 pub taken_over-items :
-    (k : ℕ) (state : AbsState) (entry : MState) (base : ℕ) (s : MState)
-    → k ≤ length state.items → state.core.stack_set ≡ true → MeansParts state entry base s
-    → AreItems (taken_over k state.items) s (base_below k state.items base) s.storage
+    (k : ℕ) (state : AbsState) (entry : Activation) (base : ℕ) (s : Activation)
+    → k ≤ length state.items → state.core.stack_set ≡ true → MeansParts state entry base s.entered
+    → AreItems (taken_over k state.items) s (base_below k state.items base) s.entered.storage
 unfolding taken_over
 taken_over-items k state entry base s few set m =
-    let whole : AreItems (waiting k state.items ++ newest k state.items) entry base s.storage = parted k state.items entry base s.storage m.items in
-    let right = AreItems-right (waiting k state.items) (newest k state.items) entry base s.storage whole in
-    let newer : AreItems (newest k state.items) entry (base_below k state.items base) s.storage =
-    subst (λ n. AreItems (newest k state.items) entry (base - n) s.storage) (waiting-length k state.items) right in
-    AreItems-returning (newest k state.items) entry s _ (pointer k state.items s.processor.sp base few (m.stack set)) newer
+    let whole : AreItems (waiting k state.items ++ newest k state.items) entry base s.entered.storage = parted k state.items entry base s.entered.storage m.items in
+    let right = AreItems-right (waiting k state.items) (newest k state.items) entry base s.entered.storage whole in
+    let newer : AreItems (newest k state.items) entry (base_below k state.items base) s.entered.storage =
+    subst (λ n. AreItems (newest k state.items) entry (base - n) s.entered.storage) (waiting-length k state.items) right in
+    AreItems-returning (newest k state.items) entry s _ (pointer k state.items s.entered.processor.sp base few (m.stack set)) newer
   where
     pointer : (k : ℕ) (items : List Val) (sp base : ℕ) → k ≤ length items → sp + length items ≡ base → sp + length (newest k items) ≡ base_below k items base
     pointer k items sp base few e = let n = length-drop (length items - k) items in omega arith
@@ -88,7 +88,7 @@ taken_over-pointer k items sp base few e =
 -- ---- taken off: nobody has written at or above the callee's base, so the caller's waiting items stand
 
 pub given_back-items :
-    (k : ℕ) (items exit : List Val) (entry callee : MState) (base : ℕ) (s t : Storage)
+    (k : ℕ) (items exit : List Val) (entry callee : Activation) (base : ℕ) (s t : Storage)
     → k ≤ length items → length items ≤ base → AreItems items entry base s
     → ((b : ℕ) → base_below k items base ≤ b → b < base → peek t b ≡ peek s b)
     → AreItems exit callee (base_below k items base) t → AreItems (given_back_items k items exit) entry base t

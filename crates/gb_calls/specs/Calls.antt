@@ -10,7 +10,7 @@ use Rattle.gb_domain.specs.declared.rules.Rules.{Rules}
 use Rattle.gb_domain.specs.declared.rules.Rules.TheVariants.{Simple, Extended}
 use Rattle.gb_domain.specs.declared.setting.Setting.{Setting}
 use Rattle.gb_domain.specs.Settings.{known_base}
-use Rattle.gb_domain.specs.Types.{AbsState, ProcedureParts, Node}
+use Rattle.gb_domain.specs.Types.{AbsState, ProcedureParts, Node, all_or_none}
 use Rattle.gb_domain.specs.Certificate.{Certificate}
 use Rattle.gb_product.specs.Below.gb_abs.Origins.{own, cell_without_origin}
 use Rattle.gb_abs_memory.specs.Access.{is_range}
@@ -35,7 +35,7 @@ entered_core s = record s {
   registers = own_registers s.registers;
   flags = record s.flags { is_own = true };
   ie = own origin.Ie s.ie;
-  ctl = record s.ctl { is_kept = true };
+  ctl = record s.ctl { kept = all_or_none true };
 }
 
 -- the items with which it begins, its entry node having k: by the rules of versions 1 and 2 none, the return word being no item

@@ -6,6 +6,8 @@ use Rattle.gb_domain.specs.declared.types.Origin.{Origin}
 use Rattle.gb_domain.specs.declared.types.Origin.TheVariants as origin
 use Rattle.gb_domain.specs.declared.types.Val.{Val}
 use Rattle.gb_domain.specs.declared.types.Cell.{Cell}
+use Rattle.gb_domain.specs.declared.types.Ctl.{Ctl}
+use Rattle.gb_domain.specs.declared.types.KeptBanks.{KeptBanks}
 use Rattle.gb_domain.specs.declared.types.Core.{Core}
 use Rattle.gb_domain.specs.declared.types.Range.{Range}
 use Rattle.gb_domain.specs.declared.places.OneByte.{OneByte}
@@ -47,13 +49,39 @@ registers_back s x = record {
   l = given_back origin.L s.l x.l;
 }
 
+-- what the caller has kept, where the callee has kept it too
+abbrev pub kept_back : KeptBanks → KeptBanks → KeptBanks
+kept_back s x = record {
+  bank = x.bank && s.bank;
+  second = x.second && s.second;
+  gate = x.gate && s.gate;
+  mode = x.mode && s.mode;
+  high_bank = x.high_bank && s.high_bank;
+}
+
+-- the callee has kept the whole bank
+abbrev pub is_bank_kept : KeptBanks → Bool
+is_bank_kept x = x.bank && x.high_bank
+
+-- each register that the callee has kept is the caller's, else its exit says what it is
+abbrev pub controller_back : Ctl → Ctl → Ctl
+controller_back s x = record {
+  bank_lo = if is_bank_kept x.kept then s.bank_lo else x.bank_lo;
+  bank_hi = if is_bank_kept x.kept then s.bank_hi else x.bank_hi;
+  second_lo = if x.kept.second then s.second_lo else x.second_lo;
+  second_hi = if x.kept.second then s.second_hi else x.second_hi;
+  gate = if x.kept.gate then s.gate else x.gate;
+  mode = if x.kept.mode then s.mode else x.mode;
+  kept = kept_back s.kept x.kept;
+}
+
 -- interrupts and the bound are the exit's, the stack is the caller's
 abbrev pub core_back : Core → Core → Core
 core_back s x = record {
   ime = x.ime;
   bound = x.bound;
   stack_set = s.stack_set;
-  ctl = if x.ctl.is_kept then s.ctl else x.ctl;
+  ctl = controller_back s.ctl x.ctl;
   flags = if x.flags.is_own then s.flags else x.flags;
   ie = given_back origin.Ie s.ie x.ie;
   registers = registers_back s.registers x.registers;

@@ -18,6 +18,7 @@ use Rattle.gb_product.specs.Below.gb_pairs.Sound.{IsSoundReducing}
 use Rattle.gb_product.specs.Below.gb_relations.Transfer.{values_of}
 use Rattle.gb_product.specs.Below.gb_abs.Cells.{ArePlaced}
 use Rattle.gb_product.specs.Meaning.{Means, IsApart}
+use Rattle.gb_product.specs.Below.gb_abs.Meaning.{Activation}
 use Rattle.gb_product.specs.Below.gb_abs.Stack.{AreInRegion}
 use Rattle.gb_product.specs.Below.gb_abs.Storage.{peek}
 use Rattle.gb_abs_memory.specs.Kept.{keeps, IsKept}
@@ -32,13 +33,13 @@ abbrev pub without_word : MState → MState
 without_word x = record x { processor = with_sp x.processor (x.processor.sp + 2) }
 
 -- s was left by a call, the return word being two of its items, and the callee takes k of them over
-pub record IsCalled (k : ℕ) (s : AbsState) (entry : MState) (base : ℕ) (x : MState) : Type 0 where
+pub record IsCalled (k : ℕ) (s : AbsState) (entry : Activation) (base : ℕ) (x : MState) : Type 0 where
   pub few : k ≤ length s.items
   pub stack_set : s.core.stack_set ≡ true
   pub caller : Means s entry base x
 
 -- x is the machine as a callee begins, whose caller is in s but for the return word at SP, or, by the rules of version 3, with it
-abbrev pub Begins : Rules → ℕ → AbsState → MState → ℕ → MState → Type 0
+abbrev pub Begins : Rules → ℕ → AbsState → Activation → ℕ → MState → Type 0
 Begins Simple k s entry base x = Means s entry base (without_word x) × (x.processor.sp < 65536)
 Begins Extended k s entry base x = IsCalled k s entry base x
 
@@ -48,59 +49,60 @@ callee_base Simple k items base x = x.processor.sp
 callee_base Extended k items base x = base_below k items base
 
 -- Of each state in which s was left by a call: the callee, entered in just that state with its return word at SP,
--- begins with what is said.
+-- begins with what is said, whatever it keeps and wherever its mark is.
 pub record IsSoundEntering (rules : Rules) (k : ℕ) (s after : AbsState) : Type 0 where
   pub gives :
-      (entry : MState) (base : ℕ) (x : MState)
-      → Begins rules k s entry base x → Means after x (callee_base rules k s.items base x) x
+      (entry : Activation) (base : ℕ) (begun : Activation)
+      → Begins rules k s entry base begun.entered
+      → Means after begun (callee_base rules k s.items base begun.entered) begun.entered
 
 -- ---- resuming
 
 -- By the rules of versions 1 and 2: a procedure was left in s by a call, and the callee, which stands in a setting of its own and was
 -- entered in the state called, has come back: x is what its exit means, and what it keeps is as it was.
-pub record ComesBack (region : Region) (ranges : List Range) (s exit : AbsState) (entry : MState) (base : ℕ) (called x : MState) : Type 0 where
+pub record ComesBack (region : Region) (ranges : List Range) (s exit : AbsState) (entry : Activation) (base : ℕ) (called : Activation) (x : MState) : Type 0 where
   pub is_region : IsRegion region
   pub apart : AllByRecursion (λ r. meets region r.first r.last ≡ false) ranges
   pub placed : ArePlaced region s.cells
   pub room : AreInRegion region base (length s.items + 2)
   pub stack_set : s.core.stack_set ≡ true
-  pub caller : Means s entry base (without_word called)
+  pub caller : Means s entry base (without_word called.entered)
   pub exit_set : exit.core.stack_set ≡ true
   pub exit_items : exit.items ≡ []
   pub exit_core : IsCore exit.core
-  pub exits : Means exit called (called.processor.sp + 2) x
+  pub exits : Means exit called (called.entered.processor.sp + 2) x
   pub callee : Setting
   pub keeps : keeps callee ≡ true
-  pub kept : (b : ℕ) → IsKept callee region ranges called.processor.sp b → peek x.storage b ≡ peek called.storage b
+  pub kept : (b : ℕ) → IsKept callee region ranges called.entered.processor.sp b → peek x.storage b ≡ peek called.entered.storage b
 
 -- By those of version 3: the callee took over k items of the caller's, the return word among them, and leaves as many as its exit
 -- has. It stands in a setting of its own, in which it keeps what isn't its own to write.
-pub record HandsBack (k : ℕ) (region : Region) (ranges : List Range) (s exit : AbsState) (entry : MState) (base : ℕ) (called x : MState) : Type 0 where
+pub record HandsBack (k : ℕ) (region : Region) (ranges : List Range) (s exit : AbsState) (entry : Activation) (base : ℕ) (called : Activation) (x : MState) : Type 0 where
   pub is_region : IsRegion region
   pub apart : AllByRecursion (λ r. meets region r.first r.last ≡ false) ranges
   pub placed : IsApart region s
   pub room : AreInRegion region base (length s.items)
-  pub begins : IsCalled k s entry base called
+  pub begins : IsCalled k s entry base called.entered
   pub callee : Setting
   pub keeps : keeps callee ≡ true
   pub callee_base : IsBase callee (base_below k s.items base)
   pub exit_set : exit.core.stack_set ≡ true
   pub exit_core : IsCore exit.core
   pub exits : Means exit called (base_below k s.items base) x
-  pub kept : (b : ℕ) → IsKept callee region ranges (base_below k s.items base) b → peek x.storage b ≡ peek called.storage b
+  pub kept : (b : ℕ) → IsKept callee region ranges (base_below k s.items base) b → peek x.storage b ≡ peek called.entered.storage b
 
 abbrev pub ComesBackBy :
-    Rules → ℕ → Region → List Range → AbsState → AbsState → MState → ℕ → MState → MState → Type 0
+    Rules → ℕ → Region → List Range → AbsState → AbsState → Activation → ℕ → Activation → MState → Type 0
 ComesBackBy Simple k region ranges s exit entry base called x = ComesBack region ranges s exit entry base called x
 ComesBackBy Extended k region ranges s exit entry base called x = HandsBack k region ranges s exit entry base called x
 
 -- x is one of the states, of which there are some
-abbrev pub MeansIf : Option AbsState → MState → ℕ → MState → Type 0
+abbrev pub MeansIf : Option AbsState → Activation → ℕ → MState → Type 0
 MeansIf None entry base x = ⊥
 MeansIf (Some s) entry base x = Means s entry base x
 
 -- the same of what was computed; of what is too deep nothing is said
-abbrev pub MeansResumed : Resumed → MState → ℕ → MState → Type 0
+abbrev pub MeansResumed : Resumed → Activation → ℕ → MState → Type 0
 MeansResumed Nothing entry base x = ⊥
 MeansResumed (States s) entry base x = Means s entry base x
 MeansResumed TooDeep entry base x = Unit {0}
@@ -113,5 +115,5 @@ ReducesSoundly s =
 -- whatever the callee did, what is said of the caller's state holds
 pub record IsSoundResuming (rules : Rules) (k : ℕ) (ranges : List Range) (s exit : AbsState) (after : Resumed) : Type 0 where
   pub gives :
-      (region : Region) (entry : MState) (base : ℕ) (called x : MState)
+      (region : Region) (entry : Activation) (base : ℕ) (called : Activation) (x : MState)
       → ComesBackBy rules k region ranges s exit entry base called x → MeansResumed after entry base x

@@ -6,7 +6,7 @@ ghost use Rattle.gb_calls.specs.Calls as Calls;
 ghost use Rattle.gb_calls.specs.Sound.{IsSoundEntering};
 ghost use Rattle.gb_calls.specs.TakenOver as TakenOver;
 
-use gb_domain::types::{Abs, Cell, Core, Ctl, Flg, Origin, Rules, Val};
+use gb_domain::types::{Abs, Cell, Core, Ctl, Flg, KeptBanks, Origin, Rules, Val};
 use gb_ops::registers::Registers;
 use gb_product::{cell_without_origin, own, without_origin};
 
@@ -37,7 +37,7 @@ fn entered_core(core: &Core) -> Core
         },
         ie: own(Origin::Ie, core.ie),
         ctl: Ctl {
-            is_kept: true,
+            kept: KeptBanks::all_or_none(true),
             ..core.ctl
         },
         ..*core

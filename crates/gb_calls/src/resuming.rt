@@ -10,7 +10,7 @@ ghost use Rattle.gb_calls.specs.TakenOver as TakenOver;
 use crate::cells::{cells_back, is_address_in};
 use gb_domain::places::OneByte;
 use gb_domain::relations::Relations;
-use gb_domain::types::{Abs, Core, Origin, Range, Rules, Val};
+use gb_domain::types::{Abs, Core, Ctl, KeptBanks, Origin, Range, Rules, Val};
 use gb_ops::registers::Registers;
 use gb_product::{Kept, is_own, only_of_a, reduce, returned, without_origin};
 
@@ -63,6 +63,41 @@ fn registers_back(caller: &Registers<Val>, exit: &Registers<Val>) -> Registers<V
     }
 }
 
+/// What the caller has kept, where the callee has kept it too.
+fn kept_back(caller: KeptBanks, exit: KeptBanks) -> KeptBanks
+    ensures { result ≡ Resuming.kept_back caller exit }
+{
+    KeptBanks {
+        bank: exit.bank && caller.bank,
+        second: exit.second && caller.second,
+        gate: exit.gate && caller.gate,
+        mode: exit.mode && caller.mode,
+        high_bank: exit.high_bank && caller.high_bank,
+    }
+}
+
+/// Each register of the controller that the callee has kept is the caller's, else its exit says what it is.
+fn controller_back(caller: &Ctl, exit: &Ctl) -> Ctl
+    ensures { result ≡ Resuming.controller_back caller.now exit.now }
+{
+    let kept = exit.kept;
+    let bank = if kept.bank && kept.high_bank {
+        caller
+    } else {
+        exit
+    };
+    let second = if kept.second { caller } else { exit };
+    Ctl {
+        bank_lo: bank.bank_lo,
+        bank_hi: bank.bank_hi,
+        second_lo: second.second_lo,
+        second_hi: second.second_hi,
+        gate: if kept.gate { caller.gate } else { exit.gate },
+        mode: if kept.mode { caller.mode } else { exit.mode },
+        kept: kept_back(caller.kept, kept),
+    }
+}
+
 /// IME and the bound are the exit's, the stack is the caller's; the rest is the caller's where it is given back.
 fn core_back(caller: &Core, exit: &Core) -> Core
     ensures { result ≡ Resuming.core_back caller.now exit.now }
@@ -71,11 +106,7 @@ fn core_back(caller: &Core, exit: &Core) -> Core
         ime: exit.ime,
         bound: exit.bound,
         stack_set: caller.stack_set,
-        ctl: if exit.ctl.is_kept {
-            caller.ctl
-        } else {
-            exit.ctl
-        },
+        ctl: controller_back(&caller.ctl, &exit.ctl),
         flags: if exit.flags.is_own {
             caller.flags
         } else {

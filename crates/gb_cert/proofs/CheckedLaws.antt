@@ -11,10 +11,11 @@ use Rattle.gb_domain.specs.declared.types.May.{May}
 use Rattle.gb_domain.specs.declared.types.Flg.{Flg}
 use Rattle.gb_domain.specs.declared.types.ImeSet.{ImeSet}
 use Rattle.gb_domain.specs.declared.types.Ctl.{Ctl}
+use Rattle.gb_domain.specs.declared.types.KeptBanks.{KeptBanks}
 use Rattle.gb_domain.specs.declared.types.Core.{Core}
 use Rattle.gb_domain.specs.declared.types.Cell.{Cell}
 use Rattle.gb_states.specs.declared.role.Role.{Role}
-use Rattle.gb_domain.specs.Types.{AbsState, state_of}
+use Rattle.gb_domain.specs.Types.{AbsState, all_or_none, are_all_kept, state_of}
 use Rattle.gb_states.specs.Below.gb_fields.Reading.{word_of, is_one}
 use Rattle.gb_states.specs.Reading.{origin_of, to_may, to_flg}
 use Rattle.gb_states.specs.Spelling as spelled
@@ -24,11 +25,11 @@ use Rattle.gb_domain.specs.declared.rules.Rules.TheVariants.{Simple, Extended}
 use Rattle.gb_domain.specs.declared.relations.Relations.{Relations}
 use Rattle.gb_domain.specs.RelationRules.{has_place, compared, test_alone, IsRelations}
 use Rattle.gb_states.specs.Below.gb_fields.Limits.{unit}
-use Rattle.gb_states.specs.Rules.{is_whole, may_be_known, may_be_of, is_sayable, are_sayable, is_core_sayable, is_cell_sayable, is_state_sayable, IsState}
+use Rattle.gb_states.specs.Rules.{is_whole, may_be_known, may_be_of, is_sayable, are_sayable, is_all_or_none, is_core_sayable, is_cell_sayable, is_state_sayable, IsState}
 use Rattle.gb_states.specs.RelationSpelling as told
 use Rattle.gb_states.specs.Checked.{flg_in, core_in, test_in, begins_with_zero, begins_with_zeros, are_none, listed_items, listed_cells}
 use Rattle.gb_states.proofs.RelationLaws.{is-alone, nothing-told}
-use Rattle.gb_states.proofs.FieldLaws.{and_both, same, Flags, number_of, of-flag, origin_of-number, may-number, ime-number, flags-number, own-again}
+use Rattle.gb_states.proofs.FieldLaws.{and_both, same, Flags, number_of, of-flag, origin_of-number, may-number, ime-number, flags-number, kept-again, own-again}
 use Rattle.gb_cert.proofs.Lending.{core-long, vals-long, cell-long, lists-behind}
 
 word-again : (w : ℕ) → w % 256 + 256 * (w / 256) ≡ w
@@ -43,16 +44,18 @@ again v = record { lo = v.lo; hi = v.hi; low_bits = 0; origin = origin_of (spell
 -- what can be said knows no low bits
 val-again : (rules : Rules) (v : Val) → is_sayable rules v ≡ true → again v ≡ v
 val-again rules v h =
-    let none : v.low_bits ≡ 0 = same v.low_bits 0 (and_both (may_be_of rules v.origin) (v.low_bits == 0) h).1 in
-    make_val v.lo v.hi v.low_bits _ v.origin none (origin_of-number v.origin)
+    let s = and_both (may_be_of rules v.origin) (v.low_bits == 0) h in
+    make_val v.lo v.hi v.low_bits _ v.origin (same v.low_bits 0 s.1) (origin_of-number rules v.origin s.0)
 
-make_ctl : (a a2 b b2 c d : ℕ) (g g2 m m2 : May) (k k2 : Bool) → a ≡ a2 → b ≡ b2 → g ≡ g2 → m ≡ m2 → k ≡ k2
-    → (let x : Ctl = record { bank_lo = a; bank_hi = b; second_lo = c; second_hi = d; gate = g; mode = m; is_kept = k } in x) ≡ record { bank_lo = a2; bank_hi = b2; second_lo = c; second_hi = d; gate = g2; mode = m2; is_kept = k2 }
+make_ctl : (a a2 b b2 c d : ℕ) (g g2 m m2 : May) (k k2 : KeptBanks) → a ≡ a2 → b ≡ b2 → g ≡ g2 → m ≡ m2 → k ≡ k2
+    → (let x : Ctl = record { bank_lo = a; bank_hi = b; second_lo = c; second_hi = d; gate = g; mode = m; kept = k } in x) ≡ record { bank_lo = a2; bank_hi = b2; second_lo = c; second_hi = d; gate = g2; mode = m2; kept = k2 }
 make_ctl a a2 b b2 c d g g2 m m2 k k2 ea eb eg em ek = rw (ea, eb, eg, em, ek) refl
 
-ctl-again : (c : Ctl)
-    → (let x : Ctl = record { bank_lo = word_of (c.bank_lo % 256, c.bank_lo / 256); bank_hi = word_of (c.bank_hi % 256, c.bank_hi / 256); second_lo = c.second_lo; second_hi = c.second_hi; gate = to_may (spelled.may_number c.gate); mode = to_may (spelled.may_number c.mode); is_kept = is_one (spelled.flag c.is_kept) } in x) ≡ c
-ctl-again c = make_ctl _ c.bank_lo _ c.bank_hi c.second_lo c.second_hi _ c.gate _ c.mode _ c.is_kept (word-again c.bank_lo) (word-again c.bank_hi) (may-number c.gate) (may-number c.mode) (of-flag c.is_kept)
+ctl-again : (c : Ctl) → is_all_or_none c.kept ≡ true
+    → (let x : Ctl = record { bank_lo = word_of (c.bank_lo % 256, c.bank_lo / 256); bank_hi = word_of (c.bank_hi % 256, c.bank_hi / 256); second_lo = c.second_lo; second_hi = c.second_hi; gate = to_may (spelled.may_number c.gate); mode = to_may (spelled.may_number c.mode); kept = all_or_none (is_one (spelled.flag (are_all_kept c.kept))) } in x) ≡ c
+ctl-again c h =
+    make_ctl _ c.bank_lo _ c.bank_hi c.second_lo c.second_hi _ c.gate _ c.mode _ c.kept (word-again c.bank_lo) (word-again c.bank_hi) (may-number c.gate) (may-number c.mode)
+    (ap (λ (b : Bool). all_or_none b) (of-flag (are_all_kept c.kept)) ∙ kept-again c.kept h)
 
 make_flg : (p q : Flags) (o u : Bool) → p ≡ q → o ≡ u → to_flg (p, o) ≡ to_flg (q, u)
 make_flg p q o u e f = rw (e, f) refl
@@ -72,8 +75,11 @@ core-again : (rules : Rules) (c : Core) (t : Option ℕ) (rest : List ℕ) → i
 unfolding spelled.core spelled.ctl spelled.flg spelled.val spelled.vals
 core-again rules c t rest sayable = by t
   where
+    said : (is_all_or_none c.ctl.kept ≡ true) × ((is_sayable rules c.ie && are_sayable rules c.registers) ≡ true)
+    said = and_both (is_all_or_none c.ctl.kept) (is_sayable rules c.ie && are_sayable rules c.registers) sayable
+
     parts : (is_sayable rules c.ie ≡ true) × (are_sayable rules c.registers ≡ true)
-    parts = and_both (is_sayable rules c.ie) (are_sayable rules c.registers) sayable
+    parts = and_both (is_sayable rules c.ie) (are_sayable rules c.registers) said.1
 
     ie : again c.ie ≡ c.ie
     ie = val-again rules c.ie parts.0
@@ -90,8 +96,8 @@ core-again rules c t rest sayable = by t
         make_vals _ _ _ _ _ _ _ _ _ _ _ _ _ _ (val-again rules r.a p.0) (val-again rules r.b q.0) (val-again rules r.c s.0) (val-again rules r.d u.0) (val-again rules r.e v.0) (val-again rules r.h w.0) (val-again rules r.l w.1)
 
     by : (o : Option ℕ) → core_in (spelled.core c o ++ rest) ≡ c
-    by None = make_core _ c.ime c.bound _ c.stack_set _ c.ctl _ c.flags _ c.ie _ c.registers (ime-number c.ime) (of-flag c.stack_set) (ctl-again c.ctl) (flg-again c.flags) ie vals
-    by (Some a) = make_core _ c.ime c.bound _ c.stack_set _ c.ctl _ c.flags _ c.ie _ c.registers (ime-number c.ime) (of-flag c.stack_set) (ctl-again c.ctl) (flg-again c.flags) ie vals
+    by None = make_core _ c.ime c.bound _ c.stack_set _ c.ctl _ c.flags _ c.ie _ c.registers (ime-number c.ime) (of-flag c.stack_set) (ctl-again c.ctl said.0) (flg-again c.flags) ie vals
+    by (Some a) = make_core _ c.ime c.bound _ c.stack_set _ c.ctl _ c.flags _ c.ie _ c.registers (ime-number c.ime) (of-flag c.stack_set) (ctl-again c.ctl said.0) (flg-again c.flags) ie vals
 
 test-again : (c : Core) (t : Option ℕ) (rest : List ℕ) → test_in (spelled.core c t ++ rest) ≡ t
 unfolding spelled.core

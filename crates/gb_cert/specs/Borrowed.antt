@@ -5,7 +5,7 @@ use Rattle.gb_states.specs.Below.gb_fields.declared.fault.CertFault.{CertFault}
 use Rattle.gb_domain.specs.declared.types.Core.{Core}
 use Rattle.gb_domain.specs.declared.rules.Rules.{Rules}
 use Rattle.gb_states.specs.declared.role.Role.{Role}
-use Rattle.gb_domain.specs.Types.{AbsState, ProcedureParts, any_val, state_of}
+use Rattle.gb_domain.specs.Types.{AbsState, ProcedureParts, all_or_none, any_val, state_of}
 use Rattle.gb_states.specs.Below.gb_fields.Limits.{unit}
 use Rattle.gb_states.specs.Rules.{IsState}
 use Rattle.gb_states.specs.Reading.{state_at, exit_at, Body, body_at, to_procedure}
@@ -22,7 +22,7 @@ any_core = record {
   ime = record { off = true; pending = true; on = true };
   bound = 161;
   stack_set = false;
-  ctl = record { bank_lo = 0; bank_hi = 511; second_lo = 0; second_hi = 255; gate = record { clear = true; set = true }; mode = record { clear = true; set = true }; is_kept = false };
+  ctl = record { bank_lo = 0; bank_hi = 511; second_lo = 0; second_hi = 255; gate = record { clear = true; set = true }; mode = record { clear = true; set = true }; kept = all_or_none false };
   flags = record { zero = record { clear = true; set = true }; subtract = record { clear = true; set = true }; half_carry = record { clear = true; set = true }; carry = record { clear = true; set = true }; is_own = false };
   ie = any_val;
   registers = record { a = any_val; b = any_val; c = any_val; d = any_val; e = any_val; h = any_val; l = any_val };

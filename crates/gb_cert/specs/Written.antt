@@ -82,7 +82,8 @@ has_many_cells rules s = nat_lt (cell_room rules) (length s.cells)
 abbrev pub is_related : Rules → AbsState → Bool
 is_related rules s = not (may_be_known rules s.relations)
 
--- a value is a copy of the return word's bytes, in versions 1 and 2, or has low bits that are known
+-- a value is a copy of the return word's bytes, in versions 1 and 2, or of what a procedure declares, or has low bits that are known;
+-- or some of the controller's registers are kept, and not all
 abbrev pub has_unsayable : Rules → AbsState → Bool
 has_unsayable rules s = not (is_state_sayable rules s)
 

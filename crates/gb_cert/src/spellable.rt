@@ -4,7 +4,7 @@ ghost use Rattle.std.specs.Prelude.{◌≡◌, ◌||◌, ◌&&◌, true, false, 
 ghost use Rattle.std.specs.List.{list_any, list_all};
 ghost use Rattle.gb_domain.specs.RelationRules.{is_a_alone, is_test_byte, is_known, are_unknown, is_test_alone};
 ghost use Rattle.gb_states.specs.Below.gb_fields.Rules.{usual_base, is_whole};
-ghost use Rattle.gb_states.specs.Rules.{may_be_of, is_sayable, are_sayable, is_core_sayable, is_cell_sayable, is_state_sayable, may_be_known};
+ghost use Rattle.gb_states.specs.Rules.{is_declared_origin, may_be_of, is_sayable, are_sayable, is_all_or_none, is_core_sayable, is_cell_sayable, is_state_sayable, may_be_known};
 ghost use Rattle.gb_cert.specs.Written.{exit_of, is_odd, is_half, has_many_items, has_many_cells, is_related, has_unsayable, is_unspellable, state_has, exit_has, returns_with, stands_with, has_half_need, says_base, say_base, rules_in, AreSpellable, IsWriteFault};
 
 use crate::told::is_known;
@@ -12,7 +12,7 @@ use crate::writer::{NodePlan, ProcedurePlan, Version, WriteFault};
 use gb_domain::pairs::Pairs;
 use gb_domain::places::{OneByte, Test, has_place};
 use gb_domain::relations::Relations;
-use gb_domain::types::{Abs, Cell, Core, Origin, Rules, Val};
+use gb_domain::types::{Abs, Cell, Core, KeptBanks, Origin, Rules, Val};
 use gb_ops::machine::Region;
 use gb_ops::registers::Registers;
 
@@ -65,13 +65,26 @@ fn may_be_known(rules: Rules, relations: &Relations) -> bool
 
 // ---- values
 
+/// Whether it is of what a procedure declares for itself, which versions 1 to 3 can't say: a byte to be kept, or its mark.
+fn is_declared_origin(origin: Option<Origin>) -> bool
+    ensures { result ≡ is_declared_origin origin }
+{
+    matches!(
+        origin,
+        Some(Origin::Kept(_)) | Some(Origin::MarkHigh) | Some(Origin::MarkLow)
+    )
+}
+
 /// Whether there is what a value is a copy of by these rules.
 fn may_be_of(rules: Rules, origin: Option<Origin>) -> bool
     ensures { result ≡ may_be_of rules origin }
 {
     match rules {
-        Rules::Simple => !matches!(origin, Some(Origin::ReturnHigh) | Some(Origin::ReturnLow)),
-        Rules::Extended => true,
+        Rules::Simple => {
+            let is_of_return = matches!(origin, Some(Origin::ReturnHigh) | Some(Origin::ReturnLow));
+            !(is_of_return || is_declared_origin(origin))
+        }
+        Rules::Extended => !is_declared_origin(origin),
     }
 }
 
@@ -94,10 +107,19 @@ fn are_sayable(rules: Rules, registers: &Registers<Val>) -> bool
         && is_sayable(rules, registers.l)
 }
 
+/// Whether one byte can say what is kept of the controller.
+fn is_all_or_none(kept: KeptBanks) -> bool
+    ensures { result ≡ is_all_or_none kept }
+{
+    kept.are_all() || !kept.is_some()
+}
+
 fn is_core_sayable(rules: Rules, core: &Core) -> bool
     ensures { result ≡ is_core_sayable rules core.now }
 {
-    is_sayable(rules, core.ie) && are_sayable(rules, &core.registers)
+    is_all_or_none(core.ctl.kept)
+        && is_sayable(rules, core.ie)
+        && are_sayable(rules, &core.registers)
 }
 
 fn are_items_sayable(rules: Rules, items: &[Val]) -> bool

@@ -26,7 +26,7 @@ pub(crate) fn word(word: u16) -> [u8; 2]
     [(word % 256) as u8, (word / 256) as u8]
 }
 
-/// An origin's number: 0 where there is none.
+/// An origin's number: 0 where there is none, and 255 where versions 1 to 3 have no number for it.
 fn origin_number(origin: Option<Origin>) -> u8
     ensures { result ≡ spelled.origin_number origin }
 {
@@ -43,6 +43,7 @@ fn origin_number(origin: Option<Origin>) -> u8
         Some(Origin::Ie) => 9,
         Some(Origin::ReturnHigh) => 10,
         Some(Origin::ReturnLow) => 11,
+        Some(Origin::Kept(_)) | Some(Origin::MarkHigh) | Some(Origin::MarkLow) => 255,
     }
 }
 
@@ -123,7 +124,7 @@ fn put_ctl(ctl: &Ctl, out: &mut Vec<u8>) -> Result<(), AllocError>
             ctl.second_hi,
             may_number(ctl.gate),
             may_number(ctl.mode),
-            flag(ctl.is_kept),
+            flag(ctl.kept.are_all()),
         ],
         out,
     )

@@ -66,7 +66,8 @@ pub enum WriteFault {
     Cells,
     /// A state knows more of several parts together than a test of A, in version 1 or 2.
     Relations,
-    /// A value is a copy of the return word's high or low byte, in version 1 or 2, or low bits of it are known.
+    /// A value is a copy of the return word's high or low byte, in version 1 or 2, or of a byte that its procedure declares, or low
+    /// bits of it are known; or some of the controller's registers are kept, and not all.
     Values,
     /// A procedure has another base than the one that versions 1 and 2 mean.
     Base,

@@ -15,7 +15,7 @@ use Rattle.gb_abs_memory.specs.Below.gb_domain.Settings.{known_base, simple, IsB
 use Rattle.gb_abs_memory.specs.Below.gb_abs.Located.{item_at, stack_base}
 use Rattle.gb_abs_memory.specs.Below.gb_abs.Span.{one, is_one}
 use Rattle.gb_abs_memory.specs.Below.gb_abs.Storage.{is_ram}
-use Rattle.gb_abs_memory.specs.Below.gb_abs.Meaning.{Holds, MeansParts}
+use Rattle.gb_abs_memory.specs.Below.gb_abs.Meaning.{Activation, Holds, MeansParts}
 use Rattle.gb_abs_memory.specs.Access.{val_at, item_or, val_or_item, loaded_val, meets_closed_ram, is_limited}
 use Rattle.gb_abs_memory.specs.Sound.{IsRom, IsLoaded, view}
 use Rattle.gb_abs_memory.proofs.LoadLaws.{IsLoaded-loaded_val}
@@ -29,7 +29,7 @@ chosen false x y z h = inr (refl, h)
 
 -- ---- one byte
 
-single_holds : (v : Val) (entry : MState) (x b : ℕ) → single_of v ≡ Some b → Holds v entry x → x ≡ b
+single_holds : (v : Val) (entry : Activation) (x b : ℕ) → single_of v ≡ Some b → Holds v entry x → x ≡ b
 unfolding single_of
 single_holds v entry x b h m = elim (chosen (v.lo == v.hi) (Some v.lo) None (Some b) h) [
   | inl p ↦
@@ -84,7 +84,7 @@ fixed_by true fixed b h =
     absurd (omega arith)
 fixed_by false fixed b h = (refl, h 0 (omega arith))
 
-Reads-byte : (rom : List ℕ) (s : AbsState) (entry : MState) (base : ℕ) (x : MState) (a b : ℕ) → IsRom rom → MeansParts s entry base x → IsVal s.core.ie
+Reads-byte : (rom : List ℕ) (s : AbsState) (entry : Activation) (base : ℕ) (x : MState) (a b : ℕ) → IsRom rom → MeansParts s entry base x → IsVal s.core.ie
     → is_limited s.core (one a) ≡ false → is_code_address a ≡ true → single_of (val_at rom s a) ≡ Some b → Reads rom x a b
 unfolding within read_at fetch_faults
 Reads-byte rom s entry base x a b r m ie clear code h =
@@ -101,7 +101,7 @@ Reads-byte rom s entry base x a b r m ie clear code h =
     }
 
 -- what is known of a byte is what the machine reads
-pub Reads-known : (rom : List ℕ) (s : AbsState) (entry : MState) (base : ℕ) (x : MState) (a b : ℕ) → IsRom rom → MeansParts s entry base x → IsVal s.core.ie
+pub Reads-known : (rom : List ℕ) (s : AbsState) (entry : Activation) (base : ℕ) (x : MState) (a b : ℕ) → IsRom rom → MeansParts s entry base x → IsVal s.core.ie
     → is_limited s.core (one a) ≡ false → known_byte rom s a ≡ Some b → Reads rom x a b
 unfolding known_byte
 Reads-known rom s entry base x a b r m ie clear h = elim (chosen (is_code_address a) (single_of (val_at rom s a)) None (Some b) h) [

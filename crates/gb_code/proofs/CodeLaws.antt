@@ -17,7 +17,7 @@ use Rattle.gb_abs_memory.specs.Below.gb_domain.declared.types.Ctl.{Ctl}
 use Rattle.gb_abs_memory.specs.Below.gb_domain.Types.{AbsState, Node}
 use Rattle.gb_abs_memory.specs.Below.gb_domain.Rules.{IsVal}
 use Rattle.gb_abs_memory.specs.Below.gb_abs.Span.{one, is_inside}
-use Rattle.gb_abs_memory.specs.Below.gb_abs.Meaning.{MeansParts}
+use Rattle.gb_abs_memory.specs.Below.gb_abs.Meaning.{Activation, MeansParts}
 use Rattle.gb_abs_memory.specs.Access.{is_limited}
 use Rattle.gb_abs_memory.specs.Shown.{known_bank}
 use Rattle.gb_abs_memory.specs.Sound.{IsRom}
@@ -191,7 +191,7 @@ shown_known : (o : Option ℕ) (shown bank : ℕ) → o ≡ Some bank → IfSome
 shown_known None shown bank h i = cc
 shown_known (Some b) shown bank h i = i ∙ same_Some b bank h
 
-place_bank : (rom : List ℕ) (n : Node) (entry : MState) (base : ℕ) (x : MState) (a : ℕ) → IsRom rom → MeansParts n.state entry base x → Halves n.address a
+place_bank : (rom : List ℕ) (n : Node) (entry : Activation) (base : ℕ) (x : MState) (a : ℕ) → IsRom rom → MeansParts n.state entry base x → Halves n.address a
     → known_bank rom n.state.core.ctl n.address ≡ Some n.bank → cond (nat_lt a 0x8000) (shown_bank rom x.storage.banks a) 0 ≡ n.bank
 place_bank rom n entry base x a r m (InRom a_rom x_rom same) k =
     rw x_rom
@@ -210,7 +210,7 @@ unfolding within
 memory_storage rom x = refl
 
 -- where the machine stands at a node whose instruction is known
-pub record IsAt (rom : List ℕ) (n : Node) (entry : MState) (base : ℕ) (x : MState) : Type 0 where
+pub record IsAt (rom : List ℕ) (n : Node) (entry : Activation) (base : ℕ) (x : MState) : Type 0 where
   pub cartridge : IsRom rom
   pub means : MeansParts n.state entry base x
   pub ie : IsVal n.state.core.ie
@@ -225,11 +225,11 @@ clear_each : (rom : List ℕ) (n : Node) (bytes : List ℕ) (k : IsKnown rom n b
 clear_each rom n bytes k a i = clear_byte n.state.core n.address (length_of k.known.opcode) k.end a k.clear (area_small n.address k.end k.is_end).1 i
 
 -- one byte of the instruction
-reads_byte : (rom : List ℕ) (n : Node) (entry : MState) (base : ℕ) (x : MState) (bytes : List ℕ) (k : IsKnown rom n bytes) → IsAt rom n entry base x → (a b : ℕ)
+reads_byte : (rom : List ℕ) (n : Node) (entry : Activation) (base : ℕ) (x : MState) (bytes : List ℕ) (k : IsKnown rom n bytes) → IsAt rom n entry base x → (a b : ℕ)
     → IsInside n.address k.end a → known_byte rom n.state a ≡ Some b → Reads rom x a b
 reads_byte rom n entry base x bytes k s a b i h = Reads-known rom n.state entry base x a b s.cartridge s.means s.ie (clear_each rom n bytes k a i) h
 
-certified : (rom : List ℕ) (n : Node) (entry : MState) (base : ℕ) (x : MState) (bytes : List ℕ) (k : IsKnown rom n bytes) → IsAt rom n entry base x → (a : ℕ)
+certified : (rom : List ℕ) (n : Node) (entry : Activation) (base : ℕ) (x : MState) (bytes : List ℕ) (k : IsKnown rom n bytes) → IsAt rom n entry base x → (a : ℕ)
     → IsInside n.address k.end a → Contains (addresses_of n.address (length_of k.known.opcode)) a → IsCertifiedBy rom n (code_place (within rom x).memory a)
 unfolding code_place within
 certified rom n entry base x bytes k s a i c =
@@ -245,7 +245,7 @@ unfolding addresses_of
 first_of a n = (0, omega arith, refl)
 
 -- the byte at PC
-pub FetchesFirst-known : (rom : List ℕ) (n : Node) (entry : MState) (base : ℕ) (x : MState) (bytes : List ℕ) (k : IsKnown rom n bytes) → IsAt rom n entry base x
+pub FetchesFirst-known : (rom : List ℕ) (n : Node) (entry : Activation) (base : ℕ) (x : MState) (bytes : List ℕ) (k : IsKnown rom n bytes) → IsAt rom n entry base x
     → FetchesFirst rom n x k.known.opcode
 FetchesFirst-known rom n entry base x bytes k s =
     let i = (is_inside_each rom n bytes k).first in
@@ -318,7 +318,7 @@ wanted_known true rom s a b h w = h
 wanted_known false rom s a b h w = cc
 
 -- all bytes of the instruction
-pub FetchesAll-known : (rom : List ℕ) (n : Node) (entry : MState) (base : ℕ) (x : MState) (bytes : List ℕ) (k : IsKnown rom n bytes) → IsAt rom n entry base x
+pub FetchesAll-known : (rom : List ℕ) (n : Node) (entry : Activation) (base : ℕ) (x : MState) (bytes : List ℕ) (k : IsKnown rom n bytes) → IsAt rom n entry base x
     → IsPlainFetch x.processor k.known.opcode → FetchesAll rom n x bytes
 FetchesAll-known rom n entry base x bytes k s plain =
     let memory = (within rom x).memory in

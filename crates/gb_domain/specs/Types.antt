@@ -1,10 +1,11 @@
 -- What contracts see of states, procedures and nodes: plain lists.
-use Rattle.std.specs.Prelude.{ℕ, List, [], Option, None}
+use Rattle.std.specs.Prelude.{ℕ, Bool, ◌&&◌, ◌||◌, List, [], Option, None}
 use Rattle.gb_ops.specs.declared.op.Register.{Register}
 use Rattle.gb_ops.specs.declared.op.Register.TheVariants as register
 use Rattle.gb_domain.specs.declared.types.Origin.{Origin}
 use Rattle.gb_domain.specs.declared.types.Origin.TheVariants.{A, B, C, D, E, H, L}
 use Rattle.gb_domain.specs.declared.types.Val.{Val}
+use Rattle.gb_domain.specs.declared.types.KeptBanks.{KeptBanks}
 use Rattle.gb_domain.specs.declared.types.Core.{Core}
 use Rattle.gb_domain.specs.declared.types.Cell.{Cell}
 use Rattle.gb_domain.specs.declared.types.Range.{Range}
@@ -46,6 +47,16 @@ origin_of_register register.D = D
 origin_of_register register.E = E
 origin_of_register register.H = H
 origin_of_register register.L = L
+
+-- each register of the controller is kept, or none is
+abbrev pub all_or_none : Bool → KeptBanks
+all_or_none k = record { bank = k; second = k; gate = k; mode = k; high_bank = k }
+
+abbrev pub are_all_kept : KeptBanks → Bool
+are_all_kept k = k.bank && k.second && k.gate && k.mode && k.high_bank
+
+abbrev pub is_some_kept : KeptBanks → Bool
+is_some_kept k = k.bank || k.second || k.gate || k.mode || k.high_bank
 
 -- any byte
 abbrev pub any_val : Val

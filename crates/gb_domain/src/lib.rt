@@ -24,4 +24,4 @@ pub use low_bits::LowBits;
 pub use pairs::{Bounds, Link, Other, PairFacts, Pairs, WordPair};
 pub use places::{OneByte, Place, Test};
 pub use relations::Relations;
-pub use types::{Cell, Core, Ctl, Flg, Halves, ImeSet, May, Origin, Range, Val};
+pub use types::{Cell, Core, Ctl, Flg, Halves, ImeSet, KeptBanks, May, Origin, Range, Val};

@@ -9,6 +9,8 @@ use crate::rules::Rules;
 #[derive(Clone, Copy, PartialEq, Eq)]
 pub struct Setting {
     pub rules: Rules,
+    /// The rules are those of version 4, which know what the whole program does to memory and to the controller.
+    pub is_whole: bool,
     /// The procedure is main.
     pub is_main: bool,
     /// The address above the oldest item, as the certificate says; 0 where it says nothing.

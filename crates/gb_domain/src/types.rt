@@ -1,7 +1,7 @@
 //! What a certificate is made of: values, the core of a state, items, cells and ranges.
 
 ghost use Rattle.std.specs.Prelude.{◌≡◌};
-ghost use Rattle.gb_domain.specs.Types.{origin_of_register, zero_val, zero_cell, least_range};
+ghost use Rattle.gb_domain.specs.Types.{origin_of_register, all_or_none, are_all_kept, is_some_kept, zero_val, zero_cell, least_range};
 
 pub use crate::abs::Abs;
 pub use crate::rules::Rules;
@@ -27,6 +27,11 @@ pub enum Origin {
     Ie,
     ReturnHigh,
     ReturnLow,
+    /// The byte at the address that the procedure names with this number, the first 0, to be kept.
+    Kept(u8),
+    /// The bytes of the address at which the procedure puts its stack aside, so many bytes below its base.
+    MarkHigh,
+    MarkLow,
 }
 
 impl Origin {
@@ -82,7 +87,47 @@ pub struct ImeSet {
     pub on: bool,
 }
 
-/// What the controller's registers may be, and whether they are what they were as the procedure
+/// Which registers of the controller are what they were as the procedure was entered; of the bank the low eight bits and the ninth
+/// each by itself, since MBC5 has them in registers of their own.
+#[derive(Clone, Copy, PartialEq, Eq)]
+pub struct KeptBanks {
+    pub bank: bool,
+    pub second: bool,
+    pub gate: bool,
+    pub mode: bool,
+    pub high_bank: bool,
+}
+
+impl KeptBanks {
+    /// All of them, or none.
+    pub const fn all_or_none(is_kept: bool) -> KeptBanks
+        ensures { result ≡ all_or_none is_kept }
+    {
+        KeptBanks {
+            bank: is_kept,
+            second: is_kept,
+            gate: is_kept,
+            mode: is_kept,
+            high_bank: is_kept,
+        }
+    }
+
+    /// Whether all of them are.
+    pub fn are_all(self) -> bool
+        ensures { result ≡ are_all_kept self }
+    {
+        self.bank && self.second && self.gate && self.mode && self.high_bank
+    }
+
+    /// Whether one of them is.
+    pub fn is_some(self) -> bool
+        ensures { result ≡ is_some_kept self }
+    {
+        self.bank || self.second || self.gate || self.mode || self.high_bank
+    }
+}
+
+/// What the controller's registers may be, and which of them are what they were as the procedure
 /// was entered.
 #[derive(Clone, Copy, PartialEq, Eq)]
 pub struct Ctl {
@@ -92,7 +137,7 @@ pub struct Ctl {
     pub second_hi: u8,
     pub gate: May,
     pub mode: May,
-    pub is_kept: bool,
+    pub kept: KeptBanks,
 }
 
 /// A word, by its bytes.

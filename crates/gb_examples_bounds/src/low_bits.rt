@@ -3,9 +3,9 @@
 use gb_domain::interval::{cut, lies_in, with_low_bits};
 use gb_domain::low_bits::{common, covers};
 use gb_domain::{LowBits, StridedInterval};
-use gb_low_bits::logic::{complement, conjunction, disjunction, exclusion, reset_bit, set_bit};
-use gb_low_bits::shifts::{doubled, halved, swapped};
-use gb_low_bits::sums::{
+use gb_vals::low_logic::{complement, conjunction, disjunction, exclusion, reset_bit, set_bit};
+use gb_vals::low_shifts::{doubled, halved, swapped};
+use gb_vals::low_sums::{
     decremented, difference, high_decremented, high_incremented, incremented, sum,
 };
 use std::process::Abort;

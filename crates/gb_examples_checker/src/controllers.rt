@@ -2,7 +2,8 @@
 
 use gb_abs::span::Span;
 use gb_abs_memory::shown::known_bank;
-use gb_abs_memory::windows::{ControllerRegister, ctl_after, window_of, windows};
+use gb_abs_memory::windows::{ControllerRegister, ctl_written, window_of, windows};
+use gb_domain::types::KeptBanks;
 use gb_ops::machine::Kind;
 use gb_samples::cartridges::{PLAIN, file, small};
 use gb_samples::states::{CLEAR, EITHER, SET, START, from_to};
@@ -115,14 +116,15 @@ const BANKS: [BankRow; 16] = [
     (Kind::Mbc5, HIGH, (0x00, 0x01), (0xFE, 0x101), (0, 0x1FF)),
 ];
 
-/// Whether a store leaves the bank so, and all else as it was, but no longer kept.
+/// Whether a store leaves the bank so, and all else as it was, but no longer kept by the rules of versions 1 to 3.
 fn leaves_bank(row: &BankRow) -> bool {
     let (kind, register, (lo, hi), (old_lo, old_hi), (bank_lo, bank_hi)) = *row;
+    let before = with_bank(old_lo, old_hi);
     let expected = Ctl {
-        is_kept: false,
+        kept: KeptBanks::all_or_none(false),
         ..with_bank(bank_lo, bank_hi)
     };
-    ctl_after(kind, register, &from_to(lo, hi), &with_bank(old_lo, old_hi)) == expected
+    ctl_written(false, kind, register, &from_to(lo, hi), &before) == expected
 }
 
 #[test]
@@ -159,10 +161,10 @@ const STORES: [(Kind, u8, u8, Left); 15] = [
     (Kind::Mbc5, 0x12, 0x15, Left::Second(2, 5)),
 ];
 
-/// Whether a store leaves its register so, and all else as at power-up, but no longer kept.
+/// Whether a store leaves its register so, and all else as at power-up, but no longer kept by the rules of versions 1 to 3.
 fn leaves(kind: Kind, lo: u8, hi: u8, left: Left) -> bool {
     let changed = Ctl {
-        is_kept: false,
+        kept: KeptBanks::all_or_none(false),
         ..START
     };
     let (register, expected) = match left {
@@ -177,7 +179,7 @@ fn leaves(kind: Kind, lo: u8, hi: u8, left: Left) -> bool {
             },
         ),
     };
-    ctl_after(kind, register, &from_to(lo, hi), &START) == expected
+    ctl_written(false, kind, register, &from_to(lo, hi), &START) == expected
 }
 
 #[test]

@@ -11,7 +11,7 @@ use gb_abs_memory::refusals::{
 };
 use gb_abs_memory::store::{Area, area_of, is_storable, store, stored_state};
 use gb_abs_memory::windows::ControllerRegister;
-use gb_domain::types::{Halves, Rules, Setting};
+use gb_domain::types::{Halves, KeptBanks, Rules, Setting};
 use gb_ops::machine::{Kind, Region};
 use gb_ops::op::Register;
 use gb_samples::cartridges::{PLAIN, SMALLEST, Sizes, put, small};
@@ -22,6 +22,7 @@ use std::test::Fail;
 /// Main, by the rules of versions 1 and 2.
 const MAIN: Setting = Setting {
     rules: Rules::Simple,
+    is_whole: false,
     is_main: true,
     base: 0,
 };
@@ -29,6 +30,7 @@ const MAIN: Setting = Setting {
 /// A procedure above DFF0, by the rules of version 3.
 const ABOVE: Setting = Setting {
     rules: Rules::Extended,
+    is_whole: false,
     is_main: false,
     base: 0xDFF0,
 };
@@ -39,6 +41,7 @@ const ANYWHERE: Setting = Setting { base: 0, ..ABOVE };
 /// Main, by the rules of version 3.
 const FREE: Setting = Setting {
     rules: Rules::Extended,
+    is_whole: false,
     is_main: true,
     base: 0xE000,
 };
@@ -478,7 +481,7 @@ fn leaves(setting: Setting, rom: &Rom<'_>, at: Span, val: &Val, left: &Left) -> 
         && cell_at(0xC000, cells) == first
         && cell_at(0xC001, cells) == second
         && cells.len() == count
-        && core.ctl.is_kept == is_kept
+        && core.ctl.kept == KeptBanks::all_or_none(is_kept)
         && stored.starts == starts
 }
 

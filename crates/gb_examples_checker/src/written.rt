@@ -8,7 +8,9 @@ use gb_cert::{
 };
 use gb_domain::pairs::WordPair;
 use gb_domain::relations::Relations;
-use gb_domain::types::{Abs, Cell, Core, Ctl, Flg, Halves, ImeSet, Origin, Range, Rules, Val};
+use gb_domain::types::{
+    Abs, Cell, Core, Ctl, Flg, Halves, ImeSet, KeptBanks, Origin, Range, Rules, Val,
+};
 use gb_ops::machine::Region;
 use gb_ops::op::Register;
 use gb_ops::registers::Registers;
@@ -59,7 +61,7 @@ fn full() -> Core {
             second_hi: 0x05,
             gate: EITHER,
             mode: SET,
-            is_kept: false,
+            kept: KeptBanks::all_or_none(false),
         },
         flags: Flg {
             zero: SET,
@@ -502,6 +504,13 @@ const LIMITS: &[(Amounts, Option<WriteFault>)] = &[
     (
         Amounts {
             is_even: true,
+            ..LEAST_IN_VERSION_3
+        },
+        Some(WriteFault::Values),
+    ),
+    (
+        Amounts {
+            origin: Some(Origin::MarkLow),
             ..LEAST_IN_VERSION_3
         },
         Some(WriteFault::Values),

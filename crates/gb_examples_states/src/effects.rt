@@ -53,9 +53,14 @@ fn with_hl(h: Val, l: Val) -> Core {
 
 /// What an instruction leaves that reads a word, or a byte as its low one, where SP is given.
 fn after_with(op: Op, core: &Core, sp: Halves, word: Halves) -> AbsEffect {
-    let next = NEXT;
+    let inputs = Inputs {
+        is_whole: false,
+        next: NEXT,
+        sp,
+        word,
+    };
     let mut effect = quiet(core);
-    transfer_in(op, &Inputs { next, sp, word }, &mut effect);
+    transfer_in(op, &inputs, &mut effect);
     effect
 }
 

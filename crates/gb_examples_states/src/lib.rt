@@ -2,7 +2,7 @@
 //! least bounds that trying each value finds, and each public call once. The functions here promise nothing but to be
 //! safe.
 //!
-//! Read arithmetic.rt first (intervals and flags), then branches.rt, states.rt and effects.rt; then, for the rules of version 3,
+//! Read arithmetic.rt first (intervals and flags), then branches.rt, states.rt, effects.rt and strided.rt (low bits); then, for the rules of version 3,
 //! stacks.rt, facts.rt (states in few words), together.rt and related.rt.
 #![tactic(auto)]
 
@@ -20,5 +20,7 @@ mod related;
 mod stacks;
 #[cfg(test)]
 mod states;
+#[cfg(test)]
+mod strided;
 #[cfg(test)]
 mod together;

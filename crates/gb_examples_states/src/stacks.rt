@@ -178,6 +178,7 @@ fn is_placed(place: &Place) -> bool {
     let (rules, base, is_set, address, hi, sp) = *place;
     let setting = Setting {
         rules,
+        is_whole: false,
         is_main: false,
         base,
     };
@@ -202,6 +203,7 @@ fn a_known_sp_is_stored(rt: HostRuntime) {
         low: single(0xED),
     };
     let inputs = Inputs {
+        is_whole: false,
         next: 0x1234,
         sp,
         word: Halves {

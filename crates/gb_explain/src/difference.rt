@@ -2,7 +2,7 @@
 
 use crate::together::fmt_relations;
 use gb_ops::op::Register;
-use gb_verify::{ImeSet, May, Origin, Relations, Val};
+use gb_verify::{ImeSet, KeptBanks, May, Origin, Relations, Val};
 use std::fmt;
 
 /// A part of a state.
@@ -59,6 +59,8 @@ pub enum KnownPart {
     /// The least and the greatest bank.
     Banks(u16, u16),
     Kept(bool),
+    /// Which of the controller's registers are what they were at entry.
+    Controller(KeptBanks),
     Set(bool),
     Test(Option<u8>),
     Together(Relations),
@@ -72,7 +74,7 @@ pub struct StateDifference {
     pub claimed: KnownPart,
 }
 
-/// What a value is a copy of.
+/// What a value is a copy of; of what has a number the words before it.
 fn origin_text(origin: Option<Origin>) -> &'static str {
     match origin {
         None => "not a copy",
@@ -87,6 +89,17 @@ fn origin_text(origin: Option<Origin>) -> &'static str {
         Some(Origin::Ie) => "IE at entry",
         Some(Origin::ReturnHigh) => "high byte of the return address",
         Some(Origin::ReturnLow) => "low byte of the return address",
+        Some(Origin::Kept(_)) => "kept byte",
+        Some(Origin::MarkHigh) => "high byte of the saved SP",
+        Some(Origin::MarkLow) => "low byte of the saved SP",
+    }
+}
+
+fn fmt_origin<W: fmt::Write>(origin: Option<Origin>, f: &mut fmt::Formatter<W>) -> fmt::Result {
+    let text = origin_text(origin);
+    match origin {
+        Some(Origin::Kept(number)) => write!(f, "{text} {number} at entry"),
+        _ => write!(f, "{text}"),
     }
 }
 
@@ -181,13 +194,41 @@ fn fmt_banks<W: fmt::Write>(lo: u16, hi: u16, f: &mut fmt::Formatter<W>) -> fmt:
     }
 }
 
+/// Which of the controller's registers are kept, by name where it's some of them.
+fn fmt_kept<W: fmt::Write>(kept: KeptBanks, f: &mut fmt::Formatter<W>) -> fmt::Result {
+    if kept.are_all() {
+        return write!(f, "kept");
+    }
+    if !kept.is_some() {
+        return write!(f, "not kept");
+    }
+    let parts = [
+        (kept.bank, StatePart::Bank.name()),
+        (kept.high_bank, "bank bit 8"),
+        (kept.second, StatePart::Second.name()),
+        (kept.gate, StatePart::Gate.name()),
+        (kept.mode, StatePart::Mode.name()),
+    ];
+    write!(f, "kept in part")?;
+    let mut before = ": ";
+    for (is_kept, name) in &parts {
+        if *is_kept {
+            write!(f, "{before}{name}")?;
+            before = ", ";
+        }
+    }
+    Ok(())
+}
+
 impl fmt::Display for KnownPart {
     fn fmt<W: fmt::Write>(&self, f: &mut fmt::Formatter<W>) -> fmt::Result {
         match *self {
             KnownPart::Bytes(lo, hi) => fmt_bytes(lo, hi, f),
             KnownPart::Copy(val) => {
                 fmt_bytes(val.lo, val.hi, f)?;
-                write!(f, " ({})", origin_text(val.origin))
+                write!(f, " (")?;
+                fmt_origin(val.origin, f)?;
+                write!(f, ")")
             }
             KnownPart::Flag(flag) => write!(f, "{}", flag_text(flag)),
             KnownPart::Gate(gate) => write!(f, "{}", gate_text(gate)),
@@ -195,6 +236,7 @@ impl fmt::Display for KnownPart {
             KnownPart::Count(count) => write!(f, "{count}"),
             KnownPart::Banks(lo, hi) => fmt_banks(lo, hi, f),
             KnownPart::Kept(is_kept) => write!(f, "{}", if is_kept { "kept" } else { "not kept" }),
+            KnownPart::Controller(kept) => fmt_kept(kept, f),
             KnownPart::Set(is_set) => write!(f, "{}", if is_set { "set" } else { "not set" }),
             KnownPart::Test(None) => write!(f, "none"),
             KnownPart::Test(Some(value)) => write!(f, "${value:02X}"),

@@ -10,8 +10,8 @@ use crate::together::{compared, is_test_alone};
 use gb_ops::op::Register;
 use gb_ops::registers::Registers;
 use gb_verify::{
-    Abs, Cell, Core, Ctl, Flg, May, Relations, Rules, Val, cell_at, covers_ime, covers_may,
-    covers_origin, covers_relations, covers_val,
+    Abs, Cell, Core, Ctl, Flg, KeptBanks, May, Relations, Rules, Val, cell_at, covers_ime,
+    covers_may, covers_origin, covers_relations, covers_val,
 };
 
 /// The parts of a state that another doesn't cover, the first of them with what is known.
@@ -74,6 +74,18 @@ fn byte_part(rules: Rules, number: usize) -> StatePart {
         Rules::Simple => StatePart::LowByte(word),
         Rules::Extended => StatePart::Item(number),
     }
+}
+
+/// Whether all is kept that is claimed.
+#[tactic(auto, unfolding(crate::specs::Opened::covers_kept))]
+fn is_kept_as_claimed(left: KeptBanks, claimed: KeptBanks) -> bool
+    ensures { result ≡ Covering.covers_kept left claimed }
+{
+    (!claimed.bank || left.bank)
+        && (!claimed.second || left.second)
+        && (!claimed.gate || left.gate)
+        && (!claimed.mode || left.mode)
+        && (!claimed.high_bank || left.high_bank)
 }
 
 impl Differences {
@@ -174,11 +186,10 @@ impl Differences {
         let gates = (KnownPart::Gate(s.gate), KnownPart::Gate(t.gate));
         self.note(covers_may(s.gate, t.gate), StatePart::Gate, gates);
         self.note_flag(StatePart::Mode, s.mode, t.mode);
-        let is_kept = !t.is_kept || s.is_kept;
         self.note(
-            is_kept,
+            is_kept_as_claimed(s.kept, t.kept),
             StatePart::Controller,
-            (KnownPart::Kept(s.is_kept), KnownPart::Kept(t.is_kept)),
+            (KnownPart::Controller(s.kept), KnownPart::Controller(t.kept)),
         );
     }
 

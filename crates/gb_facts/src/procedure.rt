@@ -73,7 +73,7 @@ impl Exit {
             registers: kept_registers(&core.registers),
             flags: core.flags.is_own,
             ie: core.ie.origin == Some(Origin::Ie),
-            controller: core.ctl.is_kept,
+            controller: core.ctl.kept.are_all(),
         }
     }
 }

@@ -9,13 +9,23 @@ use crate::types::Run;
 use arrayvec::ArrayVec;
 use gb_ops::registers::Registers;
 use gb_verify::{
-    Abs, Cell, Core, Ctl, Flg, May, NOTHING_KNOWN, OneByte, Origin, Pairs, Range, Relations, Val,
+    Abs, Cell, Core, Ctl, Flg, KeptBanks, May, NOTHING_KNOWN, OneByte, Origin, Pairs, Range,
+    Relations, Val,
 };
 
 /// Any value of a bit.
 const EITHER: May = May {
     clear: true,
     set: true,
+};
+
+/// All of the controller's registers are as they were.
+const ALL_KEPT: KeptBanks = KeptBanks {
+    bank: true,
+    second: true,
+    gate: true,
+    mode: true,
+    high_bank: true,
 };
 
 /// What stands for a controller that is as it was.
@@ -26,7 +36,7 @@ const KEPT: Ctl = Ctl {
     second_hi: 255,
     gate: EITHER,
     mode: EITHER,
-    is_kept: true,
+    kept: ALL_KEPT,
 };
 
 /// A value; any, where it is what this held at entry, since the caller's own value comes back then.
@@ -136,7 +146,11 @@ fn seen_relations(exit: &Abs) -> Relations {
 fn seen(ranges: &[Range], exit: &Abs) -> Abs {
     let core = exit.core();
     let seen = Core {
-        ctl: if core.ctl.is_kept { KEPT } else { core.ctl },
+        ctl: if core.ctl.kept.are_all() {
+            KEPT
+        } else {
+            core.ctl
+        },
         flags: seen_flags(core.flags),
         ie: seen_val(Origin::Ie, core.ie),
         registers: seen_registers(&core.registers),

@@ -11,7 +11,7 @@ use crate::types::{Run, RunNode, RunProcedure};
 use gb_ops::registers::Registers;
 use gb_spelling::{INTERRUPT_COUNT, vector_of};
 use gb_verify::{
-    Abs, Cell, Core, Ctl, Flg, ImeSet, Origin, Pairs, Range, Rules, Val, cell_at,
+    Abs, Cell, Core, Ctl, Flg, ImeSet, KeptBanks, Origin, Pairs, Range, Rules, Val, cell_at,
     covers_controller, covers_core, covers_ime, covers_relations, covers_val, left_by_dispatch,
     may_come,
 };
@@ -39,7 +39,7 @@ fn entered_core(core: &Core) -> Core {
             on: false,
         },
         ctl: Ctl {
-            is_kept: true,
+            kept: KeptBanks::all_or_none(true),
             ..core.ctl
         },
         flags: Flg {
@@ -84,7 +84,7 @@ fn gives_back_all(exit: &Core) -> bool {
 
 /// Whether a core holds what is left of it by a handler that gives registers, flags and IE back.
 fn holds_core(core: &Core, exit: &Core) -> bool {
-    (exit.ctl.is_kept || covers_controller(&exit.ctl, &core.ctl))
+    (exit.ctl.kept.are_all() || covers_controller(&exit.ctl, &core.ctl))
         && covers_ime(&exit.ime, &core.ime)
         && exit.bound <= core.bound
 }

@@ -4,7 +4,8 @@ use crate::relating::{KnownRelations, join_relations};
 use arrayvec::ArrayVec;
 use gb_ops::registers::Registers;
 use gb_verify::{
-    Abs, Cell, Core, Ctl, Flg, ImeSet, May, Origin, Relations, Rules, Test, Val, any, test_alone,
+    Abs, Cell, Core, Ctl, Flg, ImeSet, KeptBanks, May, Origin, Relations, Rules, Test, Val, any,
+    test_alone,
 };
 
 /// The origin of both, if it is one.
@@ -50,6 +51,17 @@ fn join_flags(a: &Flg, b: &Flg) -> Flg {
     }
 }
 
+/// What both keep.
+fn join_kept(a: KeptBanks, b: KeptBanks) -> KeptBanks {
+    KeptBanks {
+        bank: a.bank && b.bank,
+        second: a.second && b.second,
+        gate: a.gate && b.gate,
+        mode: a.mode && b.mode,
+        high_bank: a.high_bank && b.high_bank,
+    }
+}
+
 fn join_controller(a: &Ctl, b: &Ctl) -> Ctl {
     Ctl {
         bank_lo: a.bank_lo.min(b.bank_lo),
@@ -58,7 +70,7 @@ fn join_controller(a: &Ctl, b: &Ctl) -> Ctl {
         second_hi: a.second_hi.max(b.second_hi),
         gate: join_may(a.gate, b.gate),
         mode: join_may(a.mode, b.mode),
-        is_kept: a.is_kept && b.is_kept,
+        kept: join_kept(a.kept, b.kept),
     }
 }
 

@@ -25,6 +25,7 @@ impl<'a> Run<'a> {
     pub(crate) fn stack_of(&self, procedure: usize) -> Stack {
         let setting = Setting {
             rules: self.rules(),
+            is_whole: false,
             is_main: procedure == 0,
             base: self.base_of(procedure),
         };

@@ -68,8 +68,8 @@ pub use gb_cert::{
     encode, one_spelling, write_certificate,
 };
 pub use gb_trace::{
-    Abs, Cell, Core, Ctl, Flg, ImeSet, May, OneByte, Origin, Range, Relations, Rules, Setting,
-    Span, Test, Val,
+    Abs, Cell, Core, Ctl, Flg, ImeSet, KeptBanks, May, OneByte, Origin, Range, Relations, Rules,
+    Setting, Span, Test, Val,
 };
 
 // Operations on values, on states, and the rules of nodes.

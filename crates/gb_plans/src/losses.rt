@@ -174,7 +174,7 @@ fn add_partings(
 fn loses_bank(run: &Run<'_>, number: usize) -> bool {
     match run.procedures.get(number) {
         Some(procedure) => match &procedure.exit {
-            Some(exit) => !exit.core().ctl.is_kept && !is_shown_known(run, exit),
+            Some(exit) => !exit.core().ctl.kept.are_all() && !is_shown_known(run, exit),
             None => false,
         },
         None => false,
@@ -274,7 +274,7 @@ fn add_switched(
     node: &RunNode,
     plan: &mut Plan,
 ) -> Result<(), AllocError> {
-    if node.state.core().ctl.is_kept {
+    if node.state.core().ctl.kept.are_all() {
         return Ok(());
     }
     let members = losers(alloc, run, node.key.procedure)?;

@@ -19,6 +19,7 @@ use Rattle.gb_relations.proofs.Below.gb_copies_laws.CoveringLaws.{covers_byte_so
 use Rattle.gb_relations.specs.Meaning.{IsZero, HoldRelations}
 use Rattle.gb_relations.specs.Transfer.{values_of}
 use Rattle.gb_product.specs.Meaning.{Means}
+use Rattle.gb_abs_effects.specs.Below.gb_abs.Meaning.{Activation}
 use Rattle.gb_product.specs.Covering.{covers_zero, covers_relations, covers}
 use Rattle.gb_product.specs.Sound.{IsPartOf}
 
@@ -40,7 +41,7 @@ HoldRelations-covered registers s t x memory f h in_registers m =
       pairs = (covers_pairs_sound (values_of registers s.pairs) t.pairs _ refl pairs.1).gives x (record { registers = in_registers; pairs = m.pairs });
     }
 
-pub Means-covered : (s t : AbsState) (entry : MState) (base : ℕ) (x : MState) → covers s t ≡ true → Means s entry base x → Means t entry base x
+pub Means-covered : (s t : AbsState) (entry : Activation) (base : ℕ) (x : MState) → covers s t ≡ true → Means s entry base x → Means t entry base x
 unfolding covers
 Means-covered s t entry base x h m =
     let both = and_parts _ _ h in

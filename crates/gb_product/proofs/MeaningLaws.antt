@@ -15,7 +15,7 @@ use Rattle.gb_domain.specs.Pairs.{facts_of, ArePairs}
 use Rattle.gb_domain.specs.Relations.{no_relations}
 use Rattle.gb_domain.specs.Rules.{IsCore}
 use Rattle.gb_abs_effects.specs.Below.gb_vals.Meaning.{In}
-use Rattle.gb_abs_effects.specs.Below.gb_abs.Meaning.{Holds, MeansCore}
+use Rattle.gb_abs_effects.specs.Below.gb_abs.Meaning.{Activation, Holds, MeansCore}
 use Rattle.gb_abs_effects.proofs.CoreLaws.{MeansCore-changed}
 use Rattle.gb_relations.specs.Below.gb_pairs.Meaning.{AreBytes, HoldPairs}
 use Rattle.gb_relations.specs.Meaning.{HoldRelations}
@@ -28,7 +28,7 @@ pub HoldRelations-nothing : (x : Registers ℕ) (memory : ℕ → ℕ) (f : Flag
 HoldRelations-nothing x memory f bytes = record { byte = HoldOneByte-nothing x memory f; zero = tt; pairs = HoldPairs-nothing x bytes }
 
 -- the registers of a machine state that a core means are bytes
-pub AreBytes-core : (c : Core) (entry x : MState) → IsCore c → MeansCore c entry x → AreBytes x.processor.registers
+pub AreBytes-core : (c : Core) (entry : Activation) (x : MState) → IsCore c → MeansCore c entry x → AreBytes x.processor.registers
 AreBytes-core c entry x is m =
     record {
       each = λ r.
@@ -41,7 +41,7 @@ AreBytes-core c entry x is m =
 
 -- values that hold still, and are copies of the same
 pub MeansCore-cut :
-    (core : Core) (vals : Registers Val) (entry x : MState)
+    (core : Core) (vals : Registers Val) (entry : Activation) (x : MState)
     → ((r : Register) → In (get r vals) (get r x.processor.registers))
     → ((r : Register) → (get r vals).origin ≡ (get r core.registers).origin)
     → MeansCore core entry x → MeansCore (record core { registers = vals }) entry x

@@ -11,7 +11,7 @@ use Rattle.gb_domain.specs.declared.types.Core.{Core}
 use Rattle.gb_domain.specs.declared.types.Val.{Val}
 use Rattle.gb_domain.specs.declared.pairs.Pairs.{Pairs}
 use Rattle.gb_domain.specs.Pairs.{ArePairs}
-use Rattle.gb_abs_effects.specs.Below.gb_abs.Meaning.{MeansCore}
+use Rattle.gb_abs_effects.specs.Below.gb_abs.Meaning.{Activation, MeansCore}
 use Rattle.gb_abs_effects.proofs.CoreLaws.{In-from}
 use Rattle.gb_relations.specs.Below.gb_pairs.declared.values.Values.{Values}
 use Rattle.gb_relations.specs.Below.gb_pairs.Meaning.{Holds}
@@ -33,12 +33,12 @@ use Rattle.gb_product.proofs.MeaningLaws.{MeansCore-cut, AreRelated-cut}
 
 -- ---- what is meant
 
-pub Holds-values : (core : Core) (r : Relations) (entry x : MState) → MeansCore core entry x → AreRelated r x → Holds (values_of core.registers r.pairs) x.processor.registers
+pub Holds-values : (core : Core) (r : Relations) (entry : Activation) (x : MState) → MeansCore core entry x → AreRelated r x → Holds (values_of core.registers r.pairs) x.processor.registers
 Holds-values core r entry x m n =
     record { registers = λ q. In-from (get q core.registers) entry (get q x.processor.registers) (m.registers q); pairs = n.pairs }
 
 IsMeantProduct-with_values :
-    (core : Core) (r : Relations) (o : Option Values) (entry x : MState)
+    (core : Core) (r : Relations) (o : Option Values) (entry : Activation) (x : MState)
     → HoldsIn o x.processor.registers → IfSome o (IsCut (values_of core.registers r.pairs)) → MeansCore core entry x → AreRelated r x
     → IsMeantProduct (with_values_if core r o) entry x
 IsMeantProduct-with_values core r None entry x holds cut m n = holds
@@ -92,7 +92,7 @@ reduced_sound Simple core r o e are = subst (λ p. IsSoundReducing core r p) (sy
 reduced_sound Extended core r o e are = with_values_sound core r _ o e refl (pair_laws.reduced_sound (values_of core.registers r.pairs) _ refl are)
 
 IsMeantBranch-with_cell :
-    (b : Branch) (o : Option Product) (entry x : MState) → IsMeantProduct o entry x → MeansBranch b entry x → IsMeantBranch (with_cell_if b.cell o) entry x
+    (b : Branch) (o : Option Product) (entry : Activation) (x : MState) → IsMeantProduct o entry x → MeansBranch b entry x → IsMeantBranch (with_cell_if b.cell o) entry x
 IsMeantBranch-with_cell b None entry x holds m = holds
 IsMeantBranch-with_cell b (Some p) entry x holds m = record { core = holds.core; related = holds.related; cell = m.cell }
 

@@ -27,7 +27,7 @@ use Rattle.gb_abs_effects.specs.Below.gb_vals.Meaning.{In}
 use Rattle.gb_abs_effects.specs.Below.gb_vals.Tests.{side, IsKept}
 use Rattle.gb_abs_effects.proofs.Below.gb_vals_laws.BranchLaws.{side_kept}
 use Rattle.gb_product.specs.Meaning.{AreRelated}
-use Rattle.gb_abs_effects.specs.Below.gb_abs.Meaning.{Holds, MeansCore, IsMemory}
+use Rattle.gb_abs_effects.specs.Below.gb_abs.Meaning.{Activation, Holds, MeansCore, IsMemory}
 use Rattle.gb_abs_effects.specs.Below.gb_abs.Covering.{cell_at}
 use Rattle.gb_abs_effects.specs.Below.gb_abs.Storage.{peek}
 use Rattle.gb_abs_effects.proofs.Below.gb_abs_laws.CoveringLaws.{Holds-cell}
@@ -97,19 +97,19 @@ without_others_cuts (Some p) condition.NotCarry v = IsCut-itself v
 -- ---- the byte in memory
 
 held_in_memory :
-    (address : Option ℕ) (cells : List Cell) (entry x : MState) (a : ℕ) → IsMemory x.storage
+    (address : Option ℕ) (cells : List Cell) (entry : Activation) (x : MState) (a : ℕ) → IsMemory x.storage
     → AllByRecursion (λ c. Holds c.val entry (peek x.storage c.address)) cells → address ≡ Some a
     → Holds (memory_of address cells) entry (peek x.storage a)
 held_in_memory None cells entry x a memory h e = cc
 held_in_memory (Some b) cells entry x a memory h e =
     subst (λ c. Holds (cell_at b cells) entry (peek x.storage c)) (some-is b a e) (Holds-cell cells b entry x.storage memory h)
 
-Holds-cut : (old new : Val) (entry : MState) (n : ℕ) → IsCutVal old new → In new n → Holds old entry n → Holds new entry n
+Holds-cut : (old new : Val) (entry : Activation) (n : ℕ) → IsCutVal old new → In new n → Holds old entry n → Holds new entry n
 Holds-cut old new entry n cut in_new h =
     record { least = in_new.least; most = in_new.most; low = in_new.low; origin = λ o e. h.origin o (sym cut.origin ∙ e) }
 
 known_cell_holds :
-    (address : Option ℕ) (v : Val) (entry x : MState)
+    (address : Option ℕ) (v : Val) (entry : Activation) (x : MState)
     → ((a : ℕ) → address ≡ Some a → Holds v entry (peek x.storage a)) → IfSome (known_cell address v) (λ c. HoldsCell entry x c)
 known_cell_holds None v entry x h = tt
 known_cell_holds (Some a) v entry x h = choose (is_any v)
@@ -168,7 +168,7 @@ AreCut-contents b c left h =
     }
 
 IsMeantBranch-with_values :
-    (core : Core) (r : Relations) (vals : Registers Val) (cell : Option Cell) (o : Option Values) (entry x : MState)
+    (core : Core) (r : Relations) (vals : Registers Val) (cell : Option Cell) (o : Option Values) (entry : Activation) (x : MState)
     → HoldsIn o x.processor.registers → AreCut core.registers vals → IfSome o (pair_sound.IsCut (values_of vals r.pairs))
     → MeansCore core entry x → AreRelated r x → IfSome cell (λ c. HoldsCell entry x c)
     → IsMeantBranch (with_values_if core r cell o) entry x
@@ -181,7 +181,7 @@ IsMeantBranch-with_values core r vals cell (Some v) entry x holds byte cut m n h
     }
 
 IsMeantBranch-with_contents :
-    (k : Condition) (cells : List Cell) (core : Core) (r : Relations) (o : Option PlaceContents) (entry x : MState)
+    (k : Condition) (cells : List Cell) (core : Core) (r : Relations) (o : Option PlaceContents) (entry : Activation) (x : MState)
     → AreWords r.pairs → is_met k x.processor.flags ≡ true → IsKnown cells r entry x → MeansCore core entry x
     → HoldContentsIn r.byte o x.processor.registers (peek x.storage) → IfSome o (IsCut r.byte (contents_of r.byte core cells))
     → IsMeantBranch (with_contents_if k core r o) entry x
@@ -197,7 +197,7 @@ IsMeantBranch-with_contents k cells core r (Some left) entry x are met known m i
     (λ a e. Holds-cut _ left.memory entry _ cut.memory (in_o.1 a e) (held_in_memory r.byte.address cells entry x a known.memory known.cells e)))
 
 IsMeantBranch-narrowed_side :
-    (k : Condition) (cells : List Cell) (r : Relations) (core : Core) (entry x : MState)
+    (k : Condition) (cells : List Cell) (r : Relations) (core : Core) (entry : Activation) (x : MState)
     → AreWords r.pairs → is_met k x.processor.flags ≡ true → IsKnown cells r entry x → MeansCore core entry x
     → IsMeantBranch (narrowed_side k cells r core) entry x
 unfolding narrowed_side
@@ -217,7 +217,7 @@ IsMetIf None f = Unit {0}
 IsMetIf (Some k) f = is_met k f ≡ true
 
 IsMeantBranch-side_where :
-    (k : Option Condition) (cells : List Cell) (r : Relations) (o : Option Core) (entry x : MState)
+    (k : Option Condition) (cells : List Cell) (r : Relations) (o : Option Core) (entry : Activation) (x : MState)
     → AreWords r.pairs → IsMetIf k x.processor.flags → IsKnown cells r entry x → IsMeant o entry x
     → IsMeantBranch (side_where k cells r o) entry x
 unfolding IsMetIf
@@ -229,7 +229,7 @@ IsMeantBranch-side_where (Some k) cells r (Some core) entry x are met known m = 
 -- ---- the sides of an instruction
 
 flags_meant :
-    (o : Op) (core : Core) (entry x : MState) (l h : ℕ) (b : Bool)
+    (o : Op) (core : Core) (entry : Activation) (x : MState) (l h : ℕ) (b : Bool)
     → MeansCore core entry x → (effect_of o x.processor l h).is_taken ≡ b → IsMeant (side_by b (Flags.sides_of o core)) entry x
 flags_meant o core entry x l h b m e =
     subst (λ t. IsMeant (side_by t (Flags.sides_of o core)) entry x) e ((flag_sides.sides_of_sound o core _ refl).gives entry x l h m)
@@ -292,7 +292,7 @@ sides_of_sound o cells core r sides e are =
 
 -- where no side is possible, no machine state is meant
 pub no_side :
-    (o : Op) (cells : List Cell) (core : Core) (r : Relations) (entry x : MState)
+    (o : Op) (cells : List Cell) (core : Core) (r : Relations) (entry : Activation) (x : MState)
     → ArePairs r.pairs → taken_side o cells core r ≡ None → not_taken_side o cells core r ≡ None
     → IsKnown cells r entry x → MeansCore core entry x → ⊥
 no_side o cells core r entry x are e f known m = choose (effect_of o x.processor 0 0).is_taken refl

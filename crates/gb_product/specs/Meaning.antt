@@ -5,7 +5,7 @@ use Rattle.gb_ops.specs.Play.{MState}
 use Rattle.gb_domain.specs.declared.relations.Relations.{Relations}
 use Rattle.gb_domain.specs.Types.{AbsState}
 use Rattle.gb_abs_effects.specs.Below.gb_abs.Cells.{ArePlaced}
-use Rattle.gb_abs_effects.specs.Below.gb_abs.Meaning.{MeansParts}
+use Rattle.gb_abs_effects.specs.Below.gb_abs.Meaning.{Activation, MeansParts}
 use Rattle.gb_abs_effects.specs.Below.gb_abs.Storage.{peek}
 use Rattle.gb_relations.specs.Meaning.{HoldRelations}
 use Rattle.gb_relations.specs.Sound.{IsByteFree}
@@ -15,7 +15,7 @@ abbrev pub AreRelated : Relations → MState → Type 0
 AreRelated r x = HoldRelations r x.processor.registers (peek x.storage) x.processor.flags
 
 -- x is one of the states that abs means, in a procedure that was entered in the state entry, with base the address above its items
-pub record Means (abs : AbsState) (entry : MState) (base : ℕ) (x : MState) : Type 0 where
+pub record Means (abs : AbsState) (entry : Activation) (base : ℕ) (x : MState) : Type 0 where
   pub parts : MeansParts abs entry base x
   pub related : AreRelated abs.relations x
 

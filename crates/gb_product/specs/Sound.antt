@@ -13,7 +13,7 @@ use Rattle.gb_domain.specs.Pairs.{ArePairs}
 use Rattle.gb_domain.specs.Rules.{IsVal, IsCore}
 use Rattle.gb_domain.specs.Types.{AbsState}
 use Rattle.gb_domain.specs.Values.{is_strided}
-use Rattle.gb_abs_effects.specs.Below.gb_abs.Meaning.{Holds, MeansCore, IsMemory}
+use Rattle.gb_abs_effects.specs.Below.gb_abs.Meaning.{Activation, Holds, MeansCore, IsMemory}
 use Rattle.gb_abs_effects.specs.Below.gb_abs.Storage.{peek}
 use Rattle.gb_relations.specs.Below.gb_pairs.Meaning.{AreBytes}
 use Rattle.gb_product.specs.declared.parts.Branch.{Branch}
@@ -23,7 +23,7 @@ use Rattle.gb_product.specs.Meaning.{Means, AreRelated}
 
 -- t means each machine state that s means
 pub record IsPartOf (s t : AbsState) : Type 0 where
-  pub gives : (entry : MState) (base : ℕ) (x : MState) → Means s entry base x → Means t entry base x
+  pub gives : (entry : Activation) (base : ℕ) (x : MState) → Means s entry base x → Means t entry base x
 
 -- ---- what is cut
 
@@ -50,18 +50,18 @@ pub record IsCutTogether (s t : Relations) : Type 0 where
 -- ---- reducing
 
 -- x is one of the states that both parts mean
-pub record MeansProduct (p : Product) (entry x : MState) : Type 0 where
+pub record MeansProduct (p : Product) (entry : Activation) (x : MState) : Type 0 where
   pub core : MeansCore p.core entry x
   pub related : AreRelated p.relations x
 
-abbrev pub IsMeantProduct : Option Product → MState → MState → Type 0
+abbrev pub IsMeantProduct : Option Product → Activation → MState → Type 0
 IsMeantProduct None entry x = ⊥
 IsMeantProduct (Some p) entry x = MeansProduct p entry x
 
 -- no machine state is lost
 pub record IsSoundReducing (core : Core) (r : Relations) (o : Option Product) : Type 0 where
   pub gives :
-      (entry x : MState)
+      (entry : Activation) (x : MState)
       → AreBytes x.processor.registers → MeansCore core entry x → AreRelated r x → IsMeantProduct o entry x
 
 -- nothing but bounds changes
@@ -82,34 +82,34 @@ pub record IsReducedBranch (s b : Branch) : Type 0 where
 -- ---- sides
 
 -- what is said of a cell's byte holds of x
-abbrev pub HoldsCell : MState → MState → Cell → Type 0
+abbrev pub HoldsCell : Activation → MState → Cell → Type 0
 HoldsCell entry x c = Holds c.val entry (peek x.storage c.address)
 
 -- a state's cells and what is known together hold of x
-pub record IsKnown (known : List Cell) (r : Relations) (entry x : MState) : Type 0 where
+pub record IsKnown (known : List Cell) (r : Relations) (entry : Activation) (x : MState) : Type 0 where
   pub memory : IsMemory x.storage
   pub cells : AllByRecursion (λ c. HoldsCell entry x c) known
   pub related : AreRelated r x
 
 -- x is one of the states that a side means
-pub record MeansBranch (b : Branch) (entry x : MState) : Type 0 where
+pub record MeansBranch (b : Branch) (entry : Activation) (x : MState) : Type 0 where
   pub core : MeansCore b.core entry x
   pub related : AreRelated b.relations x
   pub cell : IfSome b.cell (λ c. HoldsCell entry x c)
 
 -- the side is possible, and means x
-abbrev pub IsMeantBranch : Option Branch → MState → MState → Type 0
+abbrev pub IsMeantBranch : Option Branch → Activation → MState → Type 0
 IsMeantBranch None entry x = ⊥
 IsMeantBranch (Some b) entry x = MeansBranch b entry x
 
 -- a side that is reduced loses no machine state
 pub record IsSoundBranch (b : Branch) (o : Option Branch) : Type 0 where
-  pub gives : (entry x : MState) → AreBytes x.processor.registers → MeansBranch b entry x → IsMeantBranch o entry x
+  pub gives : (entry : Activation) (x : MState) → AreBytes x.processor.registers → MeansBranch b entry x → IsMeantBranch o entry x
 
 -- the side where an instruction is taken, or where it isn't, means each state of the core in which the machine goes there
 pub record IsSoundSide (is_taken : Bool) (o : Op) (known : List Cell) (core : Core) (r : Relations) (side : Option Branch) : Type 0 where
   pub gives :
-      (entry x : MState) (l h : ℕ)
+      (entry : Activation) (x : MState) (l h : ℕ)
       → IsKnown known r entry x → MeansCore core entry x → (Effects.effect_of o x.processor l h).is_taken ≡ is_taken
       → IsMeantBranch side entry x
 

@@ -325,7 +325,7 @@ pub(crate) fn told_in(state: &Abs) -> u32 {
         | only_if(are_told(&core.flags), FLAGS)
         | only_if(core.flags.is_own, OWN_FLAGS)
         | only_if(weaker_bank(ctl) != *ctl, BANK)
-        | only_if(ctl.is_kept, KEPT);
+        | only_if(ctl.kept.is_some(), KEPT);
     for register in &REGISTERS {
         let val = core.registers.get(*register);
         parts |= only_if(is_bounded(val), bounds_of(*register));
@@ -376,6 +376,16 @@ fn weaker_val(val: Val, register: Register, wanted: Wanted) -> Val {
     }
 }
 
+/// Nothing of a controller is kept any more, unless it is wanted.
+fn weaken_kept(ctl: &mut Ctl, is_wanted: bool) {
+    let kept = &mut ctl.kept;
+    kept.bank = kept.bank && is_wanted;
+    kept.second = kept.second && is_wanted;
+    kept.gate = kept.gate && is_wanted;
+    kept.mode = kept.mode && is_wanted;
+    kept.high_bank = kept.high_bank && is_wanted;
+}
+
 fn weaker_core(core: &Core, wanted: Wanted) -> Core {
     let mut weaker = *core;
     for register in &REGISTERS {
@@ -388,7 +398,7 @@ fn weaker_core(core: &Core, wanted: Wanted) -> Core {
     if !wanted.has(BANK) {
         weaker.ctl = weaker_bank(&core.ctl);
     }
-    weaker.ctl.is_kept = core.ctl.is_kept && wanted.has(KEPT);
+    weaken_kept(&mut weaker.ctl, wanted.has(KEPT));
     weaker
 }
 

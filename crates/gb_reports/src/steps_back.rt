@@ -79,7 +79,7 @@ fn is_behind(run: &Run<'_>, before: &RunNode, node: &RunNode) -> bool {
 /// Whether a procedure returns, and doesn't leave the controller as it was.
 fn leaves_another(procedure: &RunProcedure) -> bool {
     match &procedure.exit {
-        Some(exit) => !exit.core().ctl.is_kept,
+        Some(exit) => !exit.core().ctl.kept.are_all(),
         None => false,
     }
 }

@@ -11,7 +11,7 @@ use Rattle.gb_successors.specs.Below.gb_domain.declared.types.Halves.{Halves}
 use Rattle.gb_successors.specs.Below.gb_domain.Types.{AbsState}
 use Rattle.gb_successors.specs.Below.gb_domain.Areas.{IsRegion}
 use Rattle.gb_successors.specs.Below.gb_product.Meaning.{Means}
-use Rattle.gb_successors.specs.Below.gb_abs.Meaning.{Holds, MeansCore, AreItems, MeansParts}
+use Rattle.gb_successors.specs.Below.gb_abs.Meaning.{Activation, Holds, MeansCore, AreItems, MeansParts}
 use Rattle.gb_successors.specs.Below.gb_abs.Stack.{pushed}
 use Rattle.gb_successors.specs.Below.gb_abs.Storage.{peek}
 use Rattle.gb_calls.specs.Sound.{without_word}
@@ -19,7 +19,7 @@ use Rattle.gb_successors.specs.Below.gb_abs_effects.Pairs.{known_word}
 
 -- ---- the bytes that are held, and the word behind them
 
-MeansCore-without_word : (core : Core) (entry x : MState) → MeansCore core entry x → MeansCore core entry (without_word x)
+MeansCore-without_word : (core : Core) (entry : Activation) (x : MState) → MeansCore core entry x → MeansCore core entry (without_word x)
 MeansCore-without_word core entry x m = record {
   registers = m.registers;
   flags = m.flags;
@@ -31,16 +31,16 @@ MeansCore-without_word core entry x m = record {
   stopped = m.stopped;
 }
 
-AreItems-fewer : (items : List Val) (w : Halves) (entry : MState) (top : ℕ) (t : Storage) → AreItems (items ++ w.high ∷ w.low ∷ []) entry top t → AreItems items entry top t
+AreItems-fewer : (items : List Val) (w : Halves) (entry : Activation) (top : ℕ) (t : Storage) → AreItems (items ++ w.high ∷ w.low ∷ []) entry top t → AreItems items entry top t
 AreItems-fewer [] w entry top t h = tt
 AreItems-fewer (v ∷ items) w entry top t h = (h.0, AreItems-fewer items w entry (top - 1) t h.1)
 
 -- the word that was pushed last
-record IsLast (w : Halves) (entry : MState) (sp : ℕ) (t : Storage) : Type 0 where
+record IsLast (w : Halves) (entry : Activation) (sp : ℕ) (t : Storage) : Type 0 where
   high : Holds w.high entry (peek t (sp + 1))
   low : Holds w.low entry (peek t sp)
 
-last_word_is : (items : List Val) (w : Halves) (entry : MState) (sp top : ℕ) (t : Storage) → sp + (length items + 2) ≡ top → AreItems (items ++ w.high ∷ w.low ∷ []) entry top t → IsLast w entry sp t
+last_word_is : (items : List Val) (w : Halves) (entry : Activation) (sp top : ℕ) (t : Storage) → sp + (length items + 2) ≡ top → AreItems (items ++ w.high ∷ w.low ∷ []) entry top t → IsLast w entry sp t
 last_word_is [] w entry sp top t e h =
     let one : top - 1 ≡ sp + 1 = omega arith in
     let two : top - 1 - 1 ≡ sp = omega arith in
@@ -48,7 +48,7 @@ last_word_is [] w entry sp top t e h =
 last_word_is (v ∷ items) w entry sp top t e h = last_word_is items w entry sp (top - 1) t (omega arith) h.1
 
 -- where SP stands behind a word more
-pub sp_pushed : (w : Halves) (s : AbsState) (entry : MState) (base : ℕ) (x : MState) → MeansParts (pushed w s) entry base x → s.core.stack_set ≡ true
+pub sp_pushed : (w : Halves) (s : AbsState) (entry : Activation) (base : ℕ) (x : MState) → MeansParts (pushed w s) entry base x → s.core.stack_set ≡ true
     → x.processor.sp + (length s.items + 2) ≡ base
 unfolding pushed
 sp_pushed w s entry base x m set =
@@ -57,7 +57,7 @@ sp_pushed w s entry base x m set =
     ap (λ k. x.processor.sp + k) (sym n) ∙ stack
 
 -- without the word that was pushed last
-pub Means-without_word : (w : Halves) (s : AbsState) (entry : MState) (base : ℕ) (x : MState) → Means (pushed w s) entry base x → s.core.stack_set ≡ true → x.processor.sp + 2 < 65536
+pub Means-without_word : (w : Halves) (s : AbsState) (entry : Activation) (base : ℕ) (x : MState) → Means (pushed w s) entry base x → s.core.stack_set ≡ true → x.processor.sp + 2 < 65536
     → Means s entry base (without_word x)
 unfolding pushed
 Means-without_word w s entry base x m set small =
@@ -78,7 +78,7 @@ Means-without_word w s entry base x m set small =
     less n e = omega arith
 
 -- the word that was pushed last is found again
-pub pushed_word : (w : ℕ) (s : AbsState) (entry : MState) (base : ℕ) (x : MState) → MeansParts (pushed (known_word w) s) entry base x → s.core.stack_set ≡ true
+pub pushed_word : (w : ℕ) (s : AbsState) (entry : Activation) (base : ℕ) (x : MState) → MeansParts (pushed (known_word w) s) entry base x → s.core.stack_set ≡ true
     → word (peek x.storage (x.processor.sp + 1)) (peek x.storage x.processor.sp) ≡ w
 unfolding pushed
 pushed_word w s entry base x m set =

@@ -23,7 +23,7 @@ use Rattle.gb_successors.proofs.Below.gb_product_laws.ReducedLaws.{reduced_cuts,
 use Rattle.gb_successors.specs.Below.gb_product.Covering.{covers}
 use Rattle.gb_successors.specs.Below.gb_product.Meaning.{AreRelated, Means}
 use Rattle.gb_successors.specs.Below.gb_product.Reduced.{reduced}
-use Rattle.gb_successors.specs.Below.gb_abs.Meaning.{Holds, MeansParts}
+use Rattle.gb_successors.specs.Below.gb_abs.Meaning.{Activation, Holds, MeansParts}
 use Rattle.gb_successors.proofs.Below.gb_product_laws.CoveringLaws.{Means-covered}
 use Rattle.gb_successors.proofs.Below.gb_abs_laws.OperationLaws.{MeansParts-with_value}
 use Rattle.gb_rules.specs.Covered.{is_cover, is_covered_by_one, is_covered_if, with_product, is_value_covered, is_covered_by_values, reduced_state, with_value, all_from, count_of, registers, covered_at}
@@ -44,7 +44,7 @@ covered_items s t h = items_counted s.items t.items (middle _ _ _ (and_parts _ _
     middle false b c h = cc
 
 -- a node that means the state, at an address of the procedure
-pub record IsFoundAt (cert : Certificate) (procedure a : ℕ) (items : ℕ) (entry : MState) (base : ℕ) (y : MState) : Type 0 where
+pub record IsFoundAt (cert : Certificate) (procedure a : ℕ) (items : ℕ) (entry : Activation) (base : ℕ) (y : MState) : Type 0 where
   pub node : Node
   pub is_node : Contains cert.nodes node
   pub procedure_is : node.procedure ≡ procedure
@@ -52,7 +52,7 @@ pub record IsFoundAt (cert : Certificate) (procedure a : ℕ) (items : ℕ) (ent
   pub means : Means node.state entry base y
   pub count : length node.state.items ≡ items
 
-found_by_one : (cert : Certificate) (procedure a : ℕ) (s : AbsState) (entry : MState) (base : ℕ) (y : MState) → is_covered_by_one cert.nodes procedure a s ≡ true → Means s entry base y
+found_by_one : (cert : Certificate) (procedure a : ℕ) (s : AbsState) (entry : Activation) (base : ℕ) (y : MState) → is_covered_by_one cert.nodes procedure a s ≡ true → Means s entry base y
     → IsFoundAt cert procedure a (length s.items) entry base y
 unfolding is_covered_by_one
 found_by_one cert procedure a s entry base y h m =
@@ -77,7 +77,7 @@ one_of_them test first (suc n) v h le lt =
     split : (first n v : ℕ) → v < first + suc n → (v < first + n) ⊎ (v ≡ first + n)
     split first n v h = grind arith
 
-found_by_values : (cert : Certificate) (procedure a : ℕ) (s : AbsState) (r : Register) (entry : MState) (base : ℕ) (y : MState) → is_covered_by_values Simple cert.nodes procedure a s r ≡ true → Means s entry base y
+found_by_values : (cert : Certificate) (procedure a : ℕ) (s : AbsState) (r : Register) (entry : Activation) (base : ℕ) (y : MState) → is_covered_by_values Simple cert.nodes procedure a s r ≡ true → Means s entry base y
     → IsFoundAt cert procedure a (length s.items) entry base y
 unfolding is_covered_by_values is_value_covered reduced_state reduced with_value
 found_by_values cert procedure a s r entry base y h m =
@@ -90,7 +90,7 @@ found_by_values cert procedure a s r entry base y h m =
     found_by_one cert procedure a (with_value r s v) entry base y one (record { parts = MeansParts-with_value r s entry base y m.parts; related = m.related })
 
 -- states that are covered at an address, by the rules of versions 1 and 2: a node there means each of their machine states
-pub found_at : (cert : Certificate) (procedure a : ℕ) (s : AbsState) (entry : MState) (base : ℕ) (y : MState) → covered_at Simple cert.nodes procedure a s ≡ true → Means s entry base y
+pub found_at : (cert : Certificate) (procedure a : ℕ) (s : AbsState) (entry : Activation) (base : ℕ) (y : MState) → covered_at Simple cert.nodes procedure a s ≡ true → Means s entry base y
     → IsFoundAt cert procedure a (length s.items) entry base y
 unfolding covered_at
 found_at cert procedure a s entry base y h m = by (is_covered_by_one cert.nodes procedure a s) refl h
@@ -106,11 +106,11 @@ found_at cert procedure a s entry base y h m = by (is_covered_by_one cert.nodes 
 
 -- ---- value by value, reduced
 
-MeansParts-with_product : (s : AbsState) (p : Product) (entry : MState) (base : ℕ) (y : MState) → IsReduced s.core s.relations p → MeansProduct p entry y → MeansParts s entry base y
+MeansParts-with_product : (s : AbsState) (p : Product) (entry : Activation) (base : ℕ) (y : MState) → IsReduced s.core s.relations p → MeansProduct p entry y → MeansParts s entry base y
     → MeansParts (with_core s p.core) entry base y
 MeansParts-with_product s p entry base y cut q m = MeansParts-with_core s p.core entry base y y m q.core refl refl refl (λ set. sym cut.core.stack_set ∙ set)
 
-product_means : (s : AbsState) (p : Product) (entry : MState) (base : ℕ) (y : MState) → MeansParts (with_core s p.core) entry base y → AreRelated p.relations y → Means (with_product s p) entry base y
+product_means : (s : AbsState) (p : Product) (entry : Activation) (base : ℕ) (y : MState) → MeansParts (with_core s p.core) entry base y → AreRelated p.relations y → Means (with_product s p) entry base y
 product_means s p entry base y m related =
     record {
       parts = record { core = m.core; memory = m.memory; sp = m.sp; stack = m.stack; items = m.items; cells = m.cells };
@@ -118,14 +118,14 @@ product_means s p entry base y m related =
     }
 
 -- where something is left of states that mean y, a node stands for that
-found_left : (cert : Certificate) (procedure a : ℕ) (s : AbsState) (o : Option Product) (entry : MState) (base : ℕ) (y : MState) → IsMeantProduct o entry y → IfSome o (IsReduced s.core s.relations)
+found_left : (cert : Certificate) (procedure a : ℕ) (s : AbsState) (o : Option Product) (entry : Activation) (base : ℕ) (y : MState) → IsMeantProduct o entry y → IfSome o (IsReduced s.core s.relations)
     → is_covered_if cert.nodes procedure a (option_map (with_product s) o) ≡ true → MeansParts s entry base y → IsFoundAt cert procedure a (length s.items) entry base y
 found_left cert procedure a s None entry base y q cut h m = absurd q
 found_left cert procedure a s (Some p) entry base y q cut h m =
     found_by_one cert procedure a (with_product s p) entry base y h (product_means s p entry base y (MeansParts-with_product s p entry base y cut q m) q.related)
 
 -- a node stands for those with the machine's own value of a register, as far as they are left
-found_by_value : (rules : Rules) (cert : Certificate) (procedure a : ℕ) (s : AbsState) (r : Register) (entry : MState) (base : ℕ) (y : MState) → ArePairs s.relations.pairs → AreBytes y.processor.registers
+found_by_value : (rules : Rules) (cert : Certificate) (procedure a : ℕ) (s : AbsState) (r : Register) (entry : Activation) (base : ℕ) (y : MState) → ArePairs s.relations.pairs → AreBytes y.processor.registers
     → is_value_covered rules cert.nodes procedure a s r (get r y.processor.registers) ≡ true → Means s entry base y → IsFoundAt cert procedure a (length s.items) entry base y
 unfolding is_value_covered reduced_state with_value
 found_by_value rules cert procedure a s r entry base y pairs bytes h m =
@@ -134,7 +134,7 @@ found_by_value rules cert procedure a s r entry base y pairs bytes h m =
     let left = (reduced_sound rules core s.relations (reduced rules core s.relations) refl pairs).gives entry y bytes parts.core m.related in
     found_left cert procedure a (with_core s core) (reduced rules core s.relations) entry base y left (reduced_cuts rules core s.relations _ refl) h parts
 
-found_by_reduced : (rules : Rules) (cert : Certificate) (procedure a : ℕ) (s : AbsState) (r : Register) (entry : MState) (base : ℕ) (y : MState) → ArePairs s.relations.pairs → AreBytes y.processor.registers
+found_by_reduced : (rules : Rules) (cert : Certificate) (procedure a : ℕ) (s : AbsState) (r : Register) (entry : Activation) (base : ℕ) (y : MState) → ArePairs s.relations.pairs → AreBytes y.processor.registers
     → is_covered_by_values rules cert.nodes procedure a s r ≡ true → Means s entry base y → IsFoundAt cert procedure a (length s.items) entry base y
 unfolding is_covered_by_values
 found_by_reduced rules cert procedure a s r entry base y pairs bytes h m =
@@ -146,7 +146,7 @@ found_by_reduced rules cert procedure a s r entry base y pairs bytes h m =
     found_by_value rules cert procedure a s r entry base y pairs bytes one m
 
 -- states that are covered at an address, by either rules: a node there means each of their machine states
-pub found_by : (rules : Rules) (cert : Certificate) (procedure a : ℕ) (s : AbsState) (entry : MState) (base : ℕ) (y : MState) → ArePairs s.relations.pairs → AreBytes y.processor.registers
+pub found_by : (rules : Rules) (cert : Certificate) (procedure a : ℕ) (s : AbsState) (entry : Activation) (base : ℕ) (y : MState) → ArePairs s.relations.pairs → AreBytes y.processor.registers
     → covered_at rules cert.nodes procedure a s ≡ true → Means s entry base y → IsFoundAt cert procedure a (length s.items) entry base y
 unfolding covered_at
 found_by rules cert procedure a s entry base y pairs bytes h m = by (is_covered_by_one cert.nodes procedure a s) refl h

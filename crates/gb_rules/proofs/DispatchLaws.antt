@@ -37,7 +37,7 @@ use Rattle.gb_successors.proofs.Below.gb_vals_laws.BitLaws.{may_have_bit_sound}
 use Rattle.gb_successors.specs.Below.gb_abs.Cells.{ArePlaced}
 use Rattle.gb_successors.specs.Below.gb_abs.Mark.{IsMarkHarmless}
 use Rattle.gb_successors.specs.Below.gb_product.Meaning.{AreRelated, Means}
-use Rattle.gb_successors.specs.Below.gb_abs.Meaning.{MeansCore, MeansParts, ime_may_be}
+use Rattle.gb_successors.specs.Below.gb_abs.Meaning.{Activation, MeansCore, MeansParts, ime_may_be}
 use Rattle.gb_successors.specs.Below.gb_abs.Operations.{core_end, with_core}
 use Rattle.gb_successors.specs.Below.gb_abs.Stack.{pushed}
 use Rattle.gb_successors.specs.Below.gb_abs.Storage.{peek}
@@ -93,7 +93,7 @@ is_called rom x i h =
     below a b h = grind (arith, nat_tests)
 
 -- a dispatch that is possible is one that the node's state says may come
-pub may_come-possible : (rom : List ℕ) (cert : Certificate) (n : Node) (entry : MState) (base : ℕ) (x : MState) (i : ℕ) → IsAt rom cert n entry base x → is_possible (within rom x) (event.Irq i) ≡ true
+pub may_come-possible : (rom : List ℕ) (cert : Certificate) (n : Node) (entry : Activation) (base : ℕ) (x : MState) (i : ℕ) → IsAt rom cert n entry base x → is_possible (within rom x) (event.Irq i) ≡ true
     → (may_come i n.state.core ≡ true) × (i < 5)
 may_come-possible rom cert n entry base x i at possible =
     let c = is_called rom x i possible in
@@ -146,7 +146,7 @@ no_places rom cert x i = All-nil _
 abbrev masked : Core → Core
 masked s = record s { ime = only_off }
 
-MeansCore-masked : (s : Core) (entry x : MState) (i : ℕ) → MeansCore s entry x → MeansCore (masked s) entry (record { processor = in_handler x.processor i; storage = x.storage })
+MeansCore-masked : (s : Core) (entry : Activation) (x : MState) (i : ℕ) → MeansCore s entry x → MeansCore (masked s) entry (record { processor = in_handler x.processor i; storage = x.storage })
 MeansCore-masked s entry x i m = record {
   registers = m.registers;
   flags = m.flags;
@@ -158,7 +158,7 @@ MeansCore-masked s entry x i m = record {
   stopped = m.stopped;
 }
 
-dispatched_means : (s : AbsState) (a : ℕ) (entry : MState) (base : ℕ) (y : MState) → MeansParts (pushed (known_word a) (dispatched s)) entry base y → AreRelated s.relations y
+dispatched_means : (s : AbsState) (a : ℕ) (entry : Activation) (base : ℕ) (y : MState) → MeansParts (pushed (known_word a) (dispatched s)) entry base y → AreRelated s.relations y
     → Means (pushed (known_word a) (dispatched s)) entry base y
 unfolding pushed dispatched
 dispatched_means s a entry base y parts related = record { parts = parts; related = related }
@@ -180,7 +180,7 @@ byte_placed region (Some b) a h e =
     subst (λ c. IsPlaced region (record { address = c; val = any_val })) (same_Some b a e)
     (let p = and_parts _ _ h in record { area = p.0; apart = not-true _ p.1 })
 
-pub record IsDispatched (rom : List ℕ) (cert : Certificate) (n : Node) (entry : MState) (base : ℕ) (x : MState) (i : ℕ) : Type 0 where
+pub record IsDispatched (rom : List ℕ) (cert : Certificate) (n : Node) (entry : Activation) (base : ℕ) (x : MState) (i : ℕ) : Type 0 where
   pub means : Means (pushed (known_word n.address) (dispatched n.state)) entry base (left_by rom x i n.address)
   pub faults : store_faults cert.region (view rom x false) (write.Push x.processor.sp n.address) ≡ no_faults
   pub kept : (b : ℕ) → IsKept (setting_of cert n.procedure) cert.region (ranges_of cert n.procedure) base b → peek (left_by rom x i n.address).storage b ≡ peek x.storage b
@@ -189,7 +189,7 @@ pushed_ended : (s : AbsState) (a : ℕ) → ended false 5 (pushed (known_word a)
 unfolding ended pushed dispatched
 pushed_ended s a = refl
 
-pub is_dispatched : (rom : List ℕ) (cert : Certificate) (n : Node) (entry : MState) (base : ℕ) (x : MState) (i : ℕ) → IsAt rom cert n entry base x → Contains cert.nodes n → IsCertificate cert
+pub is_dispatched : (rom : List ℕ) (cert : Certificate) (n : Node) (entry : Activation) (base : ℕ) (x : MState) (i : ℕ) → IsAt rom cert n entry base x → Contains cert.nodes n → IsCertificate cert
     → n.state.core.stack_set ≡ true → (n.state.core.bound ≡ 0) ⊎ (0xFF80 ≤ cert.region.first) → length n.state.items + 2 ≤ need_of cert n.procedure → IsDispatched rom cert n entry base x i
 is_dispatched rom cert n entry base x i at is_node certificate set unlimited held =
     let s = IsNodeState-node cert n certificate is_node in
@@ -244,7 +244,7 @@ GoesOn cert n q =
     (exit : AbsState) → exit_of cert q ≡ Some exit
     → IfSome (resumed Simple (taken_by cert q) (ranges_of cert q) (left_by_dispatch Simple n.address n.state) exit) (λ after. covered_at Simple cert.nodes n.procedure n.address after ≡ true)
 
-handled : (rom : List ℕ) (cert : Certificate) (n : Node) (entry : MState) (base : ℕ) (x : MState) (i q : ℕ) → IsAt rom cert n entry base x → Contains cert.nodes n → IsCertificate cert
+handled : (rom : List ℕ) (cert : Certificate) (n : Node) (entry : Activation) (base : ℕ) (x : MState) (i q : ℕ) → IsAt rom cert n entry base x → Contains cert.nodes n → IsCertificate cert
     → IsDispatched rom cert n entry base x i → x.processor.halt_mark ≡ false → n.state.core.stack_set ≡ true → handler_of cert (simple_at cert n) i n.address n.state ≡ Some q
     → are_ranges_inside (ranges_of cert q) (ranges_of cert n.procedure) ≡ true → length n.state.items + 2 + need_of cert q ≤ need_of cert n.procedure
     → GoesOn cert n q
@@ -281,7 +281,7 @@ handled rom cert n entry base x i q at is_node certificate d mark set handler in
 
 -- A dispatch is safe where the stack is set and no OAM transfer closes it, and where the interrupt has a handler whose
 -- ranges and bytes lie inside the procedure's, and behind which the procedure goes on at a node.
-pub IsSafeEvent-dispatch : (rom : List ℕ) (cert : Certificate) (n : Node) (entry : MState) (base : ℕ) (x : MState) (i q : ℕ) → IsAt rom cert n entry base x → Contains cert.nodes n → IsCertificate cert → rules_of cert.version ≡ Simple
+pub IsSafeEvent-dispatch : (rom : List ℕ) (cert : Certificate) (n : Node) (entry : Activation) (base : ℕ) (x : MState) (i q : ℕ) → IsAt rom cert n entry base x → Contains cert.nodes n → IsCertificate cert → rules_of cert.version ≡ Simple
     → is_possible (within rom x) (event.Irq i) ≡ true → n.state.core.stack_set ≡ true → (n.state.core.bound ≡ 0) ⊎ (0xFF80 ≤ cert.region.first) → handler_of cert (simple_at cert n) i n.address n.state ≡ Some q
     → are_ranges_inside (ranges_of cert q) (ranges_of cert n.procedure) ≡ true → length n.state.items + 2 + need_of cert q ≤ need_of cert n.procedure
     → GoesOn cert n q

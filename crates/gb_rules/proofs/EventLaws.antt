@@ -33,7 +33,7 @@ use Rattle.gb_ops.specs.declared.machine.Mapped.{Mapped}
 use Rattle.gb_ops.specs.declared.machine.Mapped.TheVariants as mapped
 use Rattle.gb_ops.specs.Registers.{get}
 use Rattle.gb_successors.specs.Below.gb_product.Meaning.{Means}
-use Rattle.gb_successors.specs.Below.gb_abs.Meaning.{Holds, HoldsFlags, HoldsController, ime_may_be, MeansParts}
+use Rattle.gb_successors.specs.Below.gb_abs.Meaning.{Activation, Holds, HoldsFlags, HoldsController, ime_may_be, MeansParts}
 use Rattle.gb_successors.specs.Below.gb_relations.Meaning.{HoldRelations}
 use Rattle.gb_successors.proofs.RelatedLaws.{HoldRelations-same}
 use Rattle.gb_successors.specs.Below.gb_abs.Storage.{peek}
@@ -58,7 +58,7 @@ use Rattle.gb_rules.proofs.WayLaws.{IsElsewhere}
 use Rattle.gb_rules.proofs.WideWayLaws.{Leads-way}
 
 -- what an event that is possible does
-pub record IsSafeHappening (rom : List ℕ) (cert : Certificate) (procedure : ℕ) (entry : MState) (base : ℕ) (s : MState) (e : Event) : Type 0 where
+pub record IsSafeHappening (rom : List ℕ) (cert : Certificate) (procedure : ℕ) (entry : Activation) (base : ℕ) (s : MState) (e : Event) : Type 0 where
   pub faults : event_faults cert.region (within rom s) e ≡ no_faults
   pub places : All (IsCertified rom cert) (event_places (within rom s) e)
   pub leads : Leads rom cert procedure entry base s (outside (happened (within rom s) e))
@@ -108,7 +108,7 @@ unfolding is_possible
 reads_byte rom x fetch reads h =
     first_byte reads (last_true (is_running (within rom x)) (is_bytes 3 fetch) (length reads == 2) (list_all (λ b. nat_lt b 256) reads) h)
 
-run_unmarked : (rom : List ℕ) (cert : Certificate) (n : Node) (entry : MState) (base : ℕ) (x : MState) (k : OnNode rom cert n entry base x) (fetch reads : List ℕ)
+run_unmarked : (rom : List ℕ) (cert : Certificate) (n : Node) (entry : Activation) (base : ℕ) (x : MState) (k : OnNode rom cert n entry base x) (fetch reads : List ℕ)
     → x.processor.halt_mark ≡ false → slice_index reads 0 ≤ 255 → IsSafeHappening rom cert n.procedure entry base x (event.Run fetch reads)
 run_unmarked rom cert n entry base x k fetch reads mark byte =
     let p = k.passes in
@@ -165,7 +165,7 @@ nop_fine region s reads = refl
 
 -- ---- where the machine is at the node itself
 
-itself : (rom : List ℕ) (cert : Certificate) (n : Node) (entry : MState) (base : ℕ) (x y : MState) → OnNode rom cert n entry base x → y.processor.pc ≡ n.address → Means n.state entry base y → IsMarkHarmless rom y
+itself : (rom : List ℕ) (cert : Certificate) (n : Node) (entry : Activation) (base : ℕ) (x y : MState) → OnNode rom cert n entry base x → y.processor.pc ≡ n.address → Means n.state entry base y → IsMarkHarmless rom y
     → IsMeant rom cert n.procedure entry base y
 itself rom cert n entry base x y k address means mark = record {
   node = n;
@@ -175,7 +175,7 @@ itself rom cert n entry base x y k address means mark = record {
 }
 
 -- a smaller count, and the same processor but for PC and the mark
-same_core : (s : AbsState) (entry : MState) (base : ℕ) (x y : MState) → MeansParts s entry base x → y.storage ≡ (counted (y.storage.count) x).storage → y.storage.count ≤ x.storage.count
+same_core : (s : AbsState) (entry : Activation) (base : ℕ) (x y : MState) → MeansParts s entry base x → y.storage ≡ (counted (y.storage.count) x).storage → y.storage.count ≤ x.storage.count
     → y.processor.registers ≡ x.processor.registers → y.processor.flags ≡ x.processor.flags → y.processor.ime ≡ x.processor.ime → y.processor.sp ≡ x.processor.sp
     → y.processor.locked ≡ x.processor.locked → y.processor.stopped ≡ x.processor.stopped → MeansParts s entry base y
 same_core s entry base x y m storage less registers flags i sp locked stopped =
@@ -196,7 +196,7 @@ count_peek : (t : Storage) (count b : ℕ) → peek (record t { count = count })
 unfolding peek
 count_peek t count b = refl
 
-same_means : (s : AbsState) (entry : MState) (base : ℕ) (x y : MState) → Means s entry base x → y.storage ≡ (counted (y.storage.count) x).storage → y.storage.count ≤ x.storage.count
+same_means : (s : AbsState) (entry : Activation) (base : ℕ) (x y : MState) → Means s entry base x → y.storage ≡ (counted (y.storage.count) x).storage → y.storage.count ≤ x.storage.count
     → y.processor.registers ≡ x.processor.registers → y.processor.flags ≡ x.processor.flags → y.processor.ime ≡ x.processor.ime → y.processor.sp ≡ x.processor.sp
     → y.processor.locked ≡ x.processor.locked → y.processor.stopped ≡ x.processor.stopped → Means s entry base y
 same_means s entry base x y m storage less registers flags i sp locked stopped = record {
@@ -216,7 +216,7 @@ ime_off = refl
 mod_small : (a : ℕ) → a < 65536 → a % 65536 ≡ a
 mod_small a h = omega arith
 
-run_marked : (rom : List ℕ) (cert : Certificate) (n : Node) (entry : MState) (base : ℕ) (x : MState) (k : OnNode rom cert n entry base x) (fetch reads : List ℕ)
+run_marked : (rom : List ℕ) (cert : Certificate) (n : Node) (entry : Activation) (base : ℕ) (x : MState) (k : OnNode rom cert n entry base x) (fetch reads : List ℕ)
     → x.processor.halt_mark ≡ true → x.processor.ime ≡ ime.Off → byte_at (within rom x).memory x.processor.pc ≡ 0 → IsSafeHappening rom cert n.procedure entry base x (event.Run fetch reads)
 run_marked rom cert n entry base x k fetch reads mark off nop =
     let p = k.passes in
@@ -258,7 +258,7 @@ IsHalt-decoded bytes row opcode second third e h is =
     record { op_is = ap (λ (r : Row). r.op) same; length_is = ap (λ (r : Row). r.length) same; cycles_are = ap (λ (r : Row). r.cycles) same }
 
 -- the machine is at HALT where the byte at PC is known
-at_halt : (rom : List ℕ) (cert : Certificate) (n : Node) (entry : MState) (base : ℕ) (x : MState) (k : OnNode rom cert n entry base x) → has_halt (within rom x) ≡ true → IsHalt k.passes.row
+at_halt : (rom : List ℕ) (cert : Certificate) (n : Node) (entry : Activation) (base : ℕ) (x : MState) (k : OnNode rom cert n entry base x) → has_halt (within rom x) ≡ true → IsHalt k.passes.row
 at_halt rom cert n entry base x k h =
     let known = is_known rom cert n entry base x k in
     let first = FetchesFirst-known rom n entry base x k.passes.bytes known (on_code rom cert n entry base x k) in
@@ -272,7 +272,7 @@ at_halt rom cert n entry base x k h =
     opcode_seen false b opcode f e h = subst (λ c. (c == 0x76) ≡ true) e h
 
 -- under the HALT mark no HALT is there
-unmarked_at_halt : (rom : List ℕ) (cert : Certificate) (n : Node) (entry : MState) (base : ℕ) (x : MState) → OnNode rom cert n entry base x → IsMarkHarmless rom x → has_halt (within rom x) ≡ true → x.processor.halt_mark ≡ false
+unmarked_at_halt : (rom : List ℕ) (cert : Certificate) (n : Node) (entry : Activation) (base : ℕ) (x : MState) → OnNode rom cert n entry base x → IsMarkHarmless rom x → has_halt (within rom x) ≡ true → x.processor.halt_mark ≡ false
 unmarked_at_halt rom cert n entry base x k (inl clear) h = clear
 unmarked_at_halt rom cert n entry base x k (inr nop) h =
     let seen : (is_free (within rom x).memory x.processor.pc || (byte_at (within rom x).memory x.processor.pc == 0x76)) ≡ true =
@@ -320,7 +320,7 @@ stay_mark : (rom : List ℕ) (x : MState) → (outside (halt_stay (within rom x)
 unfolding halt_stay within outside
 stay_mark rom x = refl
 
-stay_safe : (rom : List ℕ) (cert : Certificate) (n : Node) (entry : MState) (base : ℕ) (x : MState) (k : OnNode rom cert n entry base x) → IsMarkHarmless rom x
+stay_safe : (rom : List ℕ) (cert : Certificate) (n : Node) (entry : Activation) (base : ℕ) (x : MState) (k : OnNode rom cert n entry base x) → IsMarkHarmless rom x
     → is_possible (within rom x) event.HaltStay ≡ true → IsSafeHappening rom cert n.procedure entry base x event.HaltStay
 unfolding is_possible happened
 stay_safe rom cert n entry base x k mark possible =
@@ -382,7 +382,7 @@ halt_stays_here : (rom : List ℕ) (cert : Certificate) (n : Node) (p : Passes r
 unfolding ways_of
 halt_stays_here rom cert n p t halt is e = subst IsElsewhere (halt_target (stack_of cert n.procedure) rom p.row n.address n.state t halt.op_is is) e
 
-bug_safe : (rom : List ℕ) (cert : Certificate) (n : Node) (entry : MState) (base : ℕ) (x : MState) (k : OnNode rom cert n entry base x) → IsMarkHarmless rom x
+bug_safe : (rom : List ℕ) (cert : Certificate) (n : Node) (entry : Activation) (base : ℕ) (x : MState) (k : OnNode rom cert n entry base x) → IsMarkHarmless rom x
     → is_possible (within rom x) event.HaltBug ≡ true → IsSafeHappening rom cert n.procedure entry base x event.HaltBug
 unfolding is_possible happened may_read_twice
 bug_safe rom cert n entry base x k mark possible =
@@ -447,7 +447,7 @@ same_bytes rom x count a = by (Memory.mapped_at a)
     by mapped.Hardware = refl
 
 -- the mark does no more harm after a while
-mark_waited : (rom : List ℕ) (cert : Certificate) (n : Node) (entry : MState) (base : ℕ) (x : MState) (k : OnNode rom cert n entry base x) (count : ℕ) → Means n.state entry base (counted count x)
+mark_waited : (rom : List ℕ) (cert : Certificate) (n : Node) (entry : Activation) (base : ℕ) (x : MState) (k : OnNode rom cert n entry base x) (count : ℕ) → Means n.state entry base (counted count x)
     → IsMarkHarmless rom x → IsMarkHarmless rom (counted count x)
 mark_waited rom cert n entry base x k count m (inl clear) = inl clear
 mark_waited rom cert n entry base x k count m (inr nop) =
@@ -456,7 +456,7 @@ mark_waited rom cert n entry base x k count m (inr nop) =
     let first = FetchesFirst-known rom n entry base (counted count x) k.passes.bytes (is_known rom cert n entry base x k) (on_code rom cert n entry base (counted count x) later) in
     inr (nop.0, first.fixed, same_bytes rom x count x.processor.pc ∙ nop.2)
 
-wait_safe : (rom : List ℕ) (cert : Certificate) (n : Node) (entry : MState) (base : ℕ) (x : MState) (k : OnNode rom cert n entry base x) (cycles : ℕ) → IsMarkHarmless rom x
+wait_safe : (rom : List ℕ) (cert : Certificate) (n : Node) (entry : Activation) (base : ℕ) (x : MState) (k : OnNode rom cert n entry base x) (cycles : ℕ) → IsMarkHarmless rom x
     → IsSafeHappening rom cert n.procedure entry base x (event.Wait cycles)
 wait_safe rom cert n entry base x k cycles mark =
     let after = waited_is rom x cycles k.means.parts.core.locked k.means.parts.core.stopped in
@@ -471,7 +471,7 @@ wait_safe rom cert n entry base x k cycles mark =
 
 -- ---- every event but a dispatch
 
-run_safe : (rom : List ℕ) (cert : Certificate) (n : Node) (entry : MState) (base : ℕ) (x : MState) (k : OnNode rom cert n entry base x) (fetch reads : List ℕ) → IsMarkHarmless rom x
+run_safe : (rom : List ℕ) (cert : Certificate) (n : Node) (entry : Activation) (base : ℕ) (x : MState) (k : OnNode rom cert n entry base x) (fetch reads : List ℕ) → IsMarkHarmless rom x
     → is_possible (within rom x) (event.Run fetch reads) ≡ true → IsSafeHappening rom cert n.procedure entry base x (event.Run fetch reads)
 run_safe rom cert n entry base x k fetch reads (inl clear) possible = run_unmarked rom cert n entry base x k fetch reads clear (reads_byte rom x fetch reads possible)
 run_safe rom cert n entry base x k fetch reads (inr nop) possible = by x.processor.halt_mark refl
@@ -480,7 +480,7 @@ run_safe rom cert n entry base x k fetch reads (inr nop) possible = by x.process
     by true e = run_marked rom cert n entry base x k fetch reads e nop.0 nop.2
     by false e = run_unmarked rom cert n entry base x k fetch reads e (reads_byte rom x fetch reads possible)
 
-event_safe : (rom : List ℕ) (cert : Certificate) (n : Node) (entry : MState) (base : ℕ) (x : MState) (e : Event) → OnNode rom cert n entry base x → IsMarkHarmless rom x → IsNoDispatch e
+event_safe : (rom : List ℕ) (cert : Certificate) (n : Node) (entry : Activation) (base : ℕ) (x : MState) (e : Event) → OnNode rom cert n entry base x → IsMarkHarmless rom x → IsNoDispatch e
     → is_possible (within rom x) e ≡ true → IsSafeHappening rom cert n.procedure entry base x e
 event_safe rom cert n entry base x (event.Run fetch reads) k mark other possible = run_safe rom cert n entry base x k fetch reads mark possible
 event_safe rom cert n entry base x event.HaltStay k mark other possible = stay_safe rom cert n entry base x k mark possible
@@ -493,7 +493,7 @@ unfolding outside within
 unchanged rom x = refl
 
 -- an event is possible or changes nothing
-pub IsSafeEvent-where : (rom : List ℕ) (cert : Certificate) (procedure : ℕ) (entry : MState) (base : ℕ) (x : MState) (e : Event) (b : Bool) → is_possible (within rom x) e ≡ b
+pub IsSafeEvent-where : (rom : List ℕ) (cert : Certificate) (procedure : ℕ) (entry : Activation) (base : ℕ) (x : MState) (e : Event) (b : Bool) → is_possible (within rom x) e ≡ b
     → IsMeant rom cert procedure entry base x → (b ≡ true → IsSafeHappening rom cert procedure entry base x e) → IsSafeEvent rom cert procedure entry base x e
 unfolding next faults places Machine.next only
 IsSafeEvent-where rom cert procedure entry base x e true is m safe =

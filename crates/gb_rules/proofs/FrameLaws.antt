@@ -9,6 +9,7 @@ use Rattle.gb_successors.specs.Below.gb_domain.Limits.{rules_of}
 use Rattle.gb_successors.specs.Below.gb_domain.declared.rules.Rules.{Rules}
 use Rattle.gb_successors.specs.Below.gb_domain.declared.rules.Rules.TheVariants.{Simple}
 use Rattle.gb_calls.specs.Below.gb_states.Rules.{IsState, IsCertificate}
+use Rattle.gb_successors.specs.Below.gb_abs.Meaning.{Activation}
 use Rattle.gb_successors.specs.Below.gb_product.Covering.{covers}
 use Rattle.gb_successors.specs.Below.gb_product.Meaning.{Means}
 use Rattle.gb_successors.specs.Below.gb_abs.Stack.{AreInRegion}
@@ -26,7 +27,7 @@ use Rattle.gb_calls.proofs.ResumingLaws.{Means-resumed_alone}
 use Rattle.gb_successors.specs.Below.gb_abs_effects.Pairs.{known_word}
 use Rattle.gb_rules.specs.Covered.{covered_at}
 use Rattle.gb_rules.specs.Procedures.{ranges_of, need_of, setting_of, exit_of}
-use Rattle.gb_rules.specs.Safety.{IsAt, IsMeant, Calls, Returns}
+use Rattle.gb_rules.specs.Safety.{begun, IsAt, IsMeant, Calls, Returns}
 use Rattle.gb_rules.specs.Frames.{Keeps, Frame, IsWaiting, AreWaiting, Stands}
 use Rattle.gb_rules.proofs.CoveringLaws.{IsFoundAt, covered_items, found_at}
 use Rattle.gb_rules.proofs.ProcedureLaws.{based_setting, HasReturnWord-simply, return_word_of, ranges_apart, apart_outside, exit_state, exit_set, exit_items}
@@ -43,22 +44,22 @@ Keeps-then cert procedure base s t u first second = record { byte = λ b k. seco
 -- ---- an event in the procedure on top
 
 -- the machine has stayed in the procedure
-pub Stands-stays : (rom : List ℕ) (cert : Certificate) (frames : List Frame) (procedure : ℕ) (entry : MState) (base : ℕ) (s t : MState) → Stands rom cert frames procedure entry base s
+pub Stands-stays : (rom : List ℕ) (cert : Certificate) (frames : List Frame) (procedure : ℕ) (entry : Activation) (base : ℕ) (s t : MState) → Stands rom cert frames procedure entry base s
     → IsMeant rom cert procedure entry base t → Keeps cert procedure base s t → Stands rom cert frames procedure entry base t
 Stands-stays rom cert frames procedure entry base s t stands meant keeps =
-    record { meant = meant; waiting = stands.waiting; keeps = Keeps-then cert procedure base entry s t stands.keeps keeps }
+    record { meant = meant; waiting = stands.waiting; keeps = Keeps-then cert procedure base entry.entered s t stands.keeps keeps }
 
 -- ---- where bytes stand at a call
 
 -- the return word of a call, and the bytes above it
-record IsPlacedCall (cert : Certificate) (procedure : ℕ) (entry : MState) (base : ℕ) (t : MState) (c : Calls cert procedure entry base t) : Type 0 where
+record IsPlacedCall (cert : Certificate) (procedure : ℕ) (entry : Activation) (base : ℕ) (t : MState) (c : Calls cert procedure entry base t) : Type 0 where
   sp : t.processor.sp + (length c.state.items + 2) ≡ base
   small : t.processor.sp + 2 < 65536
   return_word : t.processor.sp + 2 ≤ cert.region.last + 1
   room : AreInRegion cert.region base (length c.state.items + 2)
   callee_room : AreInRegion cert.region t.processor.sp (need_of cert c.node.procedure)
 
-placed_call : (cert : Certificate) (procedure : ℕ) (entry : MState) (base : ℕ) (t : MState) → IsCertificate cert → AreInRegion cert.region base (need_of cert procedure)
+placed_call : (cert : Certificate) (procedure : ℕ) (entry : Activation) (base : ℕ) (t : MState) → IsCertificate cert → AreInRegion cert.region base (need_of cert procedure)
     → (c : Calls cert procedure entry base t) → IsPlacedCall cert procedure entry base t c
 placed_call cert procedure entry base t certificate room c =
     let end : cert.region.last < 0xFFFF = region_end cert.region certificate.region in
@@ -75,7 +76,7 @@ placed_call cert procedure entry base t certificate room c =
     }
 
 -- the state that waits is meant, without the return word
-caller_means : (cert : Certificate) (procedure : ℕ) (entry : MState) (base : ℕ) (t : MState) (c : Calls cert procedure entry base t) → IsPlacedCall cert procedure entry base t c
+caller_means : (cert : Certificate) (procedure : ℕ) (entry : Activation) (base : ℕ) (t : MState) (c : Calls cert procedure entry base t) → IsPlacedCall cert procedure entry base t c
     → Means c.state entry base (without_word t)
 caller_means cert procedure entry base t c p = Means-without_word (known_word c.back) c.state entry base t c.means c.stack_set p.small
 
@@ -87,8 +88,8 @@ unfolding entered_by
 no_items k s n h = covered_items (entered_by Simple k s) n.state h
 
 -- the callee stands at its entry, and was entered just now
-IsAt-called : (rom : List ℕ) (cert : Certificate) (procedure : ℕ) (entry : MState) (base : ℕ) (t : MState) → IsCertificate cert → rules_of cert.version ≡ Simple
-    → (c : Calls cert procedure entry base t) → IsPlacedCall cert procedure entry base t c → IsAt rom cert c.node t t.processor.sp t
+IsAt-called : (rom : List ℕ) (cert : Certificate) (procedure : ℕ) (entry : Activation) (base : ℕ) (t : MState) → IsCertificate cert → rules_of cert.version ≡ Simple
+    → (c : Calls cert procedure entry base t) → IsPlacedCall cert procedure entry base t c → IsAt rom cert c.node (begun t) t.processor.sp t
 IsAt-called rom cert procedure entry base t certificate simple c p =
     let small : t.processor.sp < 65536 = (let h = p.small in omega arith) in
     let none = no_items (length c.node.state.items) c.state c.node c.begins in
@@ -97,8 +98,8 @@ IsAt-called rom cert procedure entry base t certificate simple c p =
     let last = p.callee_room.last in
     record {
       address = c.address;
-      means = Means-covered (entered_by Simple (length c.node.state.items) c.state) c.node.state t t.processor.sp t c.begins
-          (Means-entered (length c.node.state.items) c.state entry base t (caller_means cert procedure entry base t c p) small);
+      means = Means-covered (entered_by Simple (length c.node.state.items) c.state) c.node.state (begun t) t.processor.sp t c.begins
+          (Means-entered (length c.node.state.items) c.state entry base (begun t) (caller_means cert procedure entry base t c p) small);
       mark = inl c.mark;
       main = λ e. absurd (omega arith);
       based = based_setting cert c.node.procedure t.processor.sp certificate simple (λ e. absurd (omega arith));
@@ -108,18 +109,18 @@ IsAt-called rom cert procedure entry base t certificate simple c p =
     }
 
 -- those that wait, by the rules of the certificate
-pub waiting_by : (cert : Certificate) (rules : Rules) (frames : List Frame) (procedure : ℕ) (entry : MState) (base : ℕ) → rules_of cert.version ≡ rules
+pub waiting_by : (cert : Certificate) (rules : Rules) (frames : List Frame) (procedure : ℕ) (entry : Activation) (base : ℕ) → rules_of cert.version ≡ rules
     → AreWaiting (rules_of cert.version) cert frames procedure entry base → AreWaiting rules cert frames procedure entry base
 waiting_by cert rules frames procedure entry base is w = subst (λ r. AreWaiting r cert frames procedure entry base) is w
 
-pub waiting_in : (cert : Certificate) (rules : Rules) (frames : List Frame) (procedure : ℕ) (entry : MState) (base : ℕ) → rules_of cert.version ≡ rules
+pub waiting_in : (cert : Certificate) (rules : Rules) (frames : List Frame) (procedure : ℕ) (entry : Activation) (base : ℕ) → rules_of cert.version ≡ rules
     → AreWaiting rules cert frames procedure entry base → AreWaiting (rules_of cert.version) cert frames procedure entry base
 waiting_in cert rules frames procedure entry base is w = subst (λ r. AreWaiting r cert frames procedure entry base) (sym is) w
 
 -- the machine has called: the procedure waits, and the callee was entered just now
-pub Stands-called : (rom : List ℕ) (cert : Certificate) (frames : List Frame) (procedure : ℕ) (entry : MState) (base : ℕ) (s t : MState) → IsCertificate cert → rules_of cert.version ≡ Simple
+pub Stands-called : (rom : List ℕ) (cert : Certificate) (frames : List Frame) (procedure : ℕ) (entry : Activation) (base : ℕ) (s t : MState) → IsCertificate cert → rules_of cert.version ≡ Simple
     → Stands rom cert frames procedure entry base s → (c : Calls cert procedure entry base t) → Keeps cert procedure base s t
-    → Stands rom cert (record { procedure = procedure; entry = entry; base = base } ∷ frames) c.node.procedure t t.processor.sp t
+    → Stands rom cert (record { procedure = procedure; entry = entry; base = base } ∷ frames) c.node.procedure (begun t) t.processor.sp t
 Stands-called rom cert frames procedure entry base s t certificate simple stands c keeps =
     let at = stands.meant.at in
     let same = stands.meant.procedure_is in
@@ -127,7 +128,7 @@ Stands-called rom cert frames procedure entry base s t certificate simple stands
     let p = placed_call cert procedure entry base t certificate room c in
     record {
       meant = record { node = c.node; is_node = c.is_node; procedure_is = refl; at = IsAt-called rom cert procedure entry base t certificate simple c p };
-      waiting = waiting_in cert Simple (record { procedure = procedure; entry = entry; base = base } ∷ frames) c.node.procedure t t.processor.sp simple (
+      waiting = waiting_in cert Simple (record { procedure = procedure; entry = entry; base = base } ∷ frames) c.node.procedure (begun t) t.processor.sp simple (
         record {
           calls = c;
           callee = refl;
@@ -135,7 +136,7 @@ Stands-called rom cert frames procedure entry base s t certificate simple stands
           main = λ e. at.main (same ∙ e);
           return_word = λ some. return_word_of (rules_of cert.version) cert.region stands.meant.node.procedure base simple at.return_word (subst (λ n. 0 < n) (sym same) some);
           room = room;
-          keeps = Keeps-then cert procedure base entry s t stands.keeps keeps;
+          keeps = Keeps-then cert procedure base entry.entered s t stands.keeps keeps;
         },
         waiting_by cert Simple frames procedure entry base simple stands.waiting,
       );
@@ -150,12 +151,12 @@ unfolding setting_of
 all_keep cert procedure simple = ap (λ (r : Rules). keeps_by r (procedure == 0)) simple
 
 -- what a procedure keeps, the one that it called keeps too
-Keeps-callee : (cert : Certificate) (f : Frame) (procedure : ℕ) (entered : MState) (base : ℕ) (s t : MState) → IsCertificate cert → rules_of cert.version ≡ Simple → IsWaiting cert f procedure entered base
+Keeps-callee : (cert : Certificate) (f : Frame) (procedure : ℕ) (above : Activation) (base : ℕ) (s t : MState) → IsCertificate cert → rules_of cert.version ≡ Simple → IsWaiting cert f procedure above base
     → Keeps cert procedure base s t → Keeps cert f.procedure f.base s t
-Keeps-callee cert f procedure called base s t certificate simple w keeps =
+Keeps-callee cert f procedure above base s t certificate simple w keeps =
     let c = w.calls in
-    let p = placed_call cert f.procedure f.entry f.base called certificate w.room c in
-    let below : called.processor.sp ≤ f.base = (let sp = p.sp in omega arith) in
+    let p = placed_call cert f.procedure f.entry f.base above.entered certificate w.room c in
+    let below : above.entered.processor.sp ≤ f.base = (let sp = p.sp in omega arith) in
     let lower : base ≤ f.base = subst (λ n. n ≤ f.base) (sym w.base_is) below in
     let inside = subst (λ n. are_ranges_inside (ranges_of cert n) (ranges_of cert f.procedure) ≡ true) w.callee c.inside in
     record { byte = λ b k. keeps.byte b (IsKept-inside (setting_of cert f.procedure) (setting_of cert procedure) cert.region (ranges_of cert procedure) (ranges_of cert f.procedure) f.base base b (all_keep cert procedure simple) inside lower k) }
@@ -171,35 +172,35 @@ word_kept cert procedure base b certificate simple first last low high = record 
 }
 
 -- the return word is as it was when the procedure was entered: the address where the one below goes on
-back_is : (cert : Certificate) (f : Frame) (procedure : ℕ) (entry : MState) (base : ℕ) (s : MState) → IsCertificate cert → rules_of cert.version ≡ Simple → (w : IsWaiting cert f procedure entry base)
-    → Keeps cert procedure base entry s → word (peek s.storage (base + 1)) (peek s.storage base) ≡ w.calls.back
+back_is : (cert : Certificate) (f : Frame) (procedure : ℕ) (entry : Activation) (base : ℕ) (s : MState) → IsCertificate cert → rules_of cert.version ≡ Simple → (w : IsWaiting cert f procedure entry base)
+    → Keeps cert procedure base entry.entered s → word (peek s.storage (base + 1)) (peek s.storage base) ≡ w.calls.back
 back_is cert f procedure entry base s certificate simple w keeps =
     let c = w.calls in
-    let p = placed_call cert f.procedure f.entry f.base entry certificate w.room c in
+    let p = placed_call cert f.procedure f.entry f.base entry.entered certificate w.room c in
     let e = w.base_is in
     let first : cert.region.first ≤ base = (let room = p.callee_room.first in omega arith) in
     let last : base + 2 ≤ cert.region.last + 1 = (let h = p.return_word in omega arith) in
     let low = keeps.byte base (word_kept cert procedure base base certificate simple first last (omega arith) (omega arith)) in
     let high = keeps.byte (base + 1) (word_kept cert procedure base (base + 1) certificate simple first last (omega arith) (omega arith)) in
-    let found = pushed_word c.back c.state f.entry f.base entry c.means.parts c.stack_set in
-    ap (λ n. word n (peek s.storage base)) high ∙ (ap (λ n. word (peek entry.storage (base + 1)) n) low ∙ (ap (λ n. word (peek entry.storage (n + 1)) (peek entry.storage n)) e ∙ found))
+    let found = pushed_word c.back c.state f.entry f.base entry.entered c.means.parts c.stack_set in
+    ap (λ n. word n (peek s.storage base)) high ∙ (ap (λ n. word (peek entry.entered.storage (base + 1)) n) low ∙ (ap (λ n. word (peek entry.entered.storage (n + 1)) (peek entry.entered.storage n)) e ∙ found))
 
 -- the callee has come back
-comes_back : (cert : Certificate) (f : Frame) (procedure : ℕ) (entry : MState) (base : ℕ) (s t : MState) → IsCertificate cert → rules_of cert.version ≡ Simple → (w : IsWaiting cert f procedure entry base)
-    → Keeps cert procedure base entry s → (r : Returns cert procedure entry base s t) → Keeps cert procedure base s t
+comes_back : (cert : Certificate) (f : Frame) (procedure : ℕ) (entry : Activation) (base : ℕ) (s t : MState) → IsCertificate cert → rules_of cert.version ≡ Simple → (w : IsWaiting cert f procedure entry base)
+    → Keeps cert procedure base entry.entered s → (r : Returns cert procedure entry base s t) → Keeps cert procedure base s t
     → ComesBack cert.region (ranges_of cert procedure) w.calls.state r.exit f.entry f.base entry t
 comes_back cert f procedure entry base s t certificate simple w before r keeps =
     let c = w.calls in
-    let p = placed_call cert f.procedure f.entry f.base entry certificate w.room c in
+    let p = placed_call cert f.procedure f.entry f.base entry.entered certificate w.room c in
     let exit = exit_state cert procedure r.exit certificate r.is_exit in
-    let all = Keeps-then cert procedure base entry s t before keeps in
+    let all = Keeps-then cert procedure base entry.entered s t before keeps in
     record {
       is_region = certificate.region;
       apart = ranges_apart cert procedure certificate;
       placed = c.placed;
       room = p.room;
       stack_set = c.stack_set;
-      caller = caller_means cert f.procedure f.entry f.base entry c p;
+      caller = caller_means cert f.procedure f.entry f.base entry.entered c p;
       exit_set = exit_set (rules_of cert.version) cert.region r.exit exit;
       exit_items = exit_items cert.region r.exit (subst (λ q. IsState q role.Exit cert.region r.exit) simple exit);
       exit_core = exit.core;
@@ -210,7 +211,7 @@ comes_back cert f procedure entry base s t certificate simple w before r keeps =
     }
 
 -- the state that the caller goes on with is covered at the address behind the call
-is_resumed : (cert : Certificate) (f : Frame) (procedure : ℕ) (entry : MState) (base : ℕ) (exit : AbsState) → (w : IsWaiting cert f procedure entry base) → exit_of cert procedure ≡ Some exit
+is_resumed : (cert : Certificate) (f : Frame) (procedure : ℕ) (entry : Activation) (base : ℕ) (exit : AbsState) → (w : IsWaiting cert f procedure entry base) → exit_of cert procedure ≡ Some exit
     → covered_at Simple cert.nodes f.procedure w.calls.back (resumed_alone (ranges_of cert procedure) w.calls.state exit) ≡ true
 unfolding resumed
 is_resumed cert f procedure entry base exit w is =
@@ -218,8 +219,8 @@ is_resumed cert f procedure entry base exit w is =
     (w.calls.resumes exit (ap (exit_of cert) w.callee ∙ is))
 
 -- the caller's state behind the call is meant by a node
-goes_on : (cert : Certificate) (f : Frame) (procedure : ℕ) (entry : MState) (base : ℕ) (s t : MState) → IsCertificate cert → rules_of cert.version ≡ Simple → (w : IsWaiting cert f procedure entry base)
-    → Keeps cert procedure base entry s → Returns cert procedure entry base s t → Keeps cert procedure base s t
+goes_on : (cert : Certificate) (f : Frame) (procedure : ℕ) (entry : Activation) (base : ℕ) (s t : MState) → IsCertificate cert → rules_of cert.version ≡ Simple → (w : IsWaiting cert f procedure entry base)
+    → Keeps cert procedure base entry.entered s → Returns cert procedure entry base s t → Keeps cert procedure base s t
     → IsFoundAt cert f.procedure w.calls.back (length w.calls.state.items) f.entry f.base t
 unfolding resumed_alone
 goes_on cert f procedure entry base s t certificate simple w before r keeps =
@@ -229,8 +230,8 @@ goes_on cert f procedure entry base s t certificate simple w before r keeps =
     let means = Means-resumed_alone cert.region ranges w.calls.state r.exit f.entry f.base entry t back in
     found_at cert f.procedure w.calls.back after f.entry f.base t (is_resumed cert f procedure entry base r.exit w r.is_exit) means
 
-IsMeant-returned : (rom : List ℕ) (cert : Certificate) (f : Frame) (procedure : ℕ) (entry : MState) (base : ℕ) (s t : MState) → IsCertificate cert → rules_of cert.version ≡ Simple
-    → IsWaiting cert f procedure entry base → Keeps cert procedure base entry s → Returns cert procedure entry base s t → Keeps cert procedure base s t
+IsMeant-returned : (rom : List ℕ) (cert : Certificate) (f : Frame) (procedure : ℕ) (entry : Activation) (base : ℕ) (s t : MState) → IsCertificate cert → rules_of cert.version ≡ Simple
+    → IsWaiting cert f procedure entry base → Keeps cert procedure base entry.entered s → Returns cert procedure entry base s t → Keeps cert procedure base s t
     → IsMeant rom cert f.procedure f.entry f.base t
 IsMeant-returned rom cert f procedure entry base s t certificate simple w before r keeps =
     let g = goes_on cert f procedure entry base s t certificate simple w before r keeps in
@@ -254,15 +255,15 @@ IsMeant-returned rom cert f procedure entry base s t certificate simple w before
     }
 
 -- the callee has returned: the procedure that called it goes on, as if it had never waited
-pub Stands-returned : (rom : List ℕ) (cert : Certificate) (f : Frame) (rest : List Frame) (procedure : ℕ) (entry : MState) (base : ℕ) (s t : MState) → IsCertificate cert → rules_of cert.version ≡ Simple
+pub Stands-returned : (rom : List ℕ) (cert : Certificate) (f : Frame) (rest : List Frame) (procedure : ℕ) (entry : Activation) (base : ℕ) (s t : MState) → IsCertificate cert → rules_of cert.version ≡ Simple
     → Stands rom cert (f ∷ rest) procedure entry base s → Returns cert procedure entry base s t → Keeps cert procedure base s t
     → Stands rom cert rest f.procedure f.entry f.base t
 Stands-returned rom cert f rest procedure entry base s t certificate simple stands r keeps =
     let waiting = waiting_by cert Simple (f ∷ rest) procedure entry base simple stands.waiting in
     let w = waiting.0 in
-    let all = Keeps-then cert procedure base entry s t stands.keeps keeps in
+    let all = Keeps-then cert procedure base entry.entered s t stands.keeps keeps in
     record {
       meant = IsMeant-returned rom cert f procedure entry base s t certificate simple w stands.keeps r keeps;
       waiting = waiting_in cert Simple rest f.procedure f.entry f.base simple waiting.1;
-      keeps = Keeps-then cert f.procedure f.base f.entry entry t w.keeps (Keeps-callee cert f procedure entry base entry t certificate simple w all);
+      keeps = Keeps-then cert f.procedure f.base f.entry.entered entry.entered t w.keeps (Keeps-callee cert f procedure entry base entry.entered t certificate simple w all);
     }

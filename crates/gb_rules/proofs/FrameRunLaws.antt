@@ -5,6 +5,7 @@ use Rattle.std.proofs.lemmas.List.Elements.{All-append, All-nil}
 use Rattle.gb_ops.specs.declared.machine.Event.{Event}
 use Rattle.gb_ops.specs.Faults.{no_faults, either_faults}
 use Rattle.gb_ops.specs.Play.{MState, next, play}
+use Rattle.gb_successors.specs.Below.gb_abs.Meaning.{Activation}
 use Rattle.gb_successors.specs.Below.gb_domain.Certificate.{Certificate}
 use Rattle.gb_calls.specs.Below.gb_states.Rules.{IsCertificate}
 use Rattle.gb_code.specs.Places.{IsCertified}
@@ -19,7 +20,7 @@ IsStanding-running rom cert s k = let core = k.stands.meant.at.means.parts.core 
 
 -- each event, from each state that a node of a procedure means
 pub record AreEventsSafe (rom : List ℕ) (cert : Certificate) : Type 0 where
-  pub gives : (procedure : ℕ) (entry : MState) (base : ℕ) (s : MState) (e : Event) → IsMeant rom cert procedure entry base s → IsSafeEvent rom cert procedure entry base s e
+  pub gives : (procedure : ℕ) (entry : Activation) (base : ℕ) (s : MState) (e : Event) → IsMeant rom cert procedure entry base s → IsSafeEvent rom cert procedure entry base s e
 
 -- a run has no fault, fetches certified places, and leads to a state in which the machine stands
 pub record IsSafeRun (rom : List ℕ) (cert : Certificate) (s : MState) (events : List Event) : Type 0 where

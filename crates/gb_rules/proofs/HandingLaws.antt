@@ -4,6 +4,7 @@ use Rattle.std.proofs.Common.{◌≡◌, ℕ, ◌+◌, ◌-◌, ◌≤◌, ◌<�
 use Rattle.std.specs.Prelude.{IfSome}
 use Rattle.std.proofs.lemmas.Bool.Decides.{nat_tests}
 use Rattle.gb_ops.specs.Play.{MState}
+use Rattle.gb_successors.specs.Below.gb_abs.Meaning.{Activation}
 use Rattle.gb_successors.specs.Below.gb_domain.declared.rules.Rules.{Rules}
 use Rattle.gb_successors.specs.Below.gb_domain.declared.rules.Rules.TheVariants.{Extended}
 use Rattle.gb_successors.specs.Below.gb_domain.declared.types.Val.{Val}
@@ -29,7 +30,7 @@ use Rattle.gb_calls.proofs.ResumingLaws.{Means-resumed}
 use Rattle.gb_calls.proofs.TakenOverLaws.{taken_over-pointer, given_back-pointer}
 use Rattle.gb_rules.specs.Covered.{covered_at}
 use Rattle.gb_rules.specs.Procedures.{ranges_of, need_of, setting_of, exit_of, taken_by}
-use Rattle.gb_rules.specs.Safety.{IsAt, IsMeant, HandsOver, GoesBack}
+use Rattle.gb_rules.specs.Safety.{begun, IsAt, IsMeant, HandsOver, GoesBack}
 use Rattle.gb_rules.specs.Frames.{Keeps, Frame, IsWaitingAbove, Stands}
 use Rattle.gb_rules.proofs.CoveringLaws.{IsFoundAt, covered_items, found_by}
 use Rattle.gb_rules.proofs.ProcedureLaws.{HasReturnWord-widely, ranges_apart, exit_state, exit_set}
@@ -68,7 +69,7 @@ items_begun k s t few h =
     none n = omega arith
 
 -- the callee's base and what it holds and may need lie in the region
-record IsPlacedAbove (cert : Certificate) (procedure : ℕ) (entry : MState) (base : ℕ) (t : MState) (h : HandsOver cert procedure entry base t) : Type 0 where
+record IsPlacedAbove (cert : Certificate) (procedure : ℕ) (entry : Activation) (base : ℕ) (t : MState) (h : HandsOver cert procedure entry base t) : Type 0 where
   room : AreInRegion cert.region (base_below (taken_by cert h.node.procedure) h.state.items base) (need_of cert h.node.procedure)
   held : AreInRegion cert.region (base_below (taken_by cert h.node.procedure) h.state.items base) (length h.node.state.items)
 
@@ -76,26 +77,26 @@ in_region : (first last base need k items more held : ℕ) → first + need ≤ 
     → (first + more ≤ base - (items - k)) × ((first + held ≤ base - (items - k)) × (base - (items - k) ≤ last + 1))
 in_region first last base need k items more held a b c d e f = (omega arith, (omega arith, omega arith))
 
-placed_above : (cert : Certificate) (procedure : ℕ) (entry : MState) (base : ℕ) (t : MState) → AreInRegion cert.region base (need_of cert procedure) → (h : HandsOver cert procedure entry base t)
+placed_above : (cert : Certificate) (procedure : ℕ) (entry : Activation) (base : ℕ) (t : MState) → AreInRegion cert.region base (need_of cert procedure) → (h : HandsOver cert procedure entry base t)
     → IsPlacedAbove cert procedure entry base t h
 placed_above cert procedure entry base t room h =
     let p = in_region cert.region.first cert.region.last base (need_of cert procedure) (taken_by cert h.node.procedure) (length h.state.items) (need_of cert h.node.procedure) (length h.node.state.items)
     room.first room.last h.held.first h.few h.depth (items_begun (taken_by cert h.node.procedure) h.state h.node.state h.few h.begins) in
     record { room = record { first = p.0; last = p.1.1 }; held = record { first = p.1.0; last = p.1.1 } }
 
-is_called : (cert : Certificate) (procedure : ℕ) (entry : MState) (base : ℕ) (t : MState) (h : HandsOver cert procedure entry base t) → IsCalled (taken_by cert h.node.procedure) h.state entry base t
+is_called : (cert : Certificate) (procedure : ℕ) (entry : Activation) (base : ℕ) (t : MState) (h : HandsOver cert procedure entry base t) → IsCalled (taken_by cert h.node.procedure) h.state entry base t
 is_called cert procedure entry base t h = record { few = h.few; stack_set = h.stack_set; caller = h.means }
 
 -- the callee stands at its entry, and was entered just now
-IsAt-handed : (rom : List ℕ) (cert : Certificate) (procedure : ℕ) (entry : MState) (base : ℕ) (t : MState) → rules_of cert.version ≡ Extended → (h : HandsOver cert procedure entry base t)
-    → IsPlacedAbove cert procedure entry base t h → IsAt rom cert h.node t (base_below (taken_by cert h.node.procedure) h.state.items base) t
+IsAt-handed : (rom : List ℕ) (cert : Certificate) (procedure : ℕ) (entry : Activation) (base : ℕ) (t : MState) → rules_of cert.version ≡ Extended → (h : HandsOver cert procedure entry base t)
+    → IsPlacedAbove cert procedure entry base t h → IsAt rom cert h.node (begun t) (base_below (taken_by cert h.node.procedure) h.state.items base) t
 IsAt-handed rom cert procedure entry base t extended h p =
     let k = taken_by cert h.node.procedure in
     let some = h.not_main in
     record {
       address = h.address;
-      means = Means-covered (entered_by Extended k h.state) h.node.state t (base_below k h.state.items base) t h.begins
-          (Means-taken_over k h.state entry base t (is_called cert procedure entry base t h));
+      means = Means-covered (entered_by Extended k h.state) h.node.state (begun t) (base_below k h.state.items base) t h.begins
+          (Means-taken_over k h.state entry base (begun t) (is_called cert procedure entry base t h));
       mark = inl h.mark;
       main = λ e. absurd (omega arith);
       based = h.based;
@@ -105,9 +106,9 @@ IsAt-handed rom cert procedure entry base t extended h p =
     }
 
 -- the machine has called: the procedure waits above the items that it keeps, and the callee was entered just now
-pub Stands-handed : (rom : List ℕ) (cert : Certificate) (frames : List Frame) (procedure : ℕ) (entry : MState) (base : ℕ) (s t : MState) → rules_of cert.version ≡ Extended
+pub Stands-handed : (rom : List ℕ) (cert : Certificate) (frames : List Frame) (procedure : ℕ) (entry : Activation) (base : ℕ) (s t : MState) → rules_of cert.version ≡ Extended
     → Stands rom cert frames procedure entry base s → (h : HandsOver cert procedure entry base t) → Keeps cert procedure base s t
-    → Stands rom cert (record { procedure = procedure; entry = entry; base = base } ∷ frames) h.node.procedure t (base_below (taken_by cert h.node.procedure) h.state.items base) t
+    → Stands rom cert (record { procedure = procedure; entry = entry; base = base } ∷ frames) h.node.procedure (begun t) (base_below (taken_by cert h.node.procedure) h.state.items base) t
 Stands-handed rom cert frames procedure entry base s t extended stands h keeps =
     let at = stands.meant.at in
     let same = stands.meant.procedure_is in
@@ -115,7 +116,7 @@ Stands-handed rom cert frames procedure entry base s t extended stands h keeps =
     let under = base_below (taken_by cert h.node.procedure) h.state.items base in
     record {
       meant = record { node = h.node; is_node = h.is_node; procedure_is = refl; at = IsAt-handed rom cert procedure entry base t extended h (placed_above cert procedure entry base t room h) };
-      waiting = waiting_in cert Extended (record { procedure = procedure; entry = entry; base = base } ∷ frames) h.node.procedure t under extended (
+      waiting = waiting_in cert Extended (record { procedure = procedure; entry = entry; base = base } ∷ frames) h.node.procedure (begun t) under extended (
         record {
           calls = h;
           callee = refl;
@@ -123,7 +124,7 @@ Stands-handed rom cert frames procedure entry base s t extended stands h keeps =
           main = λ e. at.main (same ∙ e);
           based = subst (λ n. IsBase (setting_of cert n) base) same at.based;
           room = room;
-          keeps = Keeps-then cert procedure base entry s t stands.keeps keeps;
+          keeps = Keeps-then cert procedure base entry.entered s t stands.keeps keeps;
         },
         waiting_by cert Extended frames procedure entry base extended stands.waiting,
       );
@@ -133,9 +134,9 @@ Stands-handed rom cert frames procedure entry base s t extended stands h keeps =
 -- ---- a frame is taken off
 
 -- what a procedure keeps, the one that it called keeps too
-Keeps-below : (cert : Certificate) (f : Frame) (procedure : ℕ) (entered : MState) (base : ℕ) (s t : MState) → rules_of cert.version ≡ Extended → IsWaitingAbove cert f procedure entered base
+Keeps-below : (cert : Certificate) (f : Frame) (procedure : ℕ) (above : Activation) (base : ℕ) (s t : MState) → rules_of cert.version ≡ Extended → IsWaitingAbove cert f procedure above base
     → Keeps cert procedure base s t → Keeps cert f.procedure f.base s t
-Keeps-below cert f procedure entered base s t extended w keeps =
+Keeps-below cert f procedure above base s t extended w keeps =
     let is = w.base_is in
     let lower : base ≤ f.base = omega arith in
     let some : 0 < procedure = subst (λ n. 0 < n) w.callee w.calls.not_main in
@@ -146,19 +147,19 @@ Keeps-below cert f procedure entered base s t extended w keeps =
     }
 
 -- the callee has come back
-hands_back : (cert : Certificate) (f : Frame) (procedure : ℕ) (entry : MState) (base : ℕ) (s t : MState) → IsCertificate cert → rules_of cert.version ≡ Extended
-    → (w : IsWaitingAbove cert f procedure entry base) → Keeps cert procedure base entry s → (r : GoesBack cert procedure entry base t) → Keeps cert procedure base s t
+hands_back : (cert : Certificate) (f : Frame) (procedure : ℕ) (entry : Activation) (base : ℕ) (s t : MState) → IsCertificate cert → rules_of cert.version ≡ Extended
+    → (w : IsWaitingAbove cert f procedure entry base) → Keeps cert procedure base entry.entered s → (r : GoesBack cert procedure entry base t) → Keeps cert procedure base s t
     → HandsBack (taken_by cert procedure) cert.region (ranges_of cert procedure) w.calls.state r.exit f.entry f.base entry t
 hands_back cert f procedure entry base s t certificate extended w before r keeps =
     let c = w.calls in
     let exit = exit_state cert procedure r.exit certificate r.is_exit in
-    let all = Keeps-then cert procedure base entry s t before keeps in
+    let all = Keeps-then cert procedure base entry.entered s t before keeps in
     record {
       is_region = certificate.region;
       apart = ranges_apart cert procedure certificate;
       placed = c.placed;
       room = c.held;
-      begins = subst (λ n. IsCalled (taken_by cert n) c.state f.entry f.base entry) w.callee (is_called cert f.procedure f.entry f.base entry c);
+      begins = subst (λ n. IsCalled (taken_by cert n) c.state f.entry f.base entry.entered) w.callee (is_called cert f.procedure f.entry f.base entry.entered c);
       callee = setting_of cert procedure;
       keeps = others_keep cert procedure extended r.not_main;
       callee_base = subst (λ n. IsBase (setting_of cert n) (base_below (taken_by cert n) c.state.items f.base)) w.callee c.based;
@@ -169,7 +170,7 @@ hands_back cert f procedure entry base s t certificate extended w before r keeps
     }
 
 -- where something is left, it is covered, and means the machine's state, a node stands for it
-found_if : (cert : Certificate) (procedure a : ℕ) (k : ℕ) (s x : AbsState) (entry called : MState) (base : ℕ) (y : MState) (o : Option AbsState) → IsState Extended role.Exit cert.region x → Means x called base y
+found_if : (cert : Certificate) (procedure a : ℕ) (k : ℕ) (s x : AbsState) (entry called : Activation) (base : ℕ) (y : MState) (o : Option AbsState) → IsState Extended role.Exit cert.region x → Means x called base y
     → (top : ℕ) → MeansIf o entry top y → IfSome o (λ after. covered_at Extended cert.nodes procedure a after ≡ true) → IfSome o (IsGivenBack k s x)
     → IsFoundAt cert procedure a (length (given_back_items k s.items x.items)) entry top y
 found_if cert procedure a k s x entry called base y None is exits top m covered given = absurd m
@@ -178,8 +179,8 @@ found_if cert procedure a k s x entry called base y (Some after) is exits top m 
     (found_by Extended cert procedure a after entry top y given.pairs (AreBytes-core x.core called y is.core exits.parts.core) covered m)
 
 -- the caller's state behind the call is meant by a node
-goes_on : (cert : Certificate) (f : Frame) (procedure : ℕ) (entry : MState) (base : ℕ) (s t : MState) → IsCertificate cert → rules_of cert.version ≡ Extended
-    → (w : IsWaitingAbove cert f procedure entry base) → Keeps cert procedure base entry s → (r : GoesBack cert procedure entry base t) → Keeps cert procedure base s t
+goes_on : (cert : Certificate) (f : Frame) (procedure : ℕ) (entry : Activation) (base : ℕ) (s t : MState) → IsCertificate cert → rules_of cert.version ≡ Extended
+    → (w : IsWaitingAbove cert f procedure entry base) → Keeps cert procedure base entry.entered s → (r : GoesBack cert procedure entry base t) → Keeps cert procedure base s t
     → IsFoundAt cert f.procedure w.calls.back (length (given_back_items (taken_by cert procedure) w.calls.state.items r.exit.items)) f.entry f.base t
 goes_on cert f procedure entry base s t certificate extended w before r keeps =
     let c = w.calls in
@@ -195,7 +196,7 @@ goes_on cert f procedure entry base s t certificate extended w before r keeps =
     (IsGivenBack-resumed k (ranges_of cert procedure) c.state r.exit c.pairs pairs)
 
 -- what it holds lies in the region
-given_back_room : (cert : Certificate) (f : Frame) (procedure : ℕ) (entry : MState) (base : ℕ) (t : MState) → IsCertificate cert → (w : IsWaitingAbove cert f procedure entry base)
+given_back_room : (cert : Certificate) (f : Frame) (procedure : ℕ) (entry : Activation) (base : ℕ) (t : MState) → IsCertificate cert → (w : IsWaitingAbove cert f procedure entry base)
     → (r : GoesBack cert procedure entry base t) → AreInRegion cert.region f.base (length (given_back_items (taken_by cert procedure) w.calls.state.items r.exit.items))
 given_back_room cert f procedure entry base t certificate w r =
     let c = w.calls in
@@ -209,8 +210,8 @@ given_back_room cert f procedure entry base t certificate w r =
     let pointer = given_back-pointer k c.state.items r.exit.items f.base t.processor.sp few (omega arith) (left ∙ is) in
     record { first = omega arith; last = c.held.last }
 
-IsMeant-given_back : (rom : List ℕ) (cert : Certificate) (f : Frame) (procedure : ℕ) (entry : MState) (base : ℕ) (s t : MState) → IsCertificate cert → rules_of cert.version ≡ Extended
-    → IsWaitingAbove cert f procedure entry base → Keeps cert procedure base entry s → GoesBack cert procedure entry base t → Keeps cert procedure base s t
+IsMeant-given_back : (rom : List ℕ) (cert : Certificate) (f : Frame) (procedure : ℕ) (entry : Activation) (base : ℕ) (s t : MState) → IsCertificate cert → rules_of cert.version ≡ Extended
+    → IsWaitingAbove cert f procedure entry base → Keeps cert procedure base entry.entered s → GoesBack cert procedure entry base t → Keeps cert procedure base s t
     → IsMeant rom cert f.procedure f.entry f.base t
 IsMeant-given_back rom cert f procedure entry base s t certificate extended w before r keeps =
     let g = goes_on cert f procedure entry base s t certificate extended w before r keeps in
@@ -232,15 +233,15 @@ IsMeant-given_back rom cert f procedure entry base s t certificate extended w be
     }
 
 -- the callee has returned: the procedure that called it goes on, as if it had never waited
-pub Stands-given_back : (rom : List ℕ) (cert : Certificate) (f : Frame) (rest : List Frame) (procedure : ℕ) (entry : MState) (base : ℕ) (s t : MState) → IsCertificate cert → rules_of cert.version ≡ Extended
+pub Stands-given_back : (rom : List ℕ) (cert : Certificate) (f : Frame) (rest : List Frame) (procedure : ℕ) (entry : Activation) (base : ℕ) (s t : MState) → IsCertificate cert → rules_of cert.version ≡ Extended
     → Stands rom cert (f ∷ rest) procedure entry base s → GoesBack cert procedure entry base t → Keeps cert procedure base s t
     → Stands rom cert rest f.procedure f.entry f.base t
 Stands-given_back rom cert f rest procedure entry base s t certificate extended stands r keeps =
     let waiting = waiting_by cert Extended (f ∷ rest) procedure entry base extended stands.waiting in
     let w = waiting.0 in
-    let all = Keeps-then cert procedure base entry s t stands.keeps keeps in
+    let all = Keeps-then cert procedure base entry.entered s t stands.keeps keeps in
     record {
       meant = IsMeant-given_back rom cert f procedure entry base s t certificate extended w stands.keeps r keeps;
       waiting = waiting_in cert Extended rest f.procedure f.entry f.base extended waiting.1;
-      keeps = Keeps-then cert f.procedure f.base f.entry entry t w.keeps (Keeps-below cert f procedure entry base entry t extended w all);
+      keeps = Keeps-then cert f.procedure f.base f.entry.entered entry.entered t w.keeps (Keeps-below cert f procedure entry base entry.entered t extended w all);
     }

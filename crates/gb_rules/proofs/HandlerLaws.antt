@@ -6,6 +6,7 @@ use Rattle.std.specs.List.{Contains}
 use Rattle.gb_ops.specs.declared.machine.Event.TheVariants as event
 use Rattle.gb_ops.specs.Machine.{is_possible, happened, vector}
 use Rattle.gb_ops.specs.Play.{MState, within, outside}
+use Rattle.gb_successors.specs.Below.gb_abs.Meaning.{Activation}
 use Rattle.gb_successors.specs.Below.gb_domain.declared.rules.Rules.{Rules}
 use Rattle.gb_successors.specs.Below.gb_domain.declared.rules.Rules.TheVariants.{Extended}
 use Rattle.gb_successors.specs.Below.gb_domain.declared.setting.Setting.{Setting}
@@ -45,12 +46,12 @@ use Rattle.gb_rules.proofs.ReachingLaws.{IsCalling, LeadsBy-called}
 
 -- ---- where something is meant
 
-some_left : (o : Option Product) (entry x : MState) → IsMeantProduct o entry x → is_some o ≡ true
+some_left : (o : Option Product) (entry : Activation) (x : MState) → IsMeantProduct o entry x → is_some o ≡ true
 some_left None entry x h = absurd h
 some_left (Some p) entry x h = refl
 
 -- what is asked where something is meant before the instruction is asked wherever the machine stands
-pub is_possible-meant : (cert : Certificate) (n : Node) (entry : MState) (base : ℕ) (x : MState) → IsNodeState cert n → Means n.state entry base x → possible_at cert n ≡ true
+pub is_possible-meant : (cert : Certificate) (n : Node) (entry : Activation) (base : ℕ) (x : MState) → IsNodeState cert n → Means n.state entry base x → possible_at cert n ≡ true
 unfolding product_before
 is_possible-meant cert n entry base x s m =
     let y = moved x.processor.pc x in
@@ -130,7 +131,7 @@ is_ready cert n i o handled deep =
 
 -- ---- where the machine is then
 
-is_calling : (rom : List ℕ) (cert : Certificate) (n : Node) (entry : MState) (base : ℕ) (x : MState) (i : ℕ) (o : Option ℕ) → IsAt rom cert n entry base x → IsNodeState cert n → IsReady cert n i o
+is_calling : (rom : List ℕ) (cert : Certificate) (n : Node) (entry : Activation) (base : ℕ) (x : MState) (i : ℕ) (o : Option ℕ) → IsAt rom cert n entry base x → IsNodeState cert n → IsReady cert n i o
     → IsDispatched rom cert n entry base x i → x.processor.halt_mark ≡ false → IsCalling cert n.procedure (vector i) n.address (left_at n) entry base (left_by rom x i n.address)
 is_calling rom cert n entry base x i o at s ready d mark =
     let related = sym (left_relations n) in
@@ -155,7 +156,7 @@ is_calling rom cert n entry base x i o at s ready d mark =
       mark = mark;
     }
 
-dispatch_leads : (rom : List ℕ) (cert : Certificate) (n : Node) (entry : MState) (base : ℕ) (x : MState) (i : ℕ) (o : Option ℕ) → rules_of cert.version ≡ Extended → IsCertificate cert → IsAt rom cert n entry base x
+dispatch_leads : (rom : List ℕ) (cert : Certificate) (n : Node) (entry : Activation) (base : ℕ) (x : MState) (i : ℕ) (o : Option ℕ) → rules_of cert.version ≡ Extended → IsCertificate cert → IsAt rom cert n entry base x
     → IsNodeState cert n → handler_of cert (wide_at cert n) i n.address n.state ≡ o → IsReady cert n i o → IsDispatched rom cert n entry base x i → x.processor.halt_mark ≡ false
     → LeadsBy Extended rom cert n.procedure entry base x (left_by rom x i n.address)
 unfolding handler_of
@@ -172,7 +173,7 @@ dispatch_leads rom cert n entry base x i o extended certificate at s is ready d 
 
 -- A dispatch is safe at a node where the stack doesn't grow too deep by it, no OAM transfer closes the stack, and each interrupt
 -- that may come is provided for.
-pub IsSafeEvent-dispatched : (rom : List ℕ) (cert : Certificate) (n : Node) (entry : MState) (base : ℕ) (x : MState) (i : ℕ) → rules_of cert.version ≡ Extended → IsCertificate cert → Contains cert.nodes n
+pub IsSafeEvent-dispatched : (rom : List ℕ) (cert : Certificate) (n : Node) (entry : Activation) (base : ℕ) (x : MState) (i : ℕ) → rules_of cert.version ≡ Extended → IsCertificate cert → Contains cert.nodes n
     → handles_too_deep cert n ≡ false → is_dispatch_limited cert.region n ≡ false → lacks_handler cert n ≡ false → IsAt rom cert n entry base x → is_possible (within rom x) (event.Irq i) ≡ true
     → IsSafeEvent rom cert n.procedure entry base x (event.Irq i)
 unfolding handles_too_deep is_dispatch_limited lacks_handler

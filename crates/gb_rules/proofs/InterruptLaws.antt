@@ -7,6 +7,7 @@ use Rattle.gb_ops.specs.declared.machine.Event.{Event}
 use Rattle.gb_ops.specs.declared.machine.Event.TheVariants as event
 use Rattle.gb_ops.specs.Machine.{is_possible}
 use Rattle.gb_ops.specs.Play.{MState, within}
+use Rattle.gb_successors.specs.Below.gb_abs.Meaning.{Activation}
 use Rattle.gb_successors.specs.Below.gb_domain.declared.rules.Rules.{Rules}
 use Rattle.gb_successors.specs.Below.gb_domain.declared.rules.Rules.TheVariants.{Simple, Extended}
 use Rattle.gb_successors.specs.Below.gb_domain.Limits.{rules_of}
@@ -26,7 +27,7 @@ use Rattle.gb_rules.proofs.DispatchLaws.{IsSafeEvent-dispatch, may_come-possible
 use Rattle.gb_rules.proofs.HandlerLaws.{is_possible-meant, IsSafeEvent-dispatched}
 
 -- an interrupt's dispatch, where it is possible or not
-interrupt_safe : (rom : List ℕ) (cert : Certificate) (n : Node) (entry : MState) (base : ℕ) (s : MState) (i : ℕ) → IsCertificate cert → Contains cert.nodes n → reason_of rom cert n ≡ None
+interrupt_safe : (rom : List ℕ) (cert : Certificate) (n : Node) (entry : Activation) (base : ℕ) (s : MState) (i : ℕ) → IsCertificate cert → Contains cert.nodes n → reason_of rom cert n ≡ None
     → lacks_handler cert n ≡ false → IsAt rom cert n entry base s → (b : Bool) → is_possible (within rom s) (event.Irq i) ≡ b → IsSafeEvent rom cert n.procedure entry base s (event.Irq i)
 interrupt_safe rom cert n entry base s i certificate is_node right handled at true possible = by (rules_of cert.version) refl
   where
@@ -49,7 +50,7 @@ interrupt_safe rom cert n entry base s i certificate is_node right handled at fa
 
 -- a node that no reason is against and that has its handlers
 pub IsSafeEvent-handled : (rom : List ℕ) (cert : Certificate) (n : Node) → IsRom rom → IsCertificate cert → Contains cert.nodes n → reason_of rom cert n ≡ None → lacks_handler cert n ≡ false
-    → (entry : MState) (base : ℕ) (s : MState) (e : Event) → IsAt rom cert n entry base s → IsSafeEvent rom cert n.procedure entry base s e
+    → (entry : Activation) (base : ℕ) (s : MState) (e : Event) → IsAt rom cert n entry base s → IsSafeEvent rom cert n.procedure entry base s e
 IsSafeEvent-handled rom cert n cartridge certificate is_node right handled entry base s (event.Run fetch reads) at =
     IsSafeNode-right rom cert n cartridge certificate is_node right entry base s (event.Run fetch reads) tt at
 IsSafeEvent-handled rom cert n cartridge certificate is_node right handled entry base s event.HaltStay at = IsSafeNode-right rom cert n cartridge certificate is_node right entry base s event.HaltStay tt at

@@ -16,7 +16,7 @@ use Rattle.gb_successors.specs.Below.gb_domain.Certificate.{Certificate}
 use Rattle.gb_successors.specs.Below.gb_domain.Limits.{rules_of}
 use Rattle.gb_calls.specs.Below.gb_states.Rules.{IsCertificate}
 use Rattle.gb_successors.specs.Below.gb_abs.Mark.{IsMarkHarmless}
-use Rattle.gb_successors.specs.Below.gb_abs.Meaning.{origin_value}
+use Rattle.gb_successors.specs.Below.gb_abs.Meaning.{Activation, origin_value}
 use Rattle.gb_successors.specs.Below.gb_abs.Stack.{AreInRegion}
 use Rattle.gb_successors.specs.Below.gb_abs.Storage.{peek}
 use Rattle.gb_successors.specs.Below.gb_pairs.Meaning.{AreBytes}
@@ -29,14 +29,14 @@ use Rattle.gb_calls.proofs.CalleeLaws.{IsCallee-found, IsEntryNode-entry, fits-f
 use Rattle.gb_rules.specs.Covered.{covered_at}
 use Rattle.gb_rules.specs.Procedures.{ranges_of, need_of, setting_of, exit_of, items_in, entry_in, taken_by, base_in}
 use Rattle.gb_rules.specs.Rules.{is_extended, is_over, is_resumed_uncovered, is_back_uncovered, is_call_uncovered, is_uncovered_if, is_outside_of, is_exit_missed}
-use Rattle.gb_rules.specs.Safety.{IsMeant, HandsOver, GoesBack, LeadsBy}
+use Rattle.gb_rules.specs.Safety.{begun, IsMeant, HandsOver, GoesBack, LeadsBy}
 use Rattle.gb_rules.proofs.SearchLaws.{Contains-slice_get}
 use Rattle.gb_rules.proofs.CoveringLaws.{covered_items, found_by}
 use Rattle.gb_rules.proofs.ProcedureLaws.{HasReturnWord-widely, main_room, main_based}
 use Rattle.gb_rules.proofs.WayLaws.{is_own, same_number}
 
 -- the machine is in some states of a procedure, at an address
-pub record IsReached (cert : Certificate) (procedure a : ℕ) (state : AbsState) (entry : MState) (base : ℕ) (y : MState) : Type 0 where
+pub record IsReached (cert : Certificate) (procedure a : ℕ) (state : AbsState) (entry : Activation) (base : ℕ) (y : MState) : Type 0 where
   pub means : Means state entry base y
   pub address : y.processor.pc ≡ a
   pub bytes : AreBytes y.processor.registers
@@ -49,7 +49,7 @@ pub record IsReached (cert : Certificate) (procedure a : ℕ) (state : AbsState)
 -- ---- in the same procedure
 
 -- it stays: behind an instruction, behind a jump to a known word, or where what is called has no callee
-pub IsMeant-reached : (rom : List ℕ) (cert : Certificate) (procedure a : ℕ) (state : AbsState) (entry : MState) (base : ℕ) (y : MState) → rules_of cert.version ≡ Extended
+pub IsMeant-reached : (rom : List ℕ) (cert : Certificate) (procedure a : ℕ) (state : AbsState) (entry : Activation) (base : ℕ) (y : MState) → rules_of cert.version ≡ Extended
     → IsReached cert procedure a state entry base y → IsMarkHarmless rom y → covered_at Extended cert.nodes procedure a state ≡ true → IsMeant rom cert procedure entry base y
 IsMeant-reached rom cert procedure a state entry base y extended k mark covered =
     let f = found_by Extended cert procedure a state entry base y k.pairs k.bytes covered k.means in
@@ -71,11 +71,11 @@ IsMeant-reached rom cert procedure a state entry base y extended k mark covered 
     }
 
 -- main begins anew, as if it were entered now
-pub IsMeant-anew : (rom : List ℕ) (cert : Certificate) (a : ℕ) (state : AbsState) (y : MState) → rules_of cert.version ≡ Extended → IsCertificate cert → Means state y (cert.region.last + 1) y
+pub IsMeant-anew : (rom : List ℕ) (cert : Certificate) (a : ℕ) (state : AbsState) (y : MState) → rules_of cert.version ≡ Extended → IsCertificate cert → Means state (begun y) (cert.region.last + 1) y
     → y.processor.pc ≡ a → AreBytes y.processor.registers → ArePairs state.relations.pairs → AreInRegion cert.region (cert.region.last + 1) (length state.items) → IsMarkHarmless rom y
-    → covered_at Extended cert.nodes 0 a state ≡ true → IsMeant rom cert 0 y (cert.region.last + 1) y
+    → covered_at Extended cert.nodes 0 a state ≡ true → IsMeant rom cert 0 (begun y) (cert.region.last + 1) y
 IsMeant-anew rom cert a state y extended certificate means address bytes pairs held mark covered =
-    IsMeant-reached rom cert 0 a state y (cert.region.last + 1) y extended
+    IsMeant-reached rom cert 0 a state (begun y) (cert.region.last + 1) y extended
     (record {
       means = means;
       address = address;
@@ -126,7 +126,7 @@ covered_if cert procedure a None h = tt
 covered_if cert procedure a (Some s) h = not-false _ (or_parts _ _ h).1
 
 -- the address where the procedure will go on is on top of its stack, and its callee is at its first instruction
-pub record IsCalling (cert : Certificate) (procedure a back : ℕ) (state : AbsState) (entry : MState) (base : ℕ) (y : MState) : Type 0 where
+pub record IsCalling (cert : Certificate) (procedure a back : ℕ) (state : AbsState) (entry : Activation) (base : ℕ) (y : MState) : Type 0 where
   pub reached : IsReached cert procedure a state entry base y
   pub stack_set : state.core.stack_set ≡ true
   pub placed : IsApart cert.region state
@@ -141,7 +141,7 @@ pub record IsCallable (cert : Certificate) (procedure back : ℕ) (state : AbsSt
   pub resumes : is_back_uncovered Extended cert procedure back state q ≡ false
 
 -- the callee that is found takes the procedure's newest items over
-pub HandsOver-called : (cert : Certificate) (procedure a back : ℕ) (state : AbsState) (entry : MState) (base : ℕ) (y : MState) (q : ℕ) → rules_of cert.version ≡ Extended → IsCertificate cert
+pub HandsOver-called : (cert : Certificate) (procedure a back : ℕ) (state : AbsState) (entry : Activation) (base : ℕ) (y : MState) (q : ℕ) → rules_of cert.version ≡ Extended → IsCertificate cert
     → IsCalling cert procedure a back state entry base y → callee_of cert (setting_of cert procedure) a state ≡ Some q → IsCallable cert procedure back state q → HandsOver cert procedure entry base y
 HandsOver-called cert procedure a back state entry base y q extended certificate k is may =
     let z = setting_of cert procedure in
@@ -183,7 +183,7 @@ HandsOver-called cert procedure a back state entry base y q extended certificate
     }
 
 -- whatever is called: its callee takes over, or without one the procedure goes on there
-pub LeadsBy-called : (rom : List ℕ) (cert : Certificate) (procedure a back : ℕ) (state : AbsState) (entry : MState) (base : ℕ) (x y : MState) (o : Option ℕ) → rules_of cert.version ≡ Extended → IsCertificate cert
+pub LeadsBy-called : (rom : List ℕ) (cert : Certificate) (procedure a back : ℕ) (state : AbsState) (entry : Activation) (base : ℕ) (x y : MState) (o : Option ℕ) → rules_of cert.version ≡ Extended → IsCertificate cert
     → IsCalling cert procedure a back state entry base y → callee_of cert (setting_of cert procedure) a state ≡ o → is_outside_of (setting_of cert procedure) cert procedure o ≡ false
     → is_over Extended cert (need_of cert procedure) (length state.items) o ≡ false → is_call_uncovered Extended cert procedure a back state o ≡ false → LeadsBy Extended rom cert procedure entry base x y
 LeadsBy-called rom cert procedure a back state entry base x y None extended certificate k is inside depth covered =
@@ -194,7 +194,7 @@ LeadsBy-called rom cert procedure a back state entry base x y (Some q) extended 
 -- ---- the procedure returns
 
 -- its exit stands for the states
-pub GoesBack-reached : (cert : Certificate) (procedure : ℕ) (state : AbsState) (entry : MState) (base : ℕ) (y : MState) → 0 < procedure → Means state entry base y
+pub GoesBack-reached : (cert : Certificate) (procedure : ℕ) (state : AbsState) (entry : Activation) (base : ℕ) (y : MState) → 0 < procedure → Means state entry base y
     → AreInRegion cert.region base (length state.items) → y.processor.pc ≡ word (origin_value ReturnHigh entry) (origin_value ReturnLow entry) → y.processor.halt_mark ≡ false
     → is_exit_missed Extended state (exit_of cert procedure) ≡ false → GoesBack cert procedure entry base y
 GoesBack-reached cert procedure state entry base y some means held address mark h = by (exit_of cert procedure) refl h

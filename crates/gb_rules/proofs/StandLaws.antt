@@ -2,6 +2,7 @@
 use Rattle.std.proofs.Common.{◌≡◌, ℕ, ◌+◌, false, List, [], length, refl, arith}
 use Rattle.std.specs.List.{Contains}
 use Rattle.gb_ops.specs.Play.{MState}
+use Rattle.gb_successors.specs.Below.gb_abs.Meaning.{Activation}
 use Rattle.gb_successors.specs.Below.gb_domain.Types.{Node}
 use Rattle.gb_successors.specs.Below.gb_domain.Certificate.{Certificate}
 use Rattle.gb_successors.specs.Below.gb_domain.Limits.{rules_of}
@@ -22,7 +23,7 @@ use Rattle.gb_rules.specs.Safety.{HasReturnWord}
 use Rattle.gb_rules.proofs.NodeLaws.{IsNodeState, Passes, IsHoused, ruled, known_by}
 
 -- the machine stands at a node that passes
-pub record OnNode (rom : List ℕ) (cert : Certificate) (n : Node) (entry : MState) (base : ℕ) (x : MState) : Type 0 where
+pub record OnNode (rom : List ℕ) (cert : Certificate) (n : Node) (entry : Activation) (base : ℕ) (x : MState) : Type 0 where
   pub cartridge : IsRom rom
   pub certificate : IsCertificate cert
   pub is_node : Contains cert.nodes n
@@ -36,7 +37,7 @@ pub record OnNode (rom : List ℕ) (cert : Certificate) (n : Node) (entry : MSta
   pub based : IsBase (setting_of cert n.procedure) base
   pub held : AreInRegion cert.region base (length n.state.items)
 
-pub stands : (rom : List ℕ) (cert : Certificate) (n : Node) (entry : MState) (base : ℕ) (x : MState) (k : OnNode rom cert n entry base x) → Stands (setting_of cert n.procedure) rom cert.region k.passes.row n.address n.state entry base x
+pub stands : (rom : List ℕ) (cert : Certificate) (n : Node) (entry : Activation) (base : ℕ) (x : MState) (k : OnNode rom cert n entry base x) → Stands (setting_of cert n.procedure) rom cert.region k.passes.row n.address n.state entry base x
 stands rom cert n entry base x k = record {
   cartridge = k.cartridge;
   is_region = k.state.is_region;
@@ -53,26 +54,26 @@ stands rom cert n entry base x k = record {
   at = k.address;
 }
 
-pub housed : (rom : List ℕ) (cert : Certificate) (n : Node) (entry : MState) (base : ℕ) (x : MState) → OnNode rom cert n entry base x → IsHoused cert n.procedure base
+pub housed : (rom : List ℕ) (cert : Certificate) (n : Node) (entry : Activation) (base : ℕ) (x : MState) → OnNode rom cert n entry base x → IsHoused cert n.procedure base
 housed rom cert n entry base x k = record { main = k.main; based = k.based; room = k.room }
 
 -- where its procedure's states stand, and how much it may have on the stack
 abbrev pub whole_stack : Certificate → ℕ → Stack
 whole_stack cert procedure = record { setting = setting_of cert procedure; region = cert.region; need = need_of cert procedure; main_need = need_of cert 0 }
 
-pub sound_ways : (rom : List ℕ) (cert : Certificate) (n : Node) (entry : MState) (base : ℕ) (x : MState) (k : OnNode rom cert n entry base x)
+pub sound_ways : (rom : List ℕ) (cert : Certificate) (n : Node) (entry : Activation) (base : ℕ) (x : MState) (k : OnNode rom cert n entry base x)
     → AreSoundSuccessors (whole_stack cert n.procedure) rom k.passes.row n.address n.state (ways_of rom cert n k.passes.row)
 unfolding ways_of stack_of
 sound_ways rom cert n entry base x k = successors_of_sound (whole_stack cert n.procedure) rom k.passes.row n.address n.state (ways_of rom cert n k.passes.row) refl
 
 -- its instruction is one that may stand there
-pub is_ruled : (rom : List ℕ) (cert : Certificate) (n : Node) (entry : MState) (base : ℕ) (x : MState) (k : OnNode rom cert n entry base x)
+pub is_ruled : (rom : List ℕ) (cert : Certificate) (n : Node) (entry : Activation) (base : ℕ) (x : MState) (k : OnNode rom cert n entry base x)
     → IsRuled (whole_stack cert n.procedure) rom k.passes.row n.address n.state base
 unfolding stack_of
 is_ruled rom cert n entry base x k = ruled rom cert n base k.passes k.cartridge k.certificate k.state (housed rom cert n entry base x k)
 
 -- the states of its successors are such as states may be
-pub formed : (rom : List ℕ) (cert : Certificate) (n : Node) (entry : MState) (base : ℕ) (x : MState) (k : OnNode rom cert n entry base x) (t : Successor) → IsOneOf (ways_of rom cert n k.passes.row) t
+pub formed : (rom : List ℕ) (cert : Certificate) (n : Node) (entry : Activation) (base : ℕ) (x : MState) (k : OnNode rom cert n entry base x) (t : Successor) → IsOneOf (ways_of rom cert n k.passes.row) t
     → IsFormed cert.region t.state
 unfolding ways_of stack_of
 formed rom cert n entry base x k t is =
@@ -82,7 +83,7 @@ formed rom cert n entry base x k t is =
 abbrev pub unmarked : MState → MState
 unmarked x = record x { processor = record x.processor { halt_mark = false } }
 
-on_unmarked : (rom : List ℕ) (cert : Certificate) (n : Node) (entry : MState) (base : ℕ) (x : MState) → OnNode rom cert n entry base x → OnNode rom cert n entry base (unmarked x)
+on_unmarked : (rom : List ℕ) (cert : Certificate) (n : Node) (entry : Activation) (base : ℕ) (x : MState) → OnNode rom cert n entry base x → OnNode rom cert n entry base (unmarked x)
 on_unmarked rom cert n entry base x k = record {
   cartridge = k.cartridge;
   certificate = k.certificate;
@@ -118,7 +119,7 @@ on_unmarked rom cert n entry base x k = record {
 }
 
 -- there is a successor
-pub some_way : (rom : List ℕ) (cert : Certificate) (n : Node) (entry : MState) (base : ℕ) (x : MState) (k : OnNode rom cert n entry base x) → (t : Successor) × IsOneOf (ways_of rom cert n k.passes.row) t
+pub some_way : (rom : List ℕ) (cert : Certificate) (n : Node) (entry : Activation) (base : ℕ) (x : MState) (k : OnNode rom cert n entry base x) → (t : Successor) × IsOneOf (ways_of rom cert n k.passes.row) t
 unfolding on_unmarked
 some_way rom cert n entry base x k =
     let u = on_unmarked rom cert n entry base x k in
@@ -126,8 +127,8 @@ some_way rom cert n entry base x k =
     (is_ruled rom cert n entry base x k) refl (omega arith) in
     (done.successor, done.is_one)
 
-pub is_known : (rom : List ℕ) (cert : Certificate) (n : Node) (entry : MState) (base : ℕ) (x : MState) (k : OnNode rom cert n entry base x) → IsKnown rom n k.passes.bytes
+pub is_known : (rom : List ℕ) (cert : Certificate) (n : Node) (entry : Activation) (base : ℕ) (x : MState) (k : OnNode rom cert n entry base x) → IsKnown rom n k.passes.bytes
 is_known rom cert n entry base x k = let w = some_way rom cert n entry base x k in known_by rom cert n k.passes w.0 w.1
 
-pub on_code : (rom : List ℕ) (cert : Certificate) (n : Node) (entry : MState) (base : ℕ) (x : MState) → OnNode rom cert n entry base x → IsAtCode rom n entry base x
+pub on_code : (rom : List ℕ) (cert : Certificate) (n : Node) (entry : Activation) (base : ℕ) (x : MState) → OnNode rom cert n entry base x → IsAtCode rom n entry base x
 on_code rom cert n entry base x k = record { cartridge = k.cartridge; means = k.means.parts; ie = k.state.core.ie; at = k.address }

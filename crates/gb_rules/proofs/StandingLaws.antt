@@ -2,6 +2,7 @@
 use Rattle.std.proofs.Common.{◌≡◌, ℕ, ◌+◌, ◌<◌, inl, inr, List, [], ◌∷◌, refl, arith}
 use Rattle.gb_ops.specs.declared.machine.Event.{Event}
 use Rattle.gb_ops.specs.Play.{MState, next}
+use Rattle.gb_successors.specs.Below.gb_abs.Meaning.{Activation}
 use Rattle.gb_successors.specs.Below.gb_domain.declared.rules.Rules.{Rules}
 use Rattle.gb_successors.specs.Below.gb_domain.declared.rules.Rules.TheVariants.{Simple, Extended}
 use Rattle.gb_successors.specs.Below.gb_domain.Certificate.{Certificate}
@@ -9,14 +10,14 @@ use Rattle.gb_successors.specs.Below.gb_domain.Limits.{rules_of}
 use Rattle.gb_calls.specs.Below.gb_states.Rules.{IsCertificate}
 use Rattle.gb_calls.specs.TakenOver.{base_below}
 use Rattle.gb_rules.specs.Procedures.{taken_by}
-use Rattle.gb_rules.specs.Safety.{IsMeant, CallsBy, ReturnsBy, RestartsBy, LeadsBy, IsSafeEvent}
+use Rattle.gb_rules.specs.Safety.{begun, IsMeant, CallsBy, ReturnsBy, RestartsBy, LeadsBy, IsSafeEvent}
 use Rattle.gb_rules.specs.Frames.{Keeps, Frame, Stands, IsStanding}
 use Rattle.gb_rules.proofs.FrameLaws.{Keeps-none, Stands-stays, Stands-called, Stands-returned}
 use Rattle.gb_rules.proofs.HandingLaws.{Stands-handed, Stands-given_back}
 
 -- ---- each way on
 
-IsStanding-stays : (rom : List ℕ) (cert : Certificate) (frames : List Frame) (procedure : ℕ) (entry : MState) (base : ℕ) (s t : MState) → Stands rom cert frames procedure entry base s
+IsStanding-stays : (rom : List ℕ) (cert : Certificate) (frames : List Frame) (procedure : ℕ) (entry : Activation) (base : ℕ) (s t : MState) → Stands rom cert frames procedure entry base s
     → IsMeant rom cert procedure entry base t → Keeps cert procedure base s t → IsStanding rom cert t
 IsStanding-stays rom cert frames procedure entry base s t stands meant keeps = record {
   frames = frames;
@@ -26,19 +27,19 @@ IsStanding-stays rom cert frames procedure entry base s t stands meant keeps = r
   stands = Stands-stays rom cert frames procedure entry base s t stands meant keeps;
 }
 
-IsStanding-called : (rules : Rules) (rom : List ℕ) (cert : Certificate) (frames : List Frame) (procedure : ℕ) (entry : MState) (base : ℕ) (s t : MState) → IsCertificate cert → rules_of cert.version ≡ rules
+IsStanding-called : (rules : Rules) (rom : List ℕ) (cert : Certificate) (frames : List Frame) (procedure : ℕ) (entry : Activation) (base : ℕ) (s t : MState) → IsCertificate cert → rules_of cert.version ≡ rules
     → Stands rom cert frames procedure entry base s → CallsBy rules cert procedure entry base t → Keeps cert procedure base s t → IsStanding rom cert t
 IsStanding-called Simple rom cert frames procedure entry base s t certificate is stands c keeps = record {
   frames = record { procedure = procedure; entry = entry; base = base } ∷ frames;
   procedure = c.node.procedure;
-  entry = t;
+  entry = begun t;
   base = t.processor.sp;
   stands = Stands-called rom cert frames procedure entry base s t certificate is stands c keeps;
 }
 IsStanding-called Extended rom cert frames procedure entry base s t certificate is stands h keeps = record {
   frames = record { procedure = procedure; entry = entry; base = base } ∷ frames;
   procedure = h.node.procedure;
-  entry = t;
+  entry = begun t;
   base = base_below (taken_by cert h.node.procedure) h.state.items base;
   stands = Stands-handed rom cert frames procedure entry base s t is stands h keeps;
 }
@@ -47,7 +48,7 @@ IsStanding-called Extended rom cert frames procedure entry base s t certificate 
 main_stays : {X : Type 0} (procedure : ℕ) → procedure ≡ 0 → 0 < procedure → X
 main_stays procedure main some = absurd (omega arith)
 
-IsStanding-returned : (rules : Rules) (rom : List ℕ) (cert : Certificate) (frames : List Frame) (procedure : ℕ) (entry : MState) (base : ℕ) (s t : MState) → IsCertificate cert → rules_of cert.version ≡ rules
+IsStanding-returned : (rules : Rules) (rom : List ℕ) (cert : Certificate) (frames : List Frame) (procedure : ℕ) (entry : Activation) (base : ℕ) (s t : MState) → IsCertificate cert → rules_of cert.version ≡ rules
     → Stands rom cert frames procedure entry base s → ReturnsBy rules cert procedure entry base s t → Keeps cert procedure base s t → IsStanding rom cert t
 IsStanding-returned Simple rom cert [] procedure entry base s t certificate is stands r keeps = main_stays procedure stands.waiting r.not_main
 IsStanding-returned Extended rom cert [] procedure entry base s t certificate is stands r keeps = main_stays procedure stands.waiting r.not_main
@@ -67,11 +68,11 @@ IsStanding-returned Extended rom cert (f ∷ rest) procedure entry base s t cert
 }
 
 -- where main has just begun, nobody waits
-pub IsStanding-start : (rom : List ℕ) (cert : Certificate) (base : ℕ) (s : MState) → IsMeant rom cert 0 s base s → IsStanding rom cert s
+pub IsStanding-start : (rom : List ℕ) (cert : Certificate) (base : ℕ) (s : MState) → IsMeant rom cert 0 (begun s) base s → IsStanding rom cert s
 IsStanding-start rom cert base s meant = record {
   frames = [];
   procedure = 0;
-  entry = s;
+  entry = begun s;
   base = base;
   stands = record { meant = meant; waiting = refl; keeps = Keeps-none cert 0 base s };
 }
@@ -82,7 +83,7 @@ IsStanding-restarted Extended rom cert t meant = IsStanding-start rom cert (cert
 
 -- ---- each event
 
-IsStanding-leads : (rules : Rules) (rom : List ℕ) (cert : Certificate) (frames : List Frame) (procedure : ℕ) (entry : MState) (base : ℕ) (s t : MState) → IsCertificate cert → rules_of cert.version ≡ rules
+IsStanding-leads : (rules : Rules) (rom : List ℕ) (cert : Certificate) (frames : List Frame) (procedure : ℕ) (entry : Activation) (base : ℕ) (s t : MState) → IsCertificate cert → rules_of cert.version ≡ rules
     → Stands rom cert frames procedure entry base s → LeadsBy rules rom cert procedure entry base s t → Keeps cert procedure base s t → IsStanding rom cert t
 IsStanding-leads rules rom cert frames procedure entry base s t certificate is stands (inl meant) keeps = IsStanding-stays rom cert frames procedure entry base s t stands meant keeps
 IsStanding-leads rules rom cert frames procedure entry base s t certificate is stands (inr (inl c)) keeps = IsStanding-called rules rom cert frames procedure entry base s t certificate is stands c keeps
@@ -90,7 +91,7 @@ IsStanding-leads rules rom cert frames procedure entry base s t certificate is s
 IsStanding-leads rules rom cert frames procedure entry base s t certificate is stands (inr (inr (inr anew))) keeps = IsStanding-restarted rules rom cert t anew
 
 -- after each safe event the machine stands
-pub IsStanding-event : (rom : List ℕ) (cert : Certificate) (frames : List Frame) (procedure : ℕ) (entry : MState) (base : ℕ) (s : MState) (e : Event) → IsCertificate cert
+pub IsStanding-event : (rom : List ℕ) (cert : Certificate) (frames : List Frame) (procedure : ℕ) (entry : Activation) (base : ℕ) (s : MState) (e : Event) → IsCertificate cert
     → Stands rom cert frames procedure entry base s → IsSafeEvent rom cert procedure entry base s e → IsStanding rom cert (next rom s e)
 IsStanding-event rom cert frames procedure entry base s e certificate stands safe =
     IsStanding-leads (rules_of cert.version) rom cert frames procedure entry base s (next rom s e) certificate refl stands safe.leads (record { byte = safe.kept })

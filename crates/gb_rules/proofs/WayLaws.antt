@@ -12,7 +12,7 @@ use Rattle.gb_calls.specs.Below.gb_states.Rules.{IsCertificate, is_of, have_entr
 use Rattle.gb_successors.specs.Below.gb_abs.Mark.{IsMarkHarmless}
 use Rattle.gb_successors.specs.Below.gb_product.Meaning.{AreRelated, Means}
 use Rattle.gb_successors.specs.Below.gb_abs.Stack.{AreInRegion, pushed}
-use Rattle.gb_successors.specs.Below.gb_abs.Meaning.{MeansParts}
+use Rattle.gb_successors.specs.Below.gb_abs.Meaning.{Activation, MeansParts}
 use Rattle.gb_successors.specs.Below.gb_domain.declared.types.Halves.{Halves}
 use Rattle.gb_successors.specs.Below.gb_domain.declared.rules.Rules.TheVariants.{Simple}
 use Rattle.gb_successors.specs.Below.gb_domain.Limits.{rules_of}
@@ -69,11 +69,11 @@ resumed_covered : (cert : Certificate) (procedure back : ℕ) (s : AbsState) (q 
     → IfSome (resumed Simple (taken_by cert q) (ranges_of cert q) s exit) (λ after. covered_at Simple cert.nodes procedure back after ≡ true)
 resumed_covered cert procedure back s q h exit is = covered_if cert procedure back _ (subst (λ o. is_resumed_uncovered Simple cert procedure back s q o ≡ false) is h)
 
-means_pushed : (w : Halves) (s : AbsState) (entry : MState) (base : ℕ) (x : MState) → MeansParts (pushed w s) entry base x → AreRelated s.relations x → Means (pushed w s) entry base x
+means_pushed : (w : Halves) (s : AbsState) (entry : Activation) (base : ℕ) (x : MState) → MeansParts (pushed w s) entry base x → AreRelated s.relations x → Means (pushed w s) entry base x
 unfolding pushed
 means_pushed w s entry base x parts related = record { parts = parts; related = related }
 
-calls_at : (rom : List ℕ) (cert : Certificate) (n : Node) (t : Successor) (a : ℕ) (entry : MState) (base : ℕ) (y : MState) → IsCertificate cert → CallsAt cert.region a t entry base y → AreRelated t.state.relations y
+calls_at : (rom : List ℕ) (cert : Certificate) (n : Node) (t : Successor) (a : ℕ) (entry : Activation) (base : ℕ) (y : MState) → IsCertificate cert → CallsAt cert.region a t entry base y → AreRelated t.state.relations y
     → y.processor.halt_mark ≡ false → is_outside_of (simple_at cert n) cert n.procedure (callee_of cert (simple_at cert n) a t.state) ≡ false → is_over Simple cert (need_of cert n.procedure) (length t.state.items) (callee_of cert (simple_at cert n) a t.state) ≡ false
     → is_call_uncovered Simple cert n.procedure a t.next t.state (callee_of cert (simple_at cert n) a t.state) ≡ false → Calls cert n.procedure entry base y
 calls_at rom cert n t a entry base y certificate c related mark outside over uncovered = by (callee_of cert (simple_at cert n) a t.state) refl outside over uncovered
@@ -107,7 +107,7 @@ calls_at rom cert n t a entry base y certificate c related mark outside over unc
 
 -- ---- returns
 
-returns_to : (cert : Certificate) (n : Node) (t : Successor) (entry : MState) (base : ℕ) (x y : MState) → ReturnsTo t entry base x y → AreRelated t.state.relations y → y.processor.halt_mark ≡ false
+returns_to : (cert : Certificate) (n : Node) (t : Successor) (entry : Activation) (base : ℕ) (x y : MState) → ReturnsTo t entry base x y → AreRelated t.state.relations y → y.processor.halt_mark ≡ false
     → (n.procedure == 0 || is_exit_missed Simple t.state (exit_of cert n.procedure)) ≡ false → Returns cert n.procedure entry base x y
 returns_to cert n t entry base x y r related mark h = by (exit_of cert n.procedure) refl (or_parts _ _ h).1
   where
@@ -139,7 +139,7 @@ pub record IsMarked (rom : List ℕ) (w : Target) (y : MState) : Type 0 where
   pub clear : IsElsewhere w → y.processor.halt_mark ≡ false
 
 -- a successor leads on in the same procedure
-stays_at : (rom : List ℕ) (cert : Certificate) (n : Node) (entry : MState) (base : ℕ) (x : MState) (k : OnNode rom cert n entry base x) (t : Successor) (a : ℕ) (y : MState)
+stays_at : (rom : List ℕ) (cert : Certificate) (n : Node) (entry : Activation) (base : ℕ) (x : MState) (k : OnNode rom cert n entry base x) (t : Successor) (a : ℕ) (y : MState)
     → StaysAt cert.region a t entry base y → AreRelated t.state.relations y → covered_at Simple cert.nodes n.procedure a t.state ≡ true → IsMarkHarmless rom y → IsMeant rom cert n.procedure entry base y
 stays_at rom cert n entry base x k t a y to related covered mark =
     let f = found_at cert n.procedure a t.state entry base y covered (record { parts = to.means; related = related }) in
@@ -160,11 +160,11 @@ stays_at rom cert n entry base x k t a y to related covered mark =
     }
 
 -- by the rules of versions 1 and 2
-pub simply_leads : (rom : List ℕ) (cert : Certificate) (procedure : ℕ) (entry : MState) (base : ℕ) (s t : MState) → rules_of cert.version ≡ Simple → LeadsBy Simple rom cert procedure entry base s t
+pub simply_leads : (rom : List ℕ) (cert : Certificate) (procedure : ℕ) (entry : Activation) (base : ℕ) (s t : MState) → rules_of cert.version ≡ Simple → LeadsBy Simple rom cert procedure entry base s t
     → Leads rom cert procedure entry base s t
 simply_leads rom cert procedure entry base s t simple h = subst (λ r. LeadsBy r rom cert procedure entry base s t) (sym simple) h
 
-pub Leads-simply : (rom : List ℕ) (cert : Certificate) (n : Node) (entry : MState) (base : ℕ) (x : MState) (k : OnNode rom cert n entry base x) (t : Successor) → rules_of cert.version ≡ Simple
+pub Leads-simply : (rom : List ℕ) (cert : Certificate) (n : Node) (entry : Activation) (base : ℕ) (x : MState) (k : OnNode rom cert n entry base x) (t : Successor) → rules_of cert.version ≡ Simple
     → IsOneOf (ways_of rom cert n k.passes.row) t → (y : MState) → LeadsSimply cert.region t.target t entry base x y → (is_followed Simple t.target ≡ true → AreRelated t.state.relations y) → IsMarked rom t.target y
     → LeadsBy Simple rom cert n.procedure entry base x y
 unfolding is_uncovered is_uncallable is_unreturnable calls_too_deep callee_at

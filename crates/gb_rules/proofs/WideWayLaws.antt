@@ -10,7 +10,7 @@ use Rattle.gb_successors.specs.Below.gb_domain.declared.setting.Setting.{Setting
 use Rattle.gb_successors.specs.Below.gb_domain.Limits.{rules_of}
 use Rattle.gb_successors.specs.Below.gb_domain.Types.{Node}
 use Rattle.gb_successors.specs.Below.gb_domain.Certificate.{Certificate}
-use Rattle.gb_successors.specs.Below.gb_abs.Meaning.{MeansParts}
+use Rattle.gb_successors.specs.Below.gb_abs.Meaning.{Activation, MeansParts}
 use Rattle.gb_successors.specs.Below.gb_abs.Stack.{AreInRegion}
 use Rattle.gb_successors.specs.Below.gb_product.Meaning.{AreRelated}
 use Rattle.gb_successors.proofs.Below.gb_product_laws.MeaningLaws.{AreBytes-core}
@@ -23,7 +23,7 @@ use Rattle.gb_successors.specs.Sound.{is_followed, IsFound, IsOneOf, StaysAt, Ca
 use Rattle.gb_successors.specs.Sound as successors
 use Rattle.gb_rules.specs.Procedures.{ranges_of, need_of, setting_of}
 use Rattle.gb_rules.specs.Rules.{ways_of, callee_by, callee_at, is_over, calls_too_deep, is_uncovered, is_uncovered_at, is_outside_of, is_uncallable, is_uncallable_at, is_unreturnable, is_unreturnable_at}
-use Rattle.gb_rules.specs.Safety.{LeadsBy, Leads}
+use Rattle.gb_rules.specs.Safety.{begun, LeadsBy, Leads}
 use Rattle.gb_rules.proofs.NodeLaws.{IsUnopposed, unopposed, found, ruled_by}
 use Rattle.gb_rules.proofs.ReachingLaws.{IsReached, IsMeant-reached, IsMeant-anew, IsCalling, LeadsBy-called, GoesBack-reached}
 use Rattle.gb_rules.proofs.StandLaws.{OnNode, formed}
@@ -36,7 +36,7 @@ wide_at cert n = record (setting_of cert n.procedure) { rules = Extended }
 
 -- ---- in the same procedure
 
-reached : (rom : List ℕ) (cert : Certificate) (n : Node) (entry : MState) (base : ℕ) (x : MState) (k : OnNode rom cert n entry base x) (t : Successor) (a : ℕ) (y : MState) → IsFormed cert.region t.state
+reached : (rom : List ℕ) (cert : Certificate) (n : Node) (entry : Activation) (base : ℕ) (x : MState) (k : OnNode rom cert n entry base x) (t : Successor) (a : ℕ) (y : MState) → IsFormed cert.region t.state
     → MeansParts t.state entry base y → AreRelated t.state.relations y → y.processor.pc ≡ a → AreInRegion cert.region base (length t.state.items) → IsReached cert n.procedure a t.state entry base y
 reached rom cert n entry base x k t a y f means related goes held = record {
   means = record { parts = means; related = related };
@@ -51,7 +51,7 @@ reached rom cert n entry base x k t a y f means related goes held = record {
 
 -- ---- calls, with a callee or inlined
 
-calling : (rom : List ℕ) (cert : Certificate) (n : Node) (entry : MState) (base : ℕ) (x : MState) (k : OnNode rom cert n entry base x) (t : Successor) (a : ℕ) (y : MState) → IsFormed cert.region t.state
+calling : (rom : List ℕ) (cert : Certificate) (n : Node) (entry : Activation) (base : ℕ) (x : MState) (k : OnNode rom cert n entry base x) (t : Successor) (a : ℕ) (y : MState) → IsFormed cert.region t.state
     → CalledAt cert.region a t entry base y → AreRelated t.state.relations y → y.processor.halt_mark ≡ false → IsCalling cert n.procedure a t.next t.state entry base y
 calling rom cert n entry base x k t a y f to related mark = record {
   reached = reached rom cert n entry base x k t a y f to.means related to.goes to.room;
@@ -67,7 +67,7 @@ calling rom cert n entry base x k t a y f to related mark = record {
 not_main : (m : ℕ) → (m == 0) ≡ false → 0 < m
 not_main m h = grind (arith, nat_tests)
 
-Leads-widely : (rom : List ℕ) (cert : Certificate) (n : Node) (entry : MState) (base : ℕ) (x : MState) (k : OnNode rom cert n entry base x) (t : Successor) → rules_of cert.version ≡ Extended
+Leads-widely : (rom : List ℕ) (cert : Certificate) (n : Node) (entry : Activation) (base : ℕ) (x : MState) (k : OnNode rom cert n entry base x) (t : Successor) → rules_of cert.version ≡ Extended
     → IsOneOf (ways_of rom cert n k.passes.row) t → (y : MState) → LeadsWidely (setting_of cert n.procedure) cert.region t.target t entry base y → (is_followed Extended t.target ≡ true → AreRelated t.state.relations y)
     → IsMarked rom t.target y → LeadsBy Extended rom cert n.procedure entry base x y
 unfolding is_uncovered is_uncallable is_unreturnable calls_too_deep callee_at
@@ -97,13 +97,13 @@ Leads-widely rom cert n entry base x k t extended is y leads related_if mark = b
         let parts = or_parts _ _ returnable in
         inr (inr (inl (GoesBack-reached cert n.procedure t.state entry base y (not_main n.procedure parts.0) (record { parts = to.means; related = related }) to.room to.goes (marked.clear tt) parts.1)))
     by (target.Main a) to known covered callable shallow returnable marked =
-        let means = to.means y in
-        inr (inr (inr (IsMeant-anew rom cert a t.state y extended k.certificate (record { parts = means; related = related }) to.goes (AreBytes-core t.state.core y y f.core means.core) f.pairs to.room marked.harmless (not-false _ covered))))
+        let means = to.means (begun y) in
+        inr (inr (inr (IsMeant-anew rom cert a t.state y extended k.certificate (record { parts = means; related = related }) to.goes (AreBytes-core t.state.core (begun y) y f.core means.core) f.pairs to.room marked.harmless (not-false _ covered))))
     by target.Unknown to known covered callable shallow returnable marked = absurd known
     by target.Lost to known covered callable shallow returnable marked = absurd known
 
 -- by either rules
-pub Leads-way : (rom : List ℕ) (cert : Certificate) (n : Node) (entry : MState) (base : ℕ) (x : MState) (k : OnNode rom cert n entry base x) (t : Successor) → IsOneOf (ways_of rom cert n k.passes.row) t → (y : MState)
+pub Leads-way : (rom : List ℕ) (cert : Certificate) (n : Node) (entry : Activation) (base : ℕ) (x : MState) (k : OnNode rom cert n entry base x) (t : Successor) → IsOneOf (ways_of rom cert n k.passes.row) t → (y : MState)
     → successors.Leads (setting_of cert n.procedure) cert.region (ranges_of cert n.procedure) t entry base x y → IsMarked rom t.target y → Leads rom cert n.procedure entry base x y
 unfolding setting_of
 Leads-way rom cert n entry base x k t is y leads mark = by (rules_of cert.version) refl

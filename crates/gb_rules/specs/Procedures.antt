@@ -1,5 +1,5 @@
 -- What a certificate claims of its procedures (own format).
-use Rattle.std.specs.Prelude.{ℕ, ◌==◌, List, [], length, slice_get, Option, Some, None}
+use Rattle.std.specs.Prelude.{ℕ, false, ◌==◌, List, [], length, slice_get, Option, Some, None}
 use Rattle.gb_successors.specs.Below.gb_domain.declared.setting.Setting.{Setting}
 use Rattle.gb_successors.specs.Below.gb_domain.declared.types.Range.{Range}
 use Rattle.gb_successors.specs.Below.gb_domain.Limits.{rules_of}
@@ -34,7 +34,7 @@ base_in (Some p) = p.base
 -- where its states stand
 unfoldable pub setting_of : Certificate → ℕ → Setting
 setting_of cert procedure =
-    record { rules = rules_of cert.version; is_main = procedure == 0; base = base_in (slice_get cert.procedures procedure) }
+    record { rules = rules_of cert.version; is_whole = false; is_main = procedure == 0; base = base_in (slice_get cert.procedures procedure) }
 
 -- what it returns with, if it returns
 unfoldable pub exit_of : Certificate → ℕ → Option AbsState

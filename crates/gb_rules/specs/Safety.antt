@@ -1,5 +1,5 @@
 -- What a certificate's nodes promise of one event.
-use Rattle.std.specs.Prelude.{◌≡◌, ℕ, ◌+◌, ◌-◌, ◌≤◌, ◌<◌, ◌⊎◌, true, false, List, Some, IfSome, length, slice_get}
+use Rattle.std.specs.Prelude.{◌≡◌, ℕ, ◌+◌, ◌-◌, ◌≤◌, ◌<◌, ◌⊎◌, true, false, List, [], Some, IfSome, length, slice_get}
 use Rattle.std.specs.List.{All, Contains}
 use Rattle.gb_ops.specs.declared.machine.Event.{Event}
 use Rattle.gb_ops.specs.declared.machine.Event.TheVariants as event
@@ -13,7 +13,7 @@ use Rattle.gb_successors.specs.Below.gb_domain.declared.types.Origin.TheVariants
 use Rattle.gb_successors.specs.Below.gb_domain.Pairs.{ArePairs}
 use Rattle.gb_successors.specs.Below.gb_domain.Settings.{IsBase}
 use Rattle.gb_ops.specs.declared.machine.Region.{Region}
-use Rattle.gb_successors.specs.Below.gb_abs.Meaning.{origin_value}
+use Rattle.gb_successors.specs.Below.gb_abs.Meaning.{Activation, origin_value}
 use Rattle.gb_calls.specs.TakenOver.{base_below}
 use Rattle.gb_successors.specs.Below.gb_domain.Certificate.{Certificate}
 use Rattle.gb_successors.specs.Below.gb_domain.Limits.{rules_of}
@@ -39,9 +39,9 @@ abbrev pub HasReturnWord : Rules → Region → ℕ → ℕ → Type 0
 HasReturnWord Simple region procedure base = 0 < procedure → base + 2 ≤ region.last + 1
 HasReturnWord Extended region procedure base = Unit {0}
 
--- the machine stands at a node, in a state that the node means: its procedure was entered in the state entry, and base is the
+-- the machine stands at a node, in a state that the node means: entry says how its procedure was entered, and base is the
 -- address above its items (main's is the one behind the region); those, and the bytes that it may need, lie in the region
-pub record IsAt (rom : List ℕ) (cert : Certificate) (n : Node) (entry : MState) (base : ℕ) (s : MState) : Type 0 where
+pub record IsAt (rom : List ℕ) (cert : Certificate) (n : Node) (entry : Activation) (base : ℕ) (s : MState) : Type 0 where
   pub address : s.processor.pc ≡ n.address
   pub means : Means n.state entry base s
   pub mark : IsMarkHarmless rom s
@@ -52,7 +52,7 @@ pub record IsAt (rom : List ℕ) (cert : Certificate) (n : Node) (entry : MState
   pub held : AreInRegion cert.region base (length n.state.items)
 
 -- some node of the procedure stands where the machine is, and means its state
-pub record IsMeant (rom : List ℕ) (cert : Certificate) (procedure : ℕ) (entry : MState) (base : ℕ) (s : MState) : Type 0 where
+pub record IsMeant (rom : List ℕ) (cert : Certificate) (procedure : ℕ) (entry : Activation) (base : ℕ) (s : MState) : Type 0 where
   pub node : Node
   pub is_node : Contains cert.nodes node
   pub procedure_is : node.procedure ≡ procedure
@@ -63,7 +63,7 @@ pub record IsMeant (rom : List ℕ) (cert : Certificate) (procedure : ℕ) (entr
 -- By the rules of versions 1 and 2 the machine has called: the procedure waits in a state, with the word of the address where
 -- it will go on on the stack, and the callee stands at its entry. The callee's ranges and bytes lie inside the procedure's,
 -- and where it returns, the procedure goes on at a node.
-pub record Calls (cert : Certificate) (procedure : ℕ) (entry : MState) (base : ℕ) (s : MState) : Type 0 where
+pub record Calls (cert : Certificate) (procedure : ℕ) (entry : Activation) (base : ℕ) (s : MState) : Type 0 where
   pub state : AbsState
   pub back : ℕ
   pub back_small : back < 65536
@@ -86,7 +86,7 @@ pub record Calls (cert : Certificate) (procedure : ℕ) (entry : MState) (base :
 -- By those of version 3: the word of the address where the procedure will go on is among its items, of which the callee takes
 -- the newest over. The others wait; they and the callee's need lie inside the procedure's need, and the callee's ranges inside
 -- the procedure's, unless that is main. Where the callee returns, the procedure goes on at a node.
-pub record HandsOver (cert : Certificate) (procedure : ℕ) (entry : MState) (base : ℕ) (s : MState) : Type 0 where
+pub record HandsOver (cert : Certificate) (procedure : ℕ) (entry : Activation) (base : ℕ) (s : MState) : Type 0 where
   pub state : AbsState
   pub back : ℕ
   pub back_small : back < 65536
@@ -111,13 +111,13 @@ pub record HandsOver (cert : Certificate) (procedure : ℕ) (entry : MState) (ba
       → IfSome (resumed Extended (taken_by cert node.procedure) (ranges_of cert node.procedure) state exit)
       (λ after. covered_at Extended cert.nodes procedure back after ≡ true)
 
-abbrev pub CallsBy : Rules → Certificate → ℕ → MState → ℕ → MState → Type 0
+abbrev pub CallsBy : Rules → Certificate → ℕ → Activation → ℕ → MState → Type 0
 CallsBy Simple cert procedure entry base s = Calls cert procedure entry base s
 CallsBy Extended cert procedure entry base s = HandsOver cert procedure entry base s
 
 -- By the rules of versions 1 and 2 the machine has returned from s to t: to the word at the base, in a state that the
 -- procedure's exit means.
-pub record Returns (cert : Certificate) (procedure : ℕ) (entry : MState) (base : ℕ) (s t : MState) : Type 0 where
+pub record Returns (cert : Certificate) (procedure : ℕ) (entry : Activation) (base : ℕ) (s t : MState) : Type 0 where
   pub not_main : 0 < procedure
   pub exit : AbsState
   pub is_exit : exit_of cert procedure ≡ Some exit
@@ -126,7 +126,7 @@ pub record Returns (cert : Certificate) (procedure : ℕ) (entry : MState) (base
   pub mark : t.processor.halt_mark ≡ false
 
 -- By those of version 3: to the word with which the procedure was entered; what the exit holds is left on the stack.
-pub record GoesBack (cert : Certificate) (procedure : ℕ) (entry : MState) (base : ℕ) (t : MState) : Type 0 where
+pub record GoesBack (cert : Certificate) (procedure : ℕ) (entry : Activation) (base : ℕ) (t : MState) : Type 0 where
   pub not_main : 0 < procedure
   pub exit : AbsState
   pub is_exit : exit_of cert procedure ≡ Some exit
@@ -135,28 +135,32 @@ pub record GoesBack (cert : Certificate) (procedure : ℕ) (entry : MState) (bas
   pub address : t.processor.pc ≡ word (origin_value ReturnHigh entry) (origin_value ReturnLow entry)
   pub mark : t.processor.halt_mark ≡ false
 
-abbrev pub ReturnsBy : Rules → Certificate → ℕ → MState → ℕ → MState → MState → Type 0
+abbrev pub ReturnsBy : Rules → Certificate → ℕ → Activation → ℕ → MState → MState → Type 0
 ReturnsBy Simple cert procedure entry base s t = Returns cert procedure entry base s t
 ReturnsBy Extended cert procedure entry base s t = GoesBack cert procedure entry base t
+
+-- a procedure that begins in this state; by the rules so far none names addresses to be kept, nor puts its stack aside
+abbrev pub begun : MState → Activation
+begun s = record { entered = s; kept = []; mark = 0 }
 
 -- By the rules of version 3 the machine may have begun anew: it stands in main, as if that were entered now.
 abbrev pub RestartsBy : Rules → List ℕ → Certificate → MState → Type 0
 RestartsBy Simple rom cert t = ⊥
-RestartsBy Extended rom cert t = IsMeant rom cert 0 t (cert.region.last + 1) t
+RestartsBy Extended rom cert t = IsMeant rom cert 0 (begun t) (cert.region.last + 1) t
 
 -- from s to t the machine stays in the procedure, calls, returns or begins anew
-abbrev pub LeadsBy : Rules → List ℕ → Certificate → ℕ → MState → ℕ → MState → MState → Type 0
+abbrev pub LeadsBy : Rules → List ℕ → Certificate → ℕ → Activation → ℕ → MState → MState → Type 0
 LeadsBy rules rom cert procedure entry base s t =
     IsMeant rom cert procedure entry base t
     ⊎ (CallsBy rules cert procedure entry base t ⊎ (ReturnsBy rules cert procedure entry base s t ⊎ RestartsBy rules rom cert t))
 
 -- so it does by the rules of the certificate
-abbrev pub Leads : List ℕ → Certificate → ℕ → MState → ℕ → MState → MState → Type 0
+abbrev pub Leads : List ℕ → Certificate → ℕ → Activation → ℕ → MState → MState → Type 0
 Leads rom cert procedure entry base s t = LeadsBy (rules_of cert.version) rom cert procedure entry base s t
 
 -- an event has no fault, fetches certified places, leaves a state that the certificate means, and changes nothing that
 -- the procedure keeps
-pub record IsSafeEvent (rom : List ℕ) (cert : Certificate) (procedure : ℕ) (entry : MState) (base : ℕ) (s : MState) (e : Event) : Type 0 where
+pub record IsSafeEvent (rom : List ℕ) (cert : Certificate) (procedure : ℕ) (entry : Activation) (base : ℕ) (s : MState) (e : Event) : Type 0 where
   pub faults : faults rom cert.region s e ≡ no_faults
   pub places : All (IsCertified rom cert) (places rom s e)
   pub leads : Leads rom cert procedure entry base s (next rom s e)
@@ -167,10 +171,10 @@ abbrev pub IsNoDispatch : Event → Type 0
 IsNoDispatch (event.Irq i) = ⊥
 IsNoDispatch _ = Unit {0}
 
--- each event but a dispatch, from each state that the node means, in whatever state its procedure was entered
+-- each event but a dispatch, from each state that the node means, however its procedure was entered
 abbrev pub IsSafeNode : List ℕ → Certificate → Node → Type 0
 IsSafeNode rom cert n =
-    (entry : MState) (base : ℕ) (s : MState) (e : Event) → IsNoDispatch e → IsAt rom cert n entry base s
+    (entry : Activation) (base : ℕ) (s : MState) (e : Event) → IsNoDispatch e → IsAt rom cert n entry base s
     → IsSafeEvent rom cert n.procedure entry base s e
 
 -- the promise of the node with a number
@@ -180,7 +184,7 @@ IsSafeAt rom cert i = (n : Node) → slice_get cert.nodes i ≡ Some n → IsSaf
 -- each event, a dispatch among them
 abbrev pub IsWhollySafeNode : List ℕ → Certificate → Node → Type 0
 IsWhollySafeNode rom cert n =
-    (entry : MState) (base : ℕ) (s : MState) (e : Event) → IsAt rom cert n entry base s → IsSafeEvent rom cert n.procedure entry base s e
+    (entry : Activation) (base : ℕ) (s : MState) (e : Event) → IsAt rom cert n entry base s → IsSafeEvent rom cert n.procedure entry base s e
 
 -- that promise of the node with a number
 abbrev pub IsWhollySafeAt : List ℕ → Certificate → ℕ → Type 0

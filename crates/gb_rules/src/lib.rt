@@ -40,7 +40,7 @@ pub use gb_successors::stacks::Stack;
 pub use gb_successors::successor::Successor;
 pub use gb_successors::successors::{Successors, successors_of};
 pub use gb_successors::{
-    ANY_BOUNDS, Abs, AbsRead, AbsWrite, Bounds, Cell, Core, Ctl, Flg, ImeSet, Link, May,
+    ANY_BOUNDS, Abs, AbsRead, AbsWrite, Bounds, Cell, Core, Ctl, Flg, ImeSet, KeptBanks, Link, May,
     NO_REGISTER, NOTHING_KNOWN, OneByte, Origin, Other, PairFacts, Pairs, RANGES, Range, Reason,
     Relations, Rules, Setting, Span, Target, Test, Val, WordPair, any, cell_at, covers, is_ram,
     known, length_of, reduced, with_value,

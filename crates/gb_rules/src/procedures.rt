@@ -1,8 +1,9 @@
 //! The procedures of a certificate, and what successors ask of them: where they call, where they go on,
 //! and whether they may return.
 
-ghost use Rattle.std.specs.Prelude.{◌≡◌, ◌<◌, length, slice_get, Option, Some};
+ghost use Rattle.std.specs.Prelude.{◌≡◌, ◌<◌, not, length, slice_get, Option, Some};
 ghost use Rattle.gb_successors.specs.Below.gb_domain.Limits as Limits;
+ghost use Rattle.gb_successors.specs.Below.gb_product.Covering.{covers};
 ghost use Rattle.gb_calls.specs.Calls.{callee_of};
 ghost use Rattle.gb_rules.specs.Covered as Covered;
 ghost use Rattle.gb_rules.specs.Procedures as Procedures;
@@ -70,6 +71,7 @@ pub fn setting_of(cert: &Cert<'_>, procedure: u8) -> Setting
 {
     Setting {
         rules: rules_of(cert),
+        is_whole: false,
         is_main: procedure == 0,
         base: base_of(cert, procedure),
     }
@@ -517,6 +519,13 @@ fn leaves_items(rules: Rules, state: &Abs) -> bool
     }
 }
 
+/// Whether an exit doesn't stand for a state.
+fn is_beyond(state: &Abs, exit: &StateRef<'_>) -> bool
+    ensures { result ≡ not (covers state.now exit.now) }
+{
+    !covers_states(&States::of(state), exit)
+}
+
 /// Whether a procedure returns with something on the stack, in a state that its exit doesn't stand for, or
 /// doesn't return at all.
 fn is_exit_missed(rules: Rules, state: &Abs, exit: Option<StateRef<'_>>) -> bool
@@ -524,7 +533,7 @@ fn is_exit_missed(rules: Rules, state: &Abs, exit: Option<StateRef<'_>>) -> bool
 {
     match exit {
         None => true,
-        Some(exit) => leaves_items(rules, state) || !covers_states(&States::of(state), &exit),
+        Some(exit) => leaves_items(rules, state) || is_beyond(state, &exit),
     }
 }
 

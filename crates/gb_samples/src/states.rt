@@ -1,6 +1,6 @@
 //! Values and states of the machine and of the checker.
 
-use gb_domain::types::{Core, Ctl, Flg, ImeSet, May, Origin, Val};
+use gb_domain::types::{Core, Ctl, Flg, ImeSet, KeptBanks, May, Origin, Val};
 use gb_ops::op::Register;
 use gb_ops::registers::{Flags, Ime, Processor, Registers};
 
@@ -34,6 +34,15 @@ pub const OFF: ImeSet = ImeSet {
     on: false,
 };
 
+/// All of the controller's registers are kept.
+pub const ALL_KEPT: KeptBanks = KeptBanks {
+    bank: true,
+    second: true,
+    gate: true,
+    mode: true,
+    high_bank: true,
+};
+
 /// A controller's registers as at power-up.
 pub const START: Ctl = Ctl {
     bank_lo: 1,
@@ -42,7 +51,7 @@ pub const START: Ctl = Ctl {
     second_hi: 0,
     gate: CLEAR,
     mode: CLEAR,
-    is_kept: true,
+    kept: ALL_KEPT,
 };
 
 /// An interval that is no copy.

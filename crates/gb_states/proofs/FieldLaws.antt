@@ -1,5 +1,5 @@
 -- The fields of a state: what is read is spelled so, and what is spelled so is read.
-use Rattle.std.proofs.Common.{◌≡◌, ℕ, zero, suc, ◌+◌, ◌*◌, ◌/◌, ◌%◌, ◌<◌, ◌≤◌, Bool, true, false, ◌&&◌, ◌||◌, ◌==◌, nat_le, List, [], ◌∷◌, ◌⊎◌, inl, inr, Option, Some, None, refl, sym, ap, arith}
+use Rattle.std.proofs.Common.{◌≡◌, ℕ, zero, suc, ◌+◌, ◌*◌, ◌/◌, ◌%◌, ◌<◌, ◌≤◌, Bool, true, false, ◌&&◌, ◌||◌, not, ◌==◌, nat_le, List, [], ◌∷◌, ◌⊎◌, inl, inr, Option, Some, None, refl, sym, ap, arith}
 use Rattle.std.specs.Prelude.{IfSome}
 use Rattle.std.proofs.lemmas.Bool.Decides.{nat_tests}
 use Rattle.gb_ops.specs.declared.op.Register.{Register}
@@ -14,6 +14,8 @@ use Rattle.gb_domain.specs.declared.types.May.{May}
 use Rattle.gb_domain.specs.declared.types.Flg.{Flg}
 use Rattle.gb_domain.specs.declared.types.ImeSet.{ImeSet}
 use Rattle.gb_domain.specs.declared.types.Ctl.{Ctl}
+use Rattle.gb_domain.specs.declared.types.KeptBanks.{KeptBanks}
+use Rattle.gb_domain.specs.Types.{all_or_none, are_all_kept, is_some_kept}
 use Rattle.gb_states.specs.declared.role.Role.{Role}
 use Rattle.gb_fields.specs.Format.{both, mapped, checked, byte}
 use Rattle.gb_domain.specs.declared.rules.Rules.{Rules}
@@ -21,7 +23,7 @@ use Rattle.gb_domain.specs.declared.rules.Rules.TheVariants.{Simple, Extended}
 use Rattle.gb_domain.specs.Areas.{is_area}
 use Rattle.gb_domain.specs.Rules.{has_value, IsVal, IsFlg, IsCtl, may_be_any, IsCore}
 use Rattle.gb_fields.specs.Limits.{origin_limit}
-use Rattle.gb_states.specs.Rules.{may_be_of, is_sayable, are_sayable, is_core_sayable}
+use Rattle.gb_states.specs.Rules.{is_return_origin, is_declared_origin, may_be_of, is_sayable, are_sayable, is_all_or_none, is_core_sayable}
 use Rattle.gb_fields.specs.Reading.{is_between, is_ordered, word_of, word, quad_of, quad, node_number_by, node_number, byte_between, word_between, count_within, is_one, yes_no}
 use Rattle.gb_states.specs.Reading.{origin_of, origin_at, to_val, val_at, to_may, may_at, to_ime, ime_at, is_test, to_test, test_at, to_flags, have_values, is_own_number, is_two, to_flg, flg_at, to_ctl, ctl_at, to_vals, vals_at, Tested, to_core, is_stack_right, core_at}
 use Rattle.gb_states.specs.Spelling as spelled
@@ -189,19 +191,39 @@ IsFormat-yes_no =
     IsFormat-as yes_no spelled_flag (λ b. (spelled.flag b < 256) × (is_between 0 1 (spelled.flag b) ≡ true)) (λ b. Unit {0}) (λ b h. tt) (λ b h. flag_fits b)
     (IsFormat-mapped is_one spelled.flag (byte_between 0 1) spelled_byte _ flag-of (λ b h. of-flag b) (IsFormat-byte_between 0 1))
 
-pub origin_of-number : (o : Option Origin) → origin_of (spelled.origin_number o) ≡ o
-origin_of-number None = refl
-origin_of-number (Some origin.A) = refl
-origin_of-number (Some origin.F) = refl
-origin_of-number (Some origin.B) = refl
-origin_of-number (Some origin.C) = refl
-origin_of-number (Some origin.D) = refl
-origin_of-number (Some origin.E) = refl
-origin_of-number (Some origin.H) = refl
-origin_of-number (Some origin.L) = refl
-origin_of-number (Some origin.Ie) = refl
-origin_of-number (Some origin.ReturnHigh) = refl
-origin_of-number (Some origin.ReturnLow) = refl
+-- an origin that may be there by these rules has a number
+not-declared : (rules : Rules) (o : Option Origin) → may_be_of rules o ≡ true → is_declared_origin o ≡ false
+not-declared Simple o h = neither (is_return_origin o) (is_declared_origin o) h
+  where
+    neither : (a b : Bool) → not (a || b) ≡ true → b ≡ false
+    neither true b h = absurd cc
+    neither false true h = absurd cc
+    neither false false h = refl
+not-declared Extended o h = by (is_declared_origin o) h
+  where
+    by : (b : Bool) → not b ≡ true → b ≡ false
+    by true h = absurd cc
+    by false h = refl
+
+number-again : (o : Option Origin) → is_declared_origin o ≡ false → origin_of (spelled.origin_number o) ≡ o
+number-again None h = refl
+number-again (Some origin.A) h = refl
+number-again (Some origin.F) h = refl
+number-again (Some origin.B) h = refl
+number-again (Some origin.C) h = refl
+number-again (Some origin.D) h = refl
+number-again (Some origin.E) h = refl
+number-again (Some origin.H) h = refl
+number-again (Some origin.L) h = refl
+number-again (Some origin.Ie) h = refl
+number-again (Some origin.ReturnHigh) h = refl
+number-again (Some origin.ReturnLow) h = refl
+number-again (Some (origin.Kept i)) h = absurd cc
+number-again (Some origin.MarkHigh) h = absurd cc
+number-again (Some origin.MarkLow) h = absurd cc
+
+pub origin_of-number : (rules : Rules) (o : Option Origin) → may_be_of rules o ≡ true → origin_of (spelled.origin_number o) ≡ o
+origin_of-number rules o h = number-again o (not-declared rules o h)
 
 -- so small a number stands for an origin
 abbrev IsOriginNumber : Rules → ℕ → Type 0
@@ -230,6 +252,9 @@ origin_fits Simple (Some origin.L) h = (omega arith, refl)
 origin_fits Simple (Some origin.Ie) h = (omega arith, refl)
 origin_fits Simple (Some origin.ReturnHigh) h = absurd cc
 origin_fits Simple (Some origin.ReturnLow) h = absurd cc
+origin_fits Simple (Some (origin.Kept i)) h = absurd cc
+origin_fits Simple (Some origin.MarkHigh) h = absurd cc
+origin_fits Simple (Some origin.MarkLow) h = absurd cc
 origin_fits Extended None h = (omega arith, refl)
 origin_fits Extended (Some origin.A) h = (omega arith, refl)
 origin_fits Extended (Some origin.F) h = (omega arith, refl)
@@ -242,6 +267,9 @@ origin_fits Extended (Some origin.L) h = (omega arith, refl)
 origin_fits Extended (Some origin.Ie) h = (omega arith, refl)
 origin_fits Extended (Some origin.ReturnHigh) h = (omega arith, refl)
 origin_fits Extended (Some origin.ReturnLow) h = (omega arith, refl)
+origin_fits Extended (Some (origin.Kept i)) h = absurd cc
+origin_fits Extended (Some origin.MarkHigh) h = absurd cc
+origin_fits Extended (Some origin.MarkLow) h = absurd cc
 
 fits_origin : (rules : Rules) (o : Option Origin) → IsOriginNumber rules (spelled.origin_number o) → may_be_of rules o ≡ true
 unfolding origin_limit
@@ -257,7 +285,24 @@ fits_origin Simple (Some origin.L) h = refl
 fits_origin Simple (Some origin.Ie) h = refl
 fits_origin Simple (Some origin.ReturnHigh) h = absurd cc
 fits_origin Simple (Some origin.ReturnLow) h = absurd cc
-fits_origin Extended o h = refl
+fits_origin Simple (Some (origin.Kept i)) h = absurd cc
+fits_origin Simple (Some origin.MarkHigh) h = absurd cc
+fits_origin Simple (Some origin.MarkLow) h = absurd cc
+fits_origin Extended None h = refl
+fits_origin Extended (Some origin.A) h = refl
+fits_origin Extended (Some origin.F) h = refl
+fits_origin Extended (Some origin.B) h = refl
+fits_origin Extended (Some origin.C) h = refl
+fits_origin Extended (Some origin.D) h = refl
+fits_origin Extended (Some origin.E) h = refl
+fits_origin Extended (Some origin.H) h = refl
+fits_origin Extended (Some origin.L) h = refl
+fits_origin Extended (Some origin.Ie) h = refl
+fits_origin Extended (Some origin.ReturnHigh) h = refl
+fits_origin Extended (Some origin.ReturnLow) h = refl
+fits_origin Extended (Some (origin.Kept i)) h = absurd cc
+fits_origin Extended (Some origin.MarkHigh) h = absurd cc
+fits_origin Extended (Some origin.MarkLow) h = absurd cc
 
 abbrev spelled_origin : Option Origin → List ℕ
 spelled_origin o = spelled.origin_number o ∷ []
@@ -266,7 +311,7 @@ IsFormat-origin : (rules : Rules) → IsFormat (origin_at rules) spelled_origin 
 unfolding origin_at
 IsFormat-origin rules =
     IsFormat-as (origin_at rules) spelled_origin (λ o. IsOriginNumber rules (spelled.origin_number o)) (λ o. may_be_of rules o ≡ true) (fits_origin rules) (origin_fits rules)
-    (IsFormat-mapped origin_of spelled.origin_number (byte_between 0 (origin_limit rules)) spelled_byte (IsOriginNumber rules) (number-origin_of rules) (λ o h. origin_of-number o) (IsFormat-byte_between 0 (origin_limit rules)))
+    (IsFormat-mapped origin_of spelled.origin_number (byte_between 0 (origin_limit rules)) spelled_byte (IsOriginNumber rules) (number-origin_of rules) (λ o h. origin_of-number rules o (fits_origin rules o h)) (IsFormat-byte_between 0 (origin_limit rules)))
 
 from_val : Val → (ℕ × ℕ) × Option Origin
 from_val v = ((v.lo, v.hi), v.origin)
@@ -529,8 +574,11 @@ IsFormat-flg =
 
 -- ---- the controller and the registers
 
-from_ctl : Ctl → (ℕ × ℕ) × ((ℕ × ℕ) × (May × (May × Bool)))
-from_ctl c = ((c.bank_lo, c.bank_hi), ((c.second_lo, c.second_hi), (c.gate, (c.mode, c.is_kept))))
+abbrev CtlParts : Type 0
+CtlParts = (ℕ × ℕ) × ((ℕ × ℕ) × (May × (May × Bool)))
+
+from_ctl : Ctl → CtlParts
+from_ctl c = ((c.bank_lo, c.bank_hi), ((c.second_lo, c.second_hi), (c.gate, (c.mode, are_all_kept c.kept))))
 
 abbrev IsBank : ℕ → Type 0
 IsBank n = (n < 65536) × (is_between 0 511 n ≡ true)
@@ -538,32 +586,71 @@ IsBank n = (n < 65536) × (is_between 0 511 n ≡ true)
 is_bank : (n : ℕ) → n ≤ 511 → IsBank n
 is_bank n h = (omega arith, is_within 511 n h)
 
-abbrev AreCtl : Ctl → Type 0
-AreCtl c = ((IsBank c.bank_lo × IsBank c.bank_hi) × (nat_le c.bank_lo c.bank_hi ≡ true)) × (AreOrdered c.second_lo c.second_hi × ((has_value c.gate ≡ true) × ((has_value c.mode ≡ true) × Unit {0})))
+abbrev AreCtl : CtlParts → Type 0
+AreCtl p = ((IsBank p.0.0 × IsBank p.0.1) × (nat_le p.0.0 p.0.1 ≡ true)) × (AreOrdered p.1.0.0 p.1.0.1 × ((has_value p.1.1.0 ≡ true) × ((has_value p.1.1.1.0 ≡ true) × Unit {0})))
 
-ctl-is : (c : Ctl) → AreCtl c → IsCtl c
-ctl-is c h = record {
-  bank = le_is c.bank_lo c.bank_hi h.0.1;
-  bank_hi = within 511 c.bank_hi h.0.0.1.1;
-  second = le_is c.second_lo c.second_hi h.1.0.1;
-  second_hi = h.1.0.0.1;
-  gate = h.1.1.0;
-  mode = h.1.1.1.0;
-}
+-- a controller of which all is kept or nothing
+abbrev pub IsCtlFor : Ctl → Type 0
+IsCtlFor c = IsCtl c × (is_all_or_none c.kept ≡ true)
 
-is-ctl : (c : Ctl) → IsCtl c → AreCtl c
-is-ctl c h =
-    let low : c.bank_lo ≤ 511 = omega (arith, h.bank, h.bank_hi) in
-    (((is_bank c.bank_lo low, is_bank c.bank_hi h.bank_hi), is_le c.bank_lo c.bank_hi h.bank), (are_ordered c.second_lo c.second_hi h.second h.second_hi, (h.gate, (h.mode, tt))))
+all-kept : (b : Bool) → are_all_kept (all_or_none b) ≡ b
+all-kept true = refl
+all-kept false = refl
 
-IsFormat-ctl : IsFormat ctl_at spelled.ctl IsCtl
+kept_by-all : (b : Bool) → is_all_or_none (all_or_none b) ≡ true
+kept_by-all true = refl
+kept_by-all false = refl
+
+abbrev kept_each : Bool → Bool → Bool → Bool → Bool → KeptBanks
+kept_each b s g m t = record { bank = b; second = s; gate = g; mode = m; high_bank = t }
+
+pub kept-again : (k : KeptBanks) → is_all_or_none k ≡ true → all_or_none (are_all_kept k) ≡ k
+kept-again k h = by k.bank k.second k.gate k.mode k.high_bank h
+  where
+    by : (b s g m t : Bool) → is_all_or_none (kept_each b s g m t) ≡ true → all_or_none (are_all_kept (kept_each b s g m t)) ≡ kept_each b s g m t
+    by true true true true true h = refl
+    by true true true true false h = absurd cc
+    by true true true false t h = absurd cc
+    by true true false m t h = absurd cc
+    by true false g m t h = absurd cc
+    by false true g m t h = absurd cc
+    by false false true m t h = absurd cc
+    by false false false true t h = absurd cc
+    by false false false false true h = absurd cc
+    by false false false false false h = refl
+
+ctl-there : (p : CtlParts) → AreCtl p → (from_ctl (to_ctl p) ≡ p) × IsCtlFor (to_ctl p)
+unfolding from_ctl
+ctl-there p h = (
+  ap (λ (b : Bool). (let q : CtlParts = (p.0, (p.1.0, (p.1.1.0, (p.1.1.1.0, b)))) in q)) (all-kept p.1.1.1.1),
+  (
+    record {
+      bank = le_is p.0.0 p.0.1 h.0.1;
+      bank_hi = within 511 p.0.1 h.0.0.1.1;
+      second = le_is p.1.0.0 p.1.0.1 h.1.0.1;
+      second_hi = h.1.0.0.1;
+      gate = h.1.1.0;
+      mode = h.1.1.1.0;
+    },
+    kept_by-all p.1.1.1.1,
+  ),
+)
+
+ctl-again : (c : Ctl) → IsCtlFor c → AreCtl (from_ctl c) × (to_ctl (from_ctl c) ≡ c)
+unfolding from_ctl
+ctl-again c h =
+    let low : c.bank_lo ≤ 511 = omega (arith, h.0.bank, h.0.bank_hi) in (
+      (((is_bank c.bank_lo low, is_bank c.bank_hi h.0.bank_hi), is_le c.bank_lo c.bank_hi h.0.bank), (are_ordered c.second_lo c.second_hi h.0.second h.0.second_hi, (h.0.gate, (h.0.mode, tt)))),
+      ap (λ (k : KeptBanks). record c { kept = k }) (kept-again c.kept h.1),
+    )
+
+IsFormat-ctl : IsFormat ctl_at spelled.ctl IsCtlFor
 unfolding ctl_at from_ctl spelled.ctl
 IsFormat-ctl =
-    IsFormat-as ctl_at spelled.ctl AreCtl IsCtl ctl-is is-ctl
-    (IsFormat-mapped to_ctl from_ctl _ _ _ (λ x h. refl) (λ y h. refl)
+    IsFormat-onto to_ctl from_ctl _ _ AreCtl IsCtlFor ctl-there ctl-again
     (IsFormat-both _ _ _ _ _ _ (IsFormat-checked fault.Field is_ordered _ _ _ (IsFormat-both _ _ _ _ _ _ (IsFormat-word_between 0 511) (IsFormat-word_between 0 511)))
     (IsFormat-both _ _ _ _ _ _ (IsFormat-checked fault.Field is_ordered _ _ _ (IsFormat-both byte byte _ _ _ _ IsFormat-byte IsFormat-byte))
-    (IsFormat-both _ _ _ _ _ _ IsFormat-may (IsFormat-both _ _ _ _ _ _ IsFormat-may IsFormat-yes_no)))))
+    (IsFormat-both _ _ _ _ _ _ IsFormat-may (IsFormat-both _ _ _ _ _ _ IsFormat-may IsFormat-yes_no))))
 
 from_vals : Registers Val → Val × (Val × (Val × (Val × (Val × (Val × Val)))))
 from_vals r = (r.a, (r.b, (r.c, (r.d, (r.e, (r.h, r.l))))))
@@ -614,7 +701,7 @@ abbrev IsTest : Option ℕ → Type 0
 IsTest o = IfSome o (λ a. a < 256)
 
 abbrev AreCore : Rules → Role → Tested → Type 0
-AreCore rules role k = (may_be_any k.0.ime ≡ true) × (((k.0.bound < 256) × (is_between 0 161 k.0.bound ≡ true)) × ((Unit {0} × (is_stack_right role k.0.stack_set ≡ true)) × (IsTest k.1 × (IsCtl k.0.ctl × (IsFlg k.0.flags × (IsValFor rules k.0.ie × AreValsFor rules k.0.registers))))))
+AreCore rules role k = (may_be_any k.0.ime ≡ true) × (((k.0.bound < 256) × (is_between 0 161 k.0.bound ≡ true)) × ((Unit {0} × (is_stack_right role k.0.stack_set ≡ true)) × (IsTest k.1 × (IsCtlFor k.0.ctl × (IsFlg k.0.flags × (IsValFor rules k.0.ie × AreValsFor rules k.0.registers))))))
 
 -- a core that may stand in a state for this, and its test
 pub record IsCoreFor (rules : Rules) (role : Role) (k : Tested) : Type 0 where
@@ -628,21 +715,22 @@ core-is rules role k h = record {
   core = record {
     ime = h.0;
     bound = within 161 k.0.bound h.1.0.1;
-    ctl = h.1.1.1.1.0;
+    ctl = h.1.1.1.1.0.0;
     flags = h.1.1.1.1.1.0;
     ie = h.1.1.1.1.1.1.0.0;
     registers = h.1.1.1.1.1.1.1.0;
   };
   stack = h.1.1.0.1;
-  sayable = both_and _ _ h.1.1.1.1.1.1.0.1 h.1.1.1.1.1.1.1.1;
+  sayable = both_and _ _ h.1.1.1.1.0.1 (both_and _ _ h.1.1.1.1.1.1.0.1 h.1.1.1.1.1.1.1.1);
   test = h.1.1.1.0;
 }
 
 is-core : (rules : Rules) (role : Role) (k : Tested) → IsCoreFor rules role k → AreCore rules role k
 is-core rules role k h =
     let small : k.0.bound < 256 = omega (arith, h.core.bound) in
-    let t = and_both (is_sayable rules k.0.ie) (are_sayable rules k.0.registers) h.sayable in
-    (h.core.ime, ((small, is_within 161 k.0.bound h.core.bound), ((tt, h.stack), (h.test, (h.core.ctl, (h.core.flags, ((h.core.ie, t.0), (h.core.registers, t.1))))))))
+    let s = and_both (is_all_or_none k.0.ctl.kept) (is_sayable rules k.0.ie && are_sayable rules k.0.registers) h.sayable in
+    let t = and_both (is_sayable rules k.0.ie) (are_sayable rules k.0.registers) s.1 in
+    (h.core.ime, ((small, is_within 161 k.0.bound h.core.bound), ((tt, h.stack), (h.test, ((h.core.ctl, s.0), (h.core.flags, ((h.core.ie, t.0), (h.core.registers, t.1))))))))
 
 -- a core behind its test
 abbrev pub spelled_core : Tested → List ℕ

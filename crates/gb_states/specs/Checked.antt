@@ -6,6 +6,7 @@ use Rattle.gb_domain.specs.declared.types.Val.{Val}
 use Rattle.gb_domain.specs.declared.types.Flg.{Flg}
 use Rattle.gb_domain.specs.declared.types.Ctl.{Ctl}
 use Rattle.gb_domain.specs.declared.types.Core.{Core}
+use Rattle.gb_domain.specs.Types.{all_or_none}
 use Rattle.gb_domain.specs.declared.rules.Rules.{Rules}
 use Rattle.gb_domain.specs.declared.rules.Rules.TheVariants.{Simple, Extended}
 use Rattle.gb_fields.specs.Reading.{word_of, is_one}
@@ -25,7 +26,7 @@ ctl_in b = record {
   second_hi = slice_index b 10;
   gate = to_may (slice_index b 11);
   mode = to_may (slice_index b 12);
-  is_kept = is_one (slice_index b 13);
+  kept = all_or_none (is_one (slice_index b 13));
 }
 
 abbrev pub vals_in : List ℕ → Registers Val

@@ -21,7 +21,7 @@ use Rattle.gb_domain.specs.declared.rules.Rules.{Rules}
 use Rattle.gb_domain.specs.declared.relations.Relations.{Relations}
 use Rattle.gb_domain.specs.Limits.{rules_of, cell_room}
 use Rattle.gb_fields.specs.Limits.{range_room, unit, item_limit, origin_limit}
-use Rattle.gb_domain.specs.Types.{AbsState, ProcedureParts, Node}
+use Rattle.gb_domain.specs.Types.{AbsState, ProcedureParts, Node, all_or_none}
 use Rattle.gb_domain.specs.Certificate.{Certificate}
 use Rattle.gb_fields.specs.Format.{Read, followed, both, mapped, checked, optional, several, counted, whole, byte}
 use Rattle.gb_fields.specs.Reading.{is_ordered, word, byte_between, word_between, count_within, yes_no, returns_at, entry_at, base_at, times, need_at, key_at, head_at}
@@ -110,7 +110,7 @@ unfoldable pub flg_at : Read Flg
 flg_at = mapped to_flg (both (checked fault.Field have_values (mapped to_flags byte)) (mapped is_two (checked fault.Field is_own_number byte)))
 
 abbrev pub to_ctl : (ℕ × ℕ) × ((ℕ × ℕ) × (May × (May × Bool))) → Ctl
-to_ctl p = record { bank_lo = p.0.0; bank_hi = p.0.1; second_lo = p.1.0.0; second_hi = p.1.0.1; gate = p.1.1.0; mode = p.1.1.1.0; is_kept = p.1.1.1.1 }
+to_ctl p = record { bank_lo = p.0.0; bank_hi = p.0.1; second_lo = p.1.0.0; second_hi = p.1.0.1; gate = p.1.1.0; mode = p.1.1.1.0; kept = all_or_none p.1.1.1.1 }
 
 unfoldable pub ctl_at : Read Ctl
 ctl_at = mapped to_ctl (both (checked fault.Field is_ordered (both (word_between 0 511) (word_between 0 511))) (both (checked fault.Field is_ordered (both byte byte)) (both may_at (both may_at yes_no))))

@@ -4,8 +4,9 @@ use Rattle.std.specs.List.{AllByRecursion, list_all}
 use Rattle.gb_ops.specs.declared.machine.Region.{Region}
 use Rattle.gb_ops.specs.declared.registers.Registers.{Registers}
 use Rattle.gb_domain.specs.declared.types.Origin.{Origin}
-use Rattle.gb_domain.specs.declared.types.Origin.TheVariants.{ReturnHigh, ReturnLow}
+use Rattle.gb_domain.specs.declared.types.Origin.TheVariants.{ReturnHigh, ReturnLow, Kept, MarkHigh, MarkLow}
 use Rattle.gb_domain.specs.declared.types.Val.{Val}
+use Rattle.gb_domain.specs.declared.types.KeptBanks.{KeptBanks}
 use Rattle.gb_domain.specs.declared.types.Core.{Core}
 use Rattle.gb_domain.specs.declared.types.Cell.{Cell}
 use Rattle.gb_domain.specs.declared.types.Range.{Range}
@@ -20,7 +21,7 @@ use Rattle.gb_domain.specs.RelationRules.{IsRelations, is_test_alone}
 use Rattle.gb_fields.specs.Limits.{procedure_limit, node_limit, range_room}
 use Rattle.gb_domain.specs.Areas.{is_area, meets, IsRegion}
 use Rattle.gb_domain.specs.Rules.{IsChain, IsVal, IsCore, IsCell, after_cell}
-use Rattle.gb_domain.specs.Types.{AbsState, ProcedureParts, Node}
+use Rattle.gb_domain.specs.Types.{AbsState, ProcedureParts, Node, are_all_kept, is_some_kept}
 use Rattle.gb_domain.specs.Certificate.{Certificate}
 
 -- ---- ranges
@@ -64,10 +65,17 @@ is_return_origin (Some ReturnHigh) = true
 is_return_origin (Some ReturnLow) = true
 is_return_origin _ = false
 
+-- a byte that a procedure names to be kept, or one of its mark: versions 1 to 3 have no number for it
+abbrev pub is_declared_origin : Option Origin → Bool
+is_declared_origin (Some (Kept i)) = true
+is_declared_origin (Some MarkHigh) = true
+is_declared_origin (Some MarkLow) = true
+is_declared_origin _ = false
+
 -- By the rules of versions 1 and 2 nothing is a copy of the return word.
 abbrev pub may_be_of : Rules → Option Origin → Bool
-may_be_of Simple o = not (is_return_origin o)
-may_be_of Extended o = true
+may_be_of Simple o = not (is_return_origin o || is_declared_origin o)
+may_be_of Extended o = not (is_declared_origin o)
 
 -- By these rules the value can be said: it is a copy of what there is, and no low bits are known.
 abbrev pub is_sayable : Rules → Val → Bool
@@ -76,13 +84,17 @@ is_sayable rules v = may_be_of rules v.origin && v.low_bits == 0
 abbrev pub are_sayable : Rules → Registers Val → Bool
 are_sayable rules s = is_sayable rules s.a && (is_sayable rules s.b && (is_sayable rules s.c && (is_sayable rules s.d && (is_sayable rules s.e && (is_sayable rules s.h && is_sayable rules s.l)))))
 
+-- Versions 1 to 3 have one byte for what is kept of the controller.
+abbrev pub is_all_or_none : KeptBanks → Bool
+is_all_or_none k = are_all_kept k || not (is_some_kept k)
+
 abbrev pub is_core_sayable : Rules → Core → Bool
-is_core_sayable rules c = is_sayable rules c.ie && are_sayable rules c.registers
+is_core_sayable rules c = is_all_or_none c.ctl.kept && (is_sayable rules c.ie && are_sayable rules c.registers)
 
 abbrev pub is_cell_sayable : Rules → Cell → Bool
 is_cell_sayable rules c = is_sayable rules c.val
 
--- each value of a state is
+-- what is kept and each value of a state are
 abbrev pub is_state_sayable : Rules → AbsState → Bool
 is_state_sayable rules s = is_core_sayable rules s.core && (list_all (is_sayable rules) s.items && list_all (is_cell_sayable rules) s.cells)
 

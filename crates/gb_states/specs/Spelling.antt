@@ -3,7 +3,7 @@ use Rattle.std.specs.Prelude.{◌≡◌, ℕ, ◌+◌, ◌*◌, ◌/◌, Bool, t
 use Rattle.std.specs.List.{flat_map}
 use Rattle.gb_ops.specs.declared.registers.Registers.{Registers}
 use Rattle.gb_domain.specs.declared.types.Origin.{Origin}
-use Rattle.gb_domain.specs.declared.types.Origin.TheVariants.{A, F, B, C, D, E, H, L, Ie, ReturnHigh, ReturnLow}
+use Rattle.gb_domain.specs.declared.types.Origin.TheVariants.{A, F, B, C, D, E, H, L, Ie, ReturnHigh, ReturnLow, Kept, MarkHigh, MarkLow}
 use Rattle.gb_domain.specs.declared.types.Val.{Val}
 use Rattle.gb_domain.specs.declared.types.May.{May}
 use Rattle.gb_domain.specs.declared.types.Flg.{Flg}
@@ -12,7 +12,7 @@ use Rattle.gb_domain.specs.declared.types.Ctl.{Ctl}
 use Rattle.gb_domain.specs.declared.types.Core.{Core}
 use Rattle.gb_domain.specs.declared.types.Cell.{Cell}
 use Rattle.gb_domain.specs.declared.types.Range.{Range}
-use Rattle.gb_domain.specs.Types.{AbsState, ProcedureParts, Node}
+use Rattle.gb_domain.specs.Types.{AbsState, ProcedureParts, Node, are_all_kept}
 use Rattle.gb_domain.specs.Certificate.{Certificate}
 use Rattle.gb_domain.specs.declared.rules.Rules.{Rules}
 use Rattle.gb_domain.specs.declared.rules.Rules.TheVariants.{Simple, Extended}
@@ -23,6 +23,7 @@ unfoldable pub use Rattle.gb_states.specs.Numbers.{word, quad, node_number_by, n
 use Rattle.gb_states.specs.RelationSpelling.{relations_by}
 use Rattle.gb_states.specs.Rules.{IsCertificate}
 
+-- 255 where these versions have no number: nobody reads it
 abbrev pub origin_number : Option Origin → ℕ
 origin_number None = 0
 origin_number (Some A) = 1
@@ -36,6 +37,9 @@ origin_number (Some L) = 8
 origin_number (Some Ie) = 9
 origin_number (Some ReturnHigh) = 10
 origin_number (Some ReturnLow) = 11
+origin_number (Some (Kept i)) = 255
+origin_number (Some MarkHigh) = 255
+origin_number (Some MarkLow) = 255
 
 unfoldable pub val : Val → List ℕ
 val v = v.lo ∷ v.hi ∷ origin_number v.origin ∷ []
@@ -66,7 +70,7 @@ unfoldable pub flg : Flg → List ℕ
 flg f = flags_number f.zero f.subtract f.half_carry f.carry ∷ own_number f.is_own ∷ []
 
 unfoldable pub ctl : Ctl → List ℕ
-ctl c = word c.bank_lo ++ (word c.bank_hi ++ (c.second_lo ∷ c.second_hi ∷ may_number c.gate ∷ may_number c.mode ∷ flag c.is_kept ∷ []))
+ctl c = word c.bank_lo ++ (word c.bank_hi ++ (c.second_lo ∷ c.second_hi ∷ may_number c.gate ∷ may_number c.mode ∷ flag (are_all_kept c.kept) ∷ []))
 
 unfoldable pub vals : Registers Val → List ℕ
 vals r = val r.a ++ (val r.b ++ (val r.c ++ (val r.d ++ (val r.e ++ (val r.h ++ val r.l)))))

@@ -7,7 +7,7 @@ ghost use Rattle.gb_states.specs.Checked.{val_in, flg_in, ctl_in, vals_in, core_
 ghost use Rattle.gb_states.specs.Reading.{passed, to_may, to_ime, origin_of, origin_at, val_at, may_at, ime_at, test_at, flg_at, ctl_at, vals_at, core_at};
 
 use crate::role::Role;
-use gb_domain::types::{Core, Ctl, Flg, ImeSet, May, Origin, Rules, Val};
+use gb_domain::types::{Core, Ctl, Flg, ImeSet, KeptBanks, May, Origin, Rules, Val};
 use gb_fields::CertFault;
 use gb_fields::limits::origin_limit;
 use gb_fields::numbers::{byte, byte_between, word_between, yes_no};
@@ -176,7 +176,7 @@ fn ctl_at(bytes: &[u8]) -> Result<(Ctl, &[u8]), CertFault>
         second_hi,
         gate,
         mode,
-        is_kept,
+        kept: KeptBanks::all_or_none(is_kept),
     };
     Ok((ctl, rest))
 }
@@ -324,7 +324,7 @@ pub fn ctl_in(bytes: &[u8]) -> Ctl
         second_hi: bytes[10],
         gate: may_in(bytes[11]),
         mode: may_in(bytes[12]),
-        is_kept: bytes[13] == 1,
+        kept: KeptBanks::all_or_none(bytes[13] == 1),
     }
 }
 

@@ -27,7 +27,7 @@ use Rattle.gb_product.specs.Below.gb_abs.Span.{IsIn, one}
 use Rattle.gb_product.specs.Below.gb_abs.Storage.{peek}
 use Rattle.gb_product.specs.Below.gb_abs.Cells.{ArePlaced}
 use Rattle.gb_product.specs.Below.gb_abs.Stack.{AreInRegion}
-use Rattle.gb_product.specs.Below.gb_abs.Meaning.{Holds, MeansParts}
+use Rattle.gb_product.specs.Below.gb_abs.Meaning.{Activation, Holds, MeansParts}
 use Rattle.gb_product.specs.Below.gb_abs_effects.declared.reads.AbsRead.{AbsRead}
 use Rattle.gb_product.specs.Below.gb_abs_effects.declared.reads.AbsRead.TheVariants as read
 use Rattle.gb_product.specs.Below.gb_abs_effects.declared.writes.AbsWrite.{AbsWrite}
@@ -89,11 +89,11 @@ clear_stack region core h = by core.bound region.first h
 
 -- ---- reads
 
-any_holds : (entry : MState) (n : ℕ) → n ≤ 255 → Holds any_val entry n
+any_holds : (entry : Activation) (n : ℕ) → n ≤ 255 → Holds any_val entry n
 any_holds entry n h = record { least = omega arith; most = h; low = refl; origin = λ o e. cc }
 
 -- what an instruction reads, without a fault
-pub record Loads (z : Setting) (rom : List ℕ) (s : AbsState) (what : AbsRead) (entry : MState) (m : View) (r : Read) (reads : List ℕ) : Type 0 where
+pub record Loads (z : Setting) (rom : List ℕ) (s : AbsState) (what : AbsRead) (entry : Activation) (m : View) (r : Read) (reads : List ℕ) : Type 0 where
   pub low : Holds (read_word z rom s what).low entry (loaded m r reads).low
   pub high : Holds (read_word z rom s what).high entry (loaded m r reads).high
   pub faults : load_faults m r ≡ no_faults
@@ -104,7 +104,7 @@ in_span span a i h =
     omega arith
 
 pub Loads-read :
-    (z : Setting) (rom : List ℕ) (region : Region) (s : AbsState) (entry : MState) (base : ℕ) (x : MState) (reads : List ℕ) (sp : ℕ) (what : AbsRead) (r : Read) → IsRom rom → IsBase z base → MeansParts s entry base x → IsVal s.core.ie
+    (z : Setting) (rom : List ℕ) (region : Region) (s : AbsState) (entry : Activation) (base : ℕ) (x : MState) (reads : List ℕ) (sp : ℕ) (what : AbsRead) (r : Read) → IsRom rom → IsBase z base → MeansParts s entry base x → IsVal s.core.ie
     → slice_index reads 0 ≤ 255 → IsPlainRead what → HoldsRead what sp r → reads_closed_ram rom s.core what ≡ false → is_read_limited region s.core what ≡ false
     → Loads z rom s what entry (view rom x false) r reads
 unfolding read_word loaded load_faults reads_closed_ram is_read_limited
@@ -122,7 +122,7 @@ Loads-read z rom region s entry base x reads sp (read.Byte span) (machine_read.W
 -- ---- writes
 
 -- what an instruction writes, without a fault
-pub record Stores (z : Setting) (rom : List ℕ) (region : Region) (ranges : List Range) (s : AbsState) (w : AbsWrite) (entry : MState) (base : ℕ) (x : MState) (m : View) (mw : Write) : Type 0 where
+pub record Stores (z : Setting) (rom : List ℕ) (region : Region) (ranges : List Range) (s : AbsState) (w : AbsWrite) (entry : Activation) (base : ℕ) (x : MState) (m : View) (mw : Write) : Type 0 where
   pub means : MeansParts (written z region (kind_of rom) w s) entry base (record x { storage = (stored m mw).storage })
   pub count : length (written z region (kind_of rom) w s).items ≡ length s.items
   pub items : z.rules ≡ Simple → (written z region (kind_of rom) w s).items ≡ s.items
@@ -132,7 +132,7 @@ pub record Stores (z : Setting) (rom : List ℕ) (region : Region) (ranges : Lis
   pub writes : Writes region mw (ram_at x.storage) (ram_at (stored m mw).storage)
 
 -- the state at a store, and where it may be
-pub record AtWrite (z : Setting) (region : Region) (s : AbsState) (entry : MState) (base : ℕ) (x : MState) : Type 0 where
+pub record AtWrite (z : Setting) (region : Region) (s : AbsState) (entry : Activation) (base : ℕ) (x : MState) : Type 0 where
   pub means : MeansParts s entry base x
   pub placed : ArePlaced region s.cells
   pub room : AreInRegion region base (length s.items)
@@ -140,7 +140,7 @@ pub record AtWrite (z : Setting) (region : Region) (s : AbsState) (entry : MStat
   pub based : IsBase z base
 
 -- a byte that is kept isn't stored to
-is_other : (z : Setting) (m : View) (a n : ℕ) (region : Region) (ranges : List Range) (s : AbsState) (entry : MState) (base : ℕ) (x : MState) (o : Stored) (b : ℕ)
+is_other : (z : Setting) (m : View) (a n : ℕ) (region : Region) (ranges : List Range) (s : AbsState) (entry : Activation) (base : ℕ) (x : MState) (o : Stored) (b : ℕ)
     → IsStored z m a n region ranges s entry base x o → IsKept z region ranges base b → (b == a) ≡ false
 is_other z m a n region ranges s entry base x o b st k = choose (b == a) refl
   where
@@ -151,7 +151,7 @@ is_other z m a n region ranges s entry base x o b st k = choose (b == a) refl
     choose false e = e
 
 store_one :
-    (z : Setting) (rom : List ℕ) (region : Region) (ranges : List Range) (s : AbsState) (span : Span) (v : Val) (entry : MState) (base : ℕ) (x : MState) (starting : Bool) (a n : ℕ) → AtWrite z region s entry base x
+    (z : Setting) (rom : List ℕ) (region : Region) (ranges : List Range) (s : AbsState) (span : Span) (v : Val) (entry : Activation) (base : ℕ) (x : MState) (starting : Bool) (a n : ℕ) → AtWrite z region s entry base x
     → is_storable z (kind_of rom) region ranges span ≡ true → store_meets_closed_ram rom s.core span v ≡ false → is_store_limited s.core span ≡ false
     → IsIn span a → a < 65536 → Holds v entry n → n ≤ 255
     → IsStored z (view rom x starting) a n region ranges s entry base x (record { state = stored_state z region (kind_of rom) span v s; starts = starts_oam_transfer span })
@@ -166,7 +166,7 @@ at_one : (a : ℕ) → IsIn (one a) a
 at_one a = record { first = omega arith; last = omega arith }
 
 Stores-byte :
-    (z : Setting) (rom : List ℕ) (region : Region) (ranges : List Range) (s : AbsState) (span : Span) (v : Val) (entry : MState) (base : ℕ) (x : MState) (a n : ℕ) → AtWrite z region s entry base x
+    (z : Setting) (rom : List ℕ) (region : Region) (ranges : List Range) (s : AbsState) (span : Span) (v : Val) (entry : Activation) (base : ℕ) (x : MState) (a n : ℕ) → AtWrite z region s entry base x
     → is_storable z (kind_of rom) region ranges span ≡ true → store_meets_closed_ram rom s.core span v ≡ false → is_store_limited s.core span ≡ false
     → IsIn span a → a < 65536 → Holds v entry n → n ≤ 255
     → Stores z rom region ranges s (write.Byte span v) entry base x (view rom x false) (machine_write.Byte a n)
@@ -186,14 +186,14 @@ Stores-byte z rom region ranges s span v entry base x a n w storable ram limited
       );
     }
 
-word_byte : (v : Val) (entry : MState) (n : ℕ) → IsVal v → Holds v entry n → n ≤ 255
+word_byte : (v : Val) (entry : Activation) (n : ℕ) → IsVal v → Holds v entry n → n ≤ 255
 word_byte v entry n is h =
     let most = h.most in
     let hi = is.hi in
     omega arith
 
 Stores-word :
-    (z : Setting) (rom : List ℕ) (region : Region) (ranges : List Range) (s : AbsState) (a : ℕ) (low high : Val) (entry : MState) (base : ℕ) (x : MState) (n : ℕ) → AtWrite z region s entry base x
+    (z : Setting) (rom : List ℕ) (region : Region) (ranges : List Range) (s : AbsState) (a : ℕ) (low high : Val) (entry : Activation) (base : ℕ) (x : MState) (n : ℕ) → AtWrite z region s entry base x
     → is_storable z (kind_of rom) region ranges (one a) ≡ true → is_storable z (kind_of rom) region ranges (one (behind a)) ≡ true
     → store_meets_closed_ram rom s.core (one a) low ≡ false → store_meets_closed_ram rom s.core (one (behind a)) high ≡ false
     → is_store_limited s.core (one a) ≡ false → is_store_limited s.core (one (behind a)) ≡ false
@@ -236,7 +236,7 @@ Stores-word z rom region ranges s a low high entry base x n w here there ram_her
     }
 
 pub Stores-write :
-    (z : Setting) (rom : List ℕ) (region : Region) (ranges : List Range) (s : AbsState) (entry : MState) (base : ℕ) (x : MState) (sp : ℕ) (w : AbsWrite) (mw : Write) → AtWrite z region s entry base x
+    (z : Setting) (rom : List ℕ) (region : Region) (ranges : List Range) (s : AbsState) (entry : Activation) (base : ℕ) (x : MState) (sp : ℕ) (w : AbsWrite) (mw : Write) → AtWrite z region s entry base x
     → IsPlainWrite w → IsWrite w → HoldsWrite w entry sp mw → is_unstorable z (kind_of rom) region ranges w ≡ false → writes_closed_ram rom s.core w ≡ false → is_write_limited region s.core w ≡ false
     → Stores z rom region ranges s w entry base x (view rom x false) mw
 unfolding written starts stored store_faults is_unstorable writes_closed_ram is_write_limited

@@ -24,7 +24,7 @@ use Rattle.gb_domain.specs.Pairs.{ArePairs}
 use Rattle.gb_domain.specs.Rules.{IsCore}
 use Rattle.gb_domain.specs.Types.{AbsState}
 use Rattle.gb_product.specs.Below.gb_abs.Located.{sp_halves, sp_bounds}
-use Rattle.gb_product.specs.Below.gb_abs.Meaning.{MeansCore, MeansParts}
+use Rattle.gb_product.specs.Below.gb_abs.Meaning.{Activation, MeansCore, MeansParts}
 use Rattle.gb_product.specs.Below.gb_abs.Operations.{core_settle, with_core}
 use Rattle.gb_product.specs.Below.gb_abs.Storage.{peek}
 use Rattle.gb_product.proofs.Below.gb_abs_laws.OperationLaws.{IsCore-settle}
@@ -74,7 +74,7 @@ use Rattle.gb_successors.proofs.PossibleLaws.{some_reduced, possible, pairs_behi
 
 -- the machine that a successor leads to is one that its reduced states mean
 pub MeansParts-narrowed :
-    (z : Setting) (t : Successor) (p : Product) (entry : MState) (base : ℕ) (y : MState) → reduced z.rules t.state.core t.state.relations ≡ Some p → ArePairs t.state.relations.pairs
+    (z : Setting) (t : Successor) (p : Product) (entry : Activation) (base : ℕ) (y : MState) → reduced z.rules t.state.core t.state.relations ≡ Some p → ArePairs t.state.relations.pairs
     → AreBytes y.processor.registers → AreRelated t.state.relations y → MeansParts t.state entry base y → MeansParts (with_product t p).state entry base y
 MeansParts-narrowed z t p entry base y e are bytes related m =
     let meant : MeansProduct p entry y = (reduced_sound z.rules t.state.core t.state.relations (Some p) (sym e) are).gives entry y bytes m.core related in
@@ -83,7 +83,7 @@ MeansParts-narrowed z t p entry base y e are bytes related m =
     (MeansParts-with_core t.state p.core entry base y y m meant.core refl refl refl (λ set. sym cut.core.stack_set ∙ set))
 
 pub LeadsWidely-narrowed :
-    (z : Setting) (region : Region) (w : Target) (t : Successor) (p : Product) (entry : MState) (base : ℕ) (y : MState) → reduced z.rules t.state.core t.state.relations ≡ Some p → ArePairs t.state.relations.pairs
+    (z : Setting) (region : Region) (w : Target) (t : Successor) (p : Product) (entry : Activation) (base : ℕ) (y : MState) → reduced z.rules t.state.core t.state.relations ≡ Some p → ArePairs t.state.relations.pairs
     → AreBytes y.processor.registers → AreRelated t.state.relations y → LeadsWidely z region w t entry base y → LeadsWidely z region w (with_product t p) entry base y
 LeadsWidely-narrowed z region (target.At a) t p entry base y e are bytes related h =
     record { means = MeansParts-narrowed z t p entry base y e are bytes related h.means; goes = h.goes; room = h.room }
@@ -106,7 +106,7 @@ LeadsWidely-narrowed z region target.Lost t p entry base y e are bytes related h
 
 -- what is known together holds, where it is said where the machine is
 related_narrowed :
-    (z : Setting) (region : Region) (w : Target) (t : Successor) (p : Product) (entry : MState) (base : ℕ) (y : MState) → reduced z.rules t.state.core t.state.relations ≡ Some p → ArePairs t.state.relations.pairs
+    (z : Setting) (region : Region) (w : Target) (t : Successor) (p : Product) (entry : Activation) (base : ℕ) (y : MState) → reduced z.rules t.state.core t.state.relations ≡ Some p → ArePairs t.state.relations.pairs
     → AreBytes y.processor.registers → AreRelated t.state.relations y → LeadsWidely z region w t entry base y → is_followed Extended w ≡ true → AreRelated p.relations y
 related_narrowed z region w t p entry base y e are bytes related h followed = by w h followed
   where
@@ -124,7 +124,7 @@ related_narrowed z region w t p entry base y e are bytes related h followed = by
     by target.Lost k f = cc
 
 pub LeadsWidely-related :
-    (z : Setting) (region : Region) (w : Target) (r : Relations) (t : Successor) (entry : MState) (base : ℕ) (y : MState) → LeadsWidely z region w t entry base y → LeadsWidely z region w (related_successor r t) entry base y
+    (z : Setting) (region : Region) (w : Target) (r : Relations) (t : Successor) (entry : Activation) (base : ℕ) (y : MState) → LeadsWidely z region w t entry base y → LeadsWidely z region w (related_successor r t) entry base y
 LeadsWidely-related z region (target.At a) r t entry base y h = record { means = MeansParts-related r t.state entry base y h.means; goes = h.goes; room = h.room }
 LeadsWidely-related z region (target.Call a) r t entry base y h =
     record { means = MeansParts-related r t.state entry base y h.means; goes = h.goes; room = h.room; stack_set = h.stack_set; next = h.next; top = h.top; placed = h.placed }
@@ -133,14 +133,14 @@ LeadsWidely-related z region (target.Main a) r t entry base y h = record { means
 LeadsWidely-related z region target.Unknown r t entry base y h = tt
 LeadsWidely-related z region target.Lost r t entry base y h = tt
 
-to_widely : (z : Setting) (region : Region) (w : Target) (t : Successor) (entry : MState) (base : ℕ) (x y : MState) → z.rules ≡ Extended → LeadsWidely z region w t entry base y → LeadsTo z.rules z region w t entry base x y
+to_widely : (z : Setting) (region : Region) (w : Target) (t : Successor) (entry : Activation) (base : ℕ) (x y : MState) → z.rules ≡ Extended → LeadsWidely z region w t entry base y → LeadsTo z.rules z region w t entry base x y
 to_widely z region w t entry base x y e h = subst (λ r. LeadsTo r z region w t entry base x y) (sym e) h
 
-from_widely : (z : Setting) (region : Region) (w : Target) (t : Successor) (entry : MState) (base : ℕ) (x y : MState) → z.rules ≡ Extended → LeadsTo z.rules z region w t entry base x y → LeadsWidely z region w t entry base y
+from_widely : (z : Setting) (region : Region) (w : Target) (t : Successor) (entry : Activation) (base : ℕ) (x y : MState) → z.rules ≡ Extended → LeadsTo z.rules z region w t entry base x y → LeadsWidely z region w t entry base y
 from_widely z region w t entry base x y e h = subst (λ r. LeadsTo r z region w t entry base x y) e h
 
 pub Leads-narrowed :
-    (z : Setting) (region : Region) (ranges : List Range) (t : Successor) (p : Product) (entry : MState) (base : ℕ) (x y : MState) → z.rules ≡ Extended → reduced z.rules t.state.core t.state.relations ≡ Some p
+    (z : Setting) (region : Region) (ranges : List Range) (t : Successor) (p : Product) (entry : Activation) (base : ℕ) (x y : MState) → z.rules ≡ Extended → reduced z.rules t.state.core t.state.relations ≡ Some p
     → ArePairs t.state.relations.pairs → AreBytes y.processor.registers → AreRelated t.state.relations y
     → LeadsWidely z region t.target t entry base y → ((b : ℕ) → IsKept z region ranges base b → peek y.storage b ≡ peek x.storage b)
     → Leads z region ranges (with_product t p) entry base x y
@@ -154,14 +154,14 @@ Leads-narrowed z region ranges t p entry base x y extended e are bytes related t
 -- ---- what is known before
 
 -- the states before, reduced
-pub record Before (k : Stack) (s : AbsState) (entry x : MState) : Type 0 where
+pub record Before (k : Stack) (s : AbsState) (entry : Activation) (x : MState) : Type 0 where
   pub product : Product
   pub is : product_before k.setting.rules s ≡ Some product
   pub means : MeansProduct product entry x
   pub cut : IsReduced (core_settle s.core) s.relations product
 
 pub before_of :
-    (k : Stack) (s : AbsState) (entry x : MState) → IsCore s.core → ArePairs s.relations.pairs → MeansCore (core_settle s.core) entry x → AreRelated s.relations x → Before k s entry x
+    (k : Stack) (s : AbsState) (entry : Activation) (x : MState) → IsCore s.core → ArePairs s.relations.pairs → MeansCore (core_settle s.core) entry x → AreRelated s.relations x → Before k s entry x
 unfolding product_before
 before_of k s entry x core are m related =
     by (reduced k.setting.rules (core_settle s.core) s.relations) refl
@@ -216,7 +216,7 @@ no_such h = cc
 -- of an instruction with a condition the move hangs on nothing that is known
 same_conditional :
     (k : Stack) (o : Op) (next : ℕ) (sp sp_side : Halves) (c d : Core) (low high v w : Val) (b e : Option Bounds) → is_some (Flags.condition_of o) ≡ true
-    → stack_move k o (cut_write b (transfer o next sp c low high).write) b ≡ stack_move k o (cut_write e (transfer o next sp_side d v w).write) e
+    → stack_move k o (cut_write b (transfer k.setting.is_whole o next sp c low high).write) b ≡ stack_move k o (cut_write e (transfer k.setting.is_whole o next sp_side d v w).write) e
 unfolding stack_move transfer
 same_conditional k (op.JumpRelativeIf condition e8) next sp sp_side c d low high v w b e h = refl
 same_conditional k (op.JumpIf condition a) next sp sp_side c d low high v w b e h = refl
@@ -227,7 +227,7 @@ same_conditional k o next sp sp_side c d low high v w b e h = absurd (no_such h)
 taken_move_is :
     (k : Stack) (rom : List ℕ) (row : Row) (next : ℕ) (s : AbsState) (p : Product)
     → taken_move k rom row next s p
-    ≡ stack_move k row.op (cut_write (pointer_in k row.op p) (transfer row.op next (sp_halves k.setting s) p.core (word_in k rom row.op s p).low (word_in k rom row.op s p).high).write) (pointer_in k row.op p)
+    ≡ stack_move k row.op (cut_write (pointer_in k row.op p) (transfer k.setting.is_whole row.op next (sp_halves k.setting s) p.core (word_in k rom row.op s p).low (word_in k rom row.op s p).high).write) (pointer_in k row.op p)
 unfolding taken_move effect_in refined
 taken_move_is k rom row next s p = refl
 
@@ -363,7 +363,7 @@ Leads-at c p k e d =
     (LeadsWidely-related c.stack.setting c.stack.region (parts_at c).target r (parts_at c) c.entry c.base (left_at c) d.to) d.leaves.kept
 
 taken_executes :
-    (k : Stack) (rom : List ℕ) (row : Row) (a : ℕ) (s : AbsState) (ranges : List Range) (entry : MState) (base : ℕ) (x : MState) (reads : List ℕ) (p : Product) (b : Branch)
+    (k : Stack) (rom : List ℕ) (row : Row) (a : ℕ) (s : AbsState) (ranges : List Range) (entry : Activation) (base : ℕ) (x : MState) (reads : List ℕ) (p : Product) (b : Branch)
     → k.setting.rules ≡ Extended → Stands k.setting rom k.region row a s entry base x → IsRuled k rom row a s base → x.processor.halt_mark ≡ false → slice_index reads 0 ≤ 255
     → product_before k.setting.rules s ≡ Some p → IsReduced (core_settle s.core) s.relations p → taken_side row.op s.cells p.core p.relations ≡ Some b → MeansBranch b entry (begun row x)
     → (effect rom row x reads).is_taken ≡ true
@@ -442,7 +442,7 @@ followed_at Extended a = refl
 
 -- it isn't taken
 untaken_leads :
-    (k : Stack) (rom : List ℕ) (row : Row) (a : ℕ) (s : AbsState) (ranges : List Range) (entry : MState) (base : ℕ) (x : MState) (reads : List ℕ) (p : Product) (b : Branch)
+    (k : Stack) (rom : List ℕ) (row : Row) (a : ℕ) (s : AbsState) (ranges : List Range) (entry : Activation) (base : ℕ) (x : MState) (reads : List ℕ) (p : Product) (b : Branch)
     → k.setting.rules ≡ Extended → Stands k.setting rom k.region row a s entry base x → IsRuled k rom row a s base → x.processor.halt_mark ≡ false
     → product_before k.setting.rules s ≡ Some p → IsReduced (core_settle s.core) s.relations p → not_taken_side row.op s.cells p.core p.relations ≡ Some b → MeansBranch b entry (begun row x)
     → (effect rom row x reads).is_taken ≡ false
@@ -474,7 +474,7 @@ untaken_leads k rom row a s ranges entry base x reads p b extended stands ruled 
     }
 
 pub executes_widely :
-    (k : Stack) (rom : List ℕ) (row : Row) (a : ℕ) (s : AbsState) (ranges : List Range) (entry : MState) (base : ℕ) (x : MState) (reads : List ℕ)
+    (k : Stack) (rom : List ℕ) (row : Row) (a : ℕ) (s : AbsState) (ranges : List Range) (entry : Activation) (base : ℕ) (x : MState) (reads : List ℕ)
     → k.setting.rules ≡ Extended → Stands k.setting rom k.region row a s entry base x → IsRuled k rom row a s base → x.processor.halt_mark ≡ false → slice_index reads 0 ≤ 255
     → Executes k rom ranges row a s (successors_of k rom row a s) entry base x reads
 executes_widely k rom row a s ranges entry base x reads extended stands ruled mark byte =

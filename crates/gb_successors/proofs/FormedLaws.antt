@@ -26,7 +26,7 @@ use Rattle.gb_domain.specs.Settings.{IsBase}
 use Rattle.gb_domain.specs.Types.{AbsState}
 use Rattle.gb_product.specs.Below.gb_abs.declared.span.Span.{Span}
 use Rattle.gb_product.specs.Below.gb_abs.Located.{sp_halves, sp_bounds, bounds_by, stack_base}
-use Rattle.gb_product.specs.Below.gb_abs.Meaning.{MeansParts}
+use Rattle.gb_product.specs.Below.gb_abs.Meaning.{Activation, MeansParts}
 use Rattle.gb_product.specs.Below.gb_abs.Operations.{core_settle}
 use Rattle.gb_product.specs.Below.gb_abs.Origins.{registers_without_origins, core_without_origins}
 use Rattle.gb_product.proofs.Below.gb_abs_laws.LocatedLaws.{bounds_sound}
@@ -40,7 +40,7 @@ use Rattle.gb_product.proofs.Below.gb_abs_effects_laws.RangeLaws.{transfer_inhab
 use Rattle.gb_abs_memory.specs.declared.store.Area.{Area}
 use Rattle.gb_abs_memory.specs.declared.store.Area.TheVariants as area
 use Rattle.gb_abs_memory.specs.Access.{area_of, stored_core_in, stored_core}
-use Rattle.gb_abs_memory.proofs.WindowLaws.{ctl_after-valid}
+use Rattle.gb_abs_memory.proofs.WindowLaws.{ctl_written-valid}
 use Rattle.gb_product.specs.declared.parts.Branch.{Branch}
 use Rattle.gb_product.specs.declared.parts.Product.{Product}
 use Rattle.gb_product.specs.Below.gb_relations.Sound.{IsByteFree}
@@ -124,26 +124,26 @@ IsCore-moved (move.Set n) c h = IsCore-set c h
 IsCore-moved (move.Restart n) c h = IsCore-set (core_without_origins c) (IsCore-bare c h)
 IsCore-moved m c h = h
 
-IsCore-stored_in : (o : Option Area) (k : Kind) (span : Span) (v : Val) (c : Core) → IsVal v → IsCore c → IsCore (stored_core_in o k span v c)
-IsCore-stored_in (Some (area.Controller (Some r))) k span v c is h =
-    record { ime = h.ime; bound = h.bound; ctl = ctl_after-valid k r v c.ctl is h.ctl; flags = h.flags; ie = h.ie; registers = h.registers }
-IsCore-stored_in (Some area.InterruptEnable) k span v c is h = record { ime = h.ime; bound = h.bound; ctl = h.ctl; flags = h.flags; ie = is; registers = h.registers }
-IsCore-stored_in o k span v c is h = h
+IsCore-stored_in : (whole : Bool) (o : Option Area) (k : Kind) (span : Span) (v : Val) (c : Core) → IsVal v → IsCore c → IsCore (stored_core_in whole o k span v c)
+IsCore-stored_in whole (Some (area.Controller (Some r))) k span v c is h =
+    record { ime = h.ime; bound = h.bound; ctl = ctl_written-valid whole k r v c.ctl is h.ctl; flags = h.flags; ie = h.ie; registers = h.registers }
+IsCore-stored_in whole (Some area.InterruptEnable) k span v c is h = record { ime = h.ime; bound = h.bound; ctl = h.ctl; flags = h.flags; ie = is; registers = h.registers }
+IsCore-stored_in whole o k span v c is h = h
 
-IsCore-stored : (k : Kind) (span : Span) (v : Val) (c : Core) → IsVal v → IsCore c → IsCore (stored_core k span v c)
+IsCore-stored : (whole : Bool) (k : Kind) (span : Span) (v : Val) (c : Core) → IsVal v → IsCore c → IsCore (stored_core whole k span v c)
 unfolding stored_core
-IsCore-stored k span v c is h = IsCore-stored_in (area_of k span) k span v c is h
+IsCore-stored whole k span v c is h = IsCore-stored_in whole (area_of k span) k span v c is h
 
-IsCore-written : (k : Kind) (w : AbsWrite) (c : Core) → IsWrite w → IsCore c → IsCore (written_core k w c)
+IsCore-written : (whole : Bool) (k : Kind) (w : AbsWrite) (c : Core) → IsWrite w → IsCore c → IsCore (written_core whole k w c)
 unfolding written_core
-IsCore-written k write.Nothing c is h = h
-IsCore-written k (write.Byte span v) c is h = IsCore-stored k span v c is h
-IsCore-written k (write.Word a low high) c is h = IsCore-stored k _ high _ is.1 (IsCore-stored k _ low c is.0 h)
-IsCore-written k (write.Push high low) c is h = h
+IsCore-written whole k write.Nothing c is h = h
+IsCore-written whole k (write.Byte span v) c is h = IsCore-stored whole k span v c is h
+IsCore-written whole k (write.Word a low high) c is h = IsCore-stored whole k _ high _ is.1 (IsCore-stored whole k _ low c is.0 h)
+IsCore-written whole k (write.Push high low) c is h = h
 
-IsCore-behind : (k : Kind) (m : StackMove) (n : ℕ) (w : AbsWrite) (c : Core) → IsWrite w → IsCore c → IsCore (core_behind k m n w c)
+IsCore-behind : (whole : Bool) (k : Kind) (m : StackMove) (n : ℕ) (w : AbsWrite) (c : Core) → IsWrite w → IsCore c → IsCore (core_behind whole k m n w c)
 unfolding core_behind
-IsCore-behind k m n w c is h = IsCore-ended (starts w) n _ (IsCore-written k w (moved_core m c) is (IsCore-moved m c h))
+IsCore-behind whole k m n w c is h = IsCore-ended (starts w) n _ (IsCore-written whole k w (moved_core m c) is (IsCore-moved m c h))
 
 -- ---- reduced
 
@@ -181,7 +181,7 @@ branch_formed region s p b h cut is =
       pairs = is.relations.pairs (cut.relations.pairs h.pairs);
     }
 
-sp_below : (z : Setting) (s : AbsState) (entry : MState) (base : ℕ) (x : MState) → IsBase z base → MeansParts s entry base x → (sp_bounds z s).last < 65536
+sp_below : (z : Setting) (s : AbsState) (entry : Activation) (base : ℕ) (x : MState) → IsBase z base → MeansParts s entry base x → (sp_bounds z s).last < 65536
 unfolding sp_bounds
 sp_below z s entry base x right m =
     let known = bounds_sound z s (sp_bounds z s) refl in
@@ -204,23 +204,23 @@ next_small : (n : ℕ) → n % 65536 < 65536
 next_small n = omega arith
 
 effect_formed :
-    (k : Stack) (rom : List ℕ) (row : Row) (a : ℕ) (s : AbsState) (p : Product) (entry : MState) (base : ℕ) (x : MState) → Stands k.setting rom k.region row a s entry base x → HasBytes row.op → IsCore p.core
+    (k : Stack) (rom : List ℕ) (row : Row) (a : ℕ) (s : AbsState) (p : Product) (entry : Activation) (base : ℕ) (x : MState) → Stands k.setting rom k.region row a s entry base x → HasBytes row.op → IsCore p.core
     → IsFormedEffect (effect_in k rom row.op (behind_row a row) s p)
 unfolding effect_in
 effect_formed k rom row a s p entry base x stands operands core =
     let word = is_word k.setting rom s p.core _ core.ie stands.vals stands.items stands.cartridge.bytes in
-    let t = transfer row.op (behind_row a row) (sp_halves k.setting s) p.core (word_in k rom row.op s p).low (word_in k rom row.op s p).high in
+    let t = transfer k.setting.is_whole row.op (behind_row a row) (sp_halves k.setting s) p.core (word_in k rom row.op s p).low (word_in k rom row.op s p).high in
     let is : IsAbsEffect t =
-    transfer_inhabited row.op (behind_row a row) (sp_halves k.setting s) p.core (word_in k rom row.op s p).low (word_in k rom row.op s p).high t refl operands (next_small (a + row.length)) core word.low word.high
+    transfer_inhabited k.setting.is_whole row.op (behind_row a row) (sp_halves k.setting s) p.core (word_in k rom row.op s p).low (word_in k rom row.op s p).high t refl operands (next_small (a + row.length)) core word.low word.high
     (IsWord-sp k.setting s entry base x stands.based stands.means.parts) in
     record { core = subst IsCore (sym (refined_parts (pointer_in k row.op p) _ t).0) (IsCore-carry _ t.core is.core); write = subst IsWrite (sym (refined_parts (pointer_in k row.op p) _ t).1) (IsWrite-cut (pointer_in k row.op p) t.write is.write) }
 
 parts_core : (k : Stack) (rom : List ℕ) (row : Row) (next : ℕ) (s : AbsState) (p : Product) (cell : Option Cell) → IsFormedEffect (effect_in k rom row.op next s p) → IsCore (taken_parts k rom row next s p cell).state.core
 unfolding taken_parts
-parts_core k rom row next s p cell h = IsCore-behind (kind_of rom) _ row.cycles (effect_in k rom row.op next s p).write _ h.write h.core
+parts_core k rom row next s p cell h = IsCore-behind k.setting.is_whole (kind_of rom) _ row.cycles (effect_in k rom row.op next s p).write _ h.write h.core
 
 relations_formed :
-    (k : Stack) (rom : List ℕ) (row : Row) (a : ℕ) (s : AbsState) (p : Product) (entry : MState) (base : ℕ) (x : MState) → Stands k.setting rom k.region row a s entry base x → HasBytes row.op
+    (k : Stack) (rom : List ℕ) (row : Row) (a : ℕ) (s : AbsState) (p : Product) (entry : Activation) (base : ℕ) (x : MState) → Stands k.setting rom k.region row a s entry base x → HasBytes row.op
     → ArePairs p.relations.pairs → IsByteFree k.region p.relations.byte.address
     → IsByteFree k.region (relations_behind k rom row.op s p).byte.address × ArePairs (relations_behind k rom row.op s p).pairs
 unfolding relations_behind
@@ -231,7 +231,7 @@ relations_formed k rom row a s p entry base x stands operands are free = (
 )
 
 taken_formed :
-    (k : Stack) (rom : List ℕ) (row : Row) (a : ℕ) (s : AbsState) (b : Branch) (entry : MState) (base : ℕ) (x : MState) → Stands k.setting rom k.region row a s entry base x → HasBytes row.op
+    (k : Stack) (rom : List ℕ) (row : Row) (a : ℕ) (s : AbsState) (b : Branch) (entry : Activation) (base : ℕ) (x : MState) → Stands k.setting rom k.region row a s entry base x → HasBytes row.op
     → IsFormedBranch k.region b → IsFormed k.region (taken_successor k rom row (behind_row a row) s b).state
 unfolding taken_successor
 taken_formed k rom row a s b entry base x stands operands h =
@@ -256,11 +256,11 @@ staying_formed region a s h =
 
 -- ---- each successor
 
-stands_formed : (z : Setting) (rom : List ℕ) (region : Region) (row : Row) (a : ℕ) (s : AbsState) (entry : MState) (base : ℕ) (x : MState) → Stands z rom region row a s entry base x → IsFormed region s
+stands_formed : (z : Setting) (rom : List ℕ) (region : Region) (row : Row) (a : ℕ) (s : AbsState) (entry : Activation) (base : ℕ) (x : MState) → Stands z rom region row a s entry base x → IsFormed region s
 stands_formed z rom region row a s entry base x h = record { core = h.core; free = h.free; pairs = h.pairs }
 
 formed_taken :
-    (k : Stack) (rom : List ℕ) (row : Row) (a : ℕ) (s : AbsState) (t : Successor) (entry : MState) (base : ℕ) (x : MState) → Stands k.setting rom k.region row a s entry base x → HasBytes row.op
+    (k : Stack) (rom : List ℕ) (row : Row) (a : ℕ) (s : AbsState) (t : Successor) (entry : Activation) (base : ℕ) (x : MState) → Stands k.setting rom k.region row a s entry base x → HasBytes row.op
     → (successors_of k rom row a s).taken ≡ Some t → IsFormed k.region t.state
 unfolding successors_of product_before
 formed_taken k rom row a s t entry base x stands operands h =
@@ -306,7 +306,7 @@ formed_staying k rom row a s t formed h = from (product_before k.setting.rules s
 
 -- the states of each successor are such as states may be
 pub IsFormed-successor :
-    (k : Stack) (rom : List ℕ) (row : Row) (a : ℕ) (s : AbsState) (t : Successor) (entry : MState) (base : ℕ) (x : MState) → Stands k.setting rom k.region row a s entry base x → HasBytes row.op
+    (k : Stack) (rom : List ℕ) (row : Row) (a : ℕ) (s : AbsState) (t : Successor) (entry : Activation) (base : ℕ) (x : MState) → Stands k.setting rom k.region row a s entry base x → HasBytes row.op
     → IsOneOf (successors_of k rom row a s) t → IsFormed k.region t.state
 IsFormed-successor k rom row a s t entry base x stands operands (inl e) = formed_taken k rom row a s t entry base x stands operands e
 IsFormed-successor k rom row a s t entry base x stands operands (inr (inl e)) = formed_untaken k rom row a s t (stands_formed k.setting rom k.region row a s entry base x stands) e

@@ -20,7 +20,7 @@ use Rattle.gb_domain.specs.declared.types.Origin.TheVariants.{ReturnHigh, Return
 use Rattle.gb_domain.specs.declared.types.Val.{Val}
 use Rattle.gb_domain.specs.declared.types.Core.{Core}
 use Rattle.gb_domain.specs.declared.types.Halves.{Halves}
-use Rattle.gb_product.specs.Below.gb_abs.Meaning.{origin_value, Holds, MeansCore}
+use Rattle.gb_product.specs.Below.gb_abs.Meaning.{Activation, origin_value, Holds, MeansCore}
 use Rattle.gb_product.specs.Below.gb_abs.Origins.{is_own}
 use Rattle.gb_product.proofs.Below.gb_abs_laws.CoveringLaws.{origin_from}
 use Rattle.gb_product.specs.Below.gb_abs_effects.declared.reads.AbsRead.TheVariants as read
@@ -46,7 +46,7 @@ no_such h = cc
 -- ---- words
 
 -- the machine's PC is where it is said
-abbrev pub GoesTo : Bool → Target → MState → ℕ → Type 0
+abbrev pub GoesTo : Bool → Target → Activation → ℕ → Type 0
 GoesTo is_main (target.At a) entry pc = pc ≡ a
 GoesTo is_main (target.Call a) entry pc = pc ≡ a
 GoesTo is_main (target.Main a) entry pc = pc ≡ a
@@ -61,28 +61,28 @@ not_of : (b : Bool) → not b ≡ true → b ≡ false
 not_of false h = refl
 not_of true h = cc
 
-own_value : (o : Origin) (v : Val) (entry : MState) (n : ℕ) → is_own o v ≡ true → Holds v entry n → n ≡ origin_value o entry
+own_value : (o : Origin) (v : Val) (entry : Activation) (n : ℕ) → is_own o v ≡ true → Holds v entry n → n ≡ origin_value o entry
 own_value o v entry n is h = h.origin o (origin_from v.origin (Some o) o is refl)
 
-single_value : (v : Val) (entry : MState) (n : ℕ) → (v.lo == v.hi) ≡ true → Holds v entry n → n ≡ v.lo
+single_value : (v : Val) (entry : Activation) (n : ℕ) → (v.lo == v.hi) ≡ true → Holds v entry n → n ≡ v.lo
 single_value v entry n is h =
     let same = eqb-true v.lo v.hi is in
     let least = h.least in
     let most = h.most in
     omega arith
 
-returns_to : (is_main : Bool) (w : Halves) (entry : MState) (l h : ℕ) → Holds w.low entry l → Holds w.high entry h → (not is_main && is_return_word w) ≡ true → GoesTo is_main target.Return entry (word h l)
+returns_to : (is_main : Bool) (w : Halves) (entry : Activation) (l h : ℕ) → Holds w.low entry l → Holds w.high entry h → (not is_main && is_return_word w) ≡ true → GoesTo is_main target.Return entry (word h l)
 returns_to is_main w entry l h low high is =
     let parts = both_of (not is_main) (is_return_word w) is in
     let own = both_of (is_own ReturnHigh w.high) (is_own ReturnLow w.low) parts.1 in
     (ap (λ n. word n l) (own_value ReturnHigh w.high entry h own.0 high) ∙ ap (word (origin_value ReturnHigh entry)) (own_value ReturnLow w.low entry l own.1 low), not_of is_main parts.0)
 
-goes_known : (w : Halves) (entry : MState) (l h : ℕ) → Holds w.low entry l → Holds w.high entry h → is_word_known w ≡ true → word h l ≡ least_word w
+goes_known : (w : Halves) (entry : Activation) (l h : ℕ) → Holds w.low entry l → Holds w.high entry h → is_word_known w ≡ true → word h l ≡ least_word w
 goes_known w entry l h low high is =
     let parts = both_of _ _ is in
     ap (λ n. word n l) (single_value w.high entry h parts.0 high) ∙ ap (word w.high.lo) (single_value w.low entry l parts.1 low)
 
-goes_popped : (is_main : Bool) (w : Halves) (entry : MState) (l h : ℕ) → Holds w.low entry l → Holds w.high entry h → GoesTo is_main (popped_target is_main w) entry (word h l)
+goes_popped : (is_main : Bool) (w : Halves) (entry : Activation) (l h : ℕ) → Holds w.low entry l → Holds w.high entry h → GoesTo is_main (popped_target is_main w) entry (word h l)
 goes_popped is_main w entry l h low high = choose (not is_main && is_return_word w) refl (is_word_known w) refl
   where
     choose : (r : Bool) → (not is_main && is_return_word w) ≡ r → (s : Bool) → is_word_known w ≡ s
@@ -91,7 +91,7 @@ goes_popped is_main w entry l h low high = choose (not is_main && is_return_word
     choose false e true f = goes_known w entry l h low high f
     choose false e false f = tt
 
-goes_within : (is_main : Bool) (b : Option Bounds) (entry : MState) (a : ℕ) → WithinIf b a → GoesTo is_main (target_within b) entry a
+goes_within : (is_main : Bool) (b : Option Bounds) (entry : Activation) (a : ℕ) → WithinIf b a → GoesTo is_main (target_within b) entry a
 goes_within is_main None entry a w = tt
 goes_within is_main (Some b) entry a w = choose (nat_lt b.first b.last) refl
   where
@@ -103,7 +103,7 @@ goes_within is_main (Some b) entry a w = choose (nat_lt b.first b.last) refl
         grind (arith, nat_tests)
 
 goes_jumped :
-    (is_main : Bool) (w : Halves) (b : Option Bounds) (entry : MState) (l h : ℕ) → Holds w.low entry l → Holds w.high entry h → WithinIf b (word h l) → GoesTo is_main (jumped_target is_main w b) entry (word h l)
+    (is_main : Bool) (w : Halves) (b : Option Bounds) (entry : Activation) (l h : ℕ) → Holds w.low entry l → Holds w.high entry h → WithinIf b (word h l) → GoesTo is_main (jumped_target is_main w b) entry (word h l)
 goes_jumped is_main w b entry l h low high within = choose (not is_main && is_return_word w) refl
   where
     choose : (r : Bool) → (not is_main && is_return_word w) ≡ r → GoesTo is_main (cond r target.Return (target_within b)) entry (word h l)
@@ -113,7 +113,7 @@ goes_jumped is_main w b entry l h low high within = choose (not is_main && is_re
 -- ---- by the stack's move
 
 -- main may begin anew at the next address
-goes_either : (is_main : Bool) (m : StackMove) (next : ℕ) (entry : MState) (pc : ℕ) → pc ≡ next → GoesTo is_main (moved_target m next (target.At next)) entry pc
+goes_either : (is_main : Bool) (m : StackMove) (next : ℕ) (entry : Activation) (pc : ℕ) → pc ≡ next → GoesTo is_main (moved_target m next (target.At next)) entry pc
 goes_either is_main (move.Restart n) next entry pc h = h
 goes_either is_main move.Stay next entry pc h = h
 goes_either is_main (move.Push w) next entry pc h = h
@@ -128,13 +128,13 @@ call_moved write.Nothing next t = refl
 call_moved (write.Byte span v) next t = refl
 call_moved (write.Word a low high) next t = refl
 
-goes_called : (is_main : Bool) (r : Rules) (w : AbsWrite) (next a : ℕ) (entry : MState) (pc : ℕ) → pc ≡ a → GoesTo is_main (moved_target (extended r (push_of w)) next (target.Call a)) entry pc
+goes_called : (is_main : Bool) (r : Rules) (w : AbsWrite) (next a : ℕ) (entry : Activation) (pc : ℕ) → pc ≡ a → GoesTo is_main (moved_target (extended r (push_of w)) next (target.Call a)) entry pc
 goes_called is_main Simple w next a entry pc h = h
 goes_called is_main Extended w next a entry pc h = subst (λ t. GoesTo is_main t entry pc) (sym (call_moved w next (target.Call a))) h
 
 -- JP HL
 jumps :
-    (k : Stack) (v : AbsWrite) (b : Option Bounds) (next : ℕ) (w : Halves) (core : Core) (entry x : MState) (l h : ℕ) → MeansCore core entry x → WithinIf b (Effects.hl x.processor)
+    (k : Stack) (v : AbsWrite) (b : Option Bounds) (next : ℕ) (w : Halves) (core : Core) (entry : Activation) (x : MState) (l h : ℕ) → MeansCore core entry x → WithinIf b (Effects.hl x.processor)
     → GoesTo k.setting.is_main (jumped_target k.setting.is_main (pair_halves pair.Hl core) b) entry (Effects.effect_of op.JumpHl x.processor l h).processor.pc
 unfolding Effects.effect_of Effects.jump pair_value pair_halves
 jumps k v b next w core entry x l h m within =
@@ -142,7 +142,7 @@ jumps k v b next w core entry x l h m within =
 
 -- what the machine does, by what its reads gave
 pub goes_to :
-    (k : Stack) (o : Op) (v : AbsWrite) (b : Option Bounds) (next : ℕ) (w : Halves) (core : Core) (entry x : MState) (l h : ℕ)
+    (k : Stack) (o : Op) (v : AbsWrite) (b : Option Bounds) (next : ℕ) (w : Halves) (core : Core) (entry : Activation) (x : MState) (l h : ℕ)
     → Holds w.low entry l → Holds w.high entry h → MeansCore core entry x → x.processor.pc ≡ next → (Effects.effect_of o x.processor l h).is_taken ≡ true
     → (o ≡ op.JumpHl → WithinIf b (Effects.hl x.processor))
     → GoesTo k.setting.is_main (extended_target k.setting o next w core b (stack_move k o v b) (target_of o next core)) entry (Effects.effect_of o x.processor l h).processor.pc

@@ -25,7 +25,7 @@ use Rattle.gb_domain.specs.declared.types.Halves.{Halves}
 use Rattle.gb_domain.specs.declared.types.Range.{Range}
 use Rattle.gb_domain.specs.Types.{AbsState}
 use Rattle.gb_product.specs.Below.gb_abs.Located.{sp_halves}
-use Rattle.gb_product.specs.Below.gb_abs.Meaning.{MeansParts}
+use Rattle.gb_product.specs.Below.gb_abs.Meaning.{Activation, MeansParts}
 use Rattle.gb_product.specs.Below.gb_abs.Operations.{core_settle}
 use Rattle.gb_product.proofs.Below.gb_abs_laws.OperationLaws.{IsCore-settle}
 use Rattle.gb_product.specs.Below.gb_abs_effects.declared.reads.AbsRead.TheVariants as read
@@ -80,7 +80,7 @@ halt_reads o core e = ap (λ q. read_of q core) e
 
 halt_writes : (c : Situation) → c.row.op ≡ op.Halt → (transferred c).write ≡ write.Nothing
 unfolding transfer
-halt_writes c e = ap (λ q. (transfer q (next_at c) (sp_halves c.stack.setting c.state) c.product.core (word_at c).low (word_at c).high).write) e
+halt_writes c e = ap (λ q. (transfer c.stack.setting.is_whole q (next_at c) (sp_halves c.stack.setting c.state) c.product.core (word_at c).low (word_at c).high).write) e
 
 halt_target : (z : Setting) (o : Op) (next : ℕ) (w : Halves) (core : Core) (b : Option Bounds) (m : StackMove) → o ≡ op.Halt → m ≡ move.Stay → extended_target z o next w core b m (target_of o next core) ≡ target.At next
 unfolding target_of
@@ -126,7 +126,7 @@ halt_allowed c k e =
 abbrev marked : MState → MState
 marked y = record y { processor = record y.processor { halt_mark = true } }
 
-MeansParts-marked : (s : AbsState) (entry : MState) (base : ℕ) (y : MState) → MeansParts s entry base y → MeansParts s entry base (marked y)
+MeansParts-marked : (s : AbsState) (entry : Activation) (base : ℕ) (y : MState) → MeansParts s entry base y → MeansParts s entry base (marked y)
 MeansParts-marked s entry base y m =
     record {
       core = record {
@@ -179,7 +179,7 @@ as_many : {n m : ℕ} → n ≡ m → n ≤ m
 as_many e = omega arith
 
 pub halt_repeats_widely :
-    (k : Stack) (rom : List ℕ) (row : Row) (a : ℕ) (s : AbsState) (ranges : List Range) (entry : MState) (base : ℕ) (x : MState)
+    (k : Stack) (rom : List ℕ) (row : Row) (a : ℕ) (s : AbsState) (ranges : List Range) (entry : Activation) (base : ℕ) (x : MState)
     → k.setting.rules ≡ Extended → Stands k.setting rom k.region row a s entry base x → IsHalt row → x.processor.ime ≡ ime.Off → x.processor.halt_mark ≡ false
     → LeadsBy k.setting k.region ranges (length s.items) (successors_of k rom row a s).taken entry base x (outside (halt_bug (within rom x)))
 unfolding taken_successor with_cell_if

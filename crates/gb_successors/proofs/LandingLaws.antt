@@ -25,7 +25,7 @@ use Rattle.gb_domain.specs.declared.types.Halves.{Halves}
 use Rattle.gb_domain.specs.Limits.{item_room}
 use Rattle.gb_domain.specs.Types.{AbsState}
 use Rattle.gb_product.specs.Below.gb_abs.Storage.{is_ram, peek}
-use Rattle.gb_product.specs.Below.gb_abs.Meaning.{MeansCore, MeansParts}
+use Rattle.gb_product.specs.Below.gb_abs.Meaning.{Activation, MeansCore, MeansParts}
 use Rattle.gb_product.specs.Below.gb_abs.Operations.{with_core}
 use Rattle.gb_product.specs.Below.gb_abs.Stack.{AreInRegion, pushed, youngest}
 use Rattle.gb_product.proofs.Below.gb_abs_laws.StackLaws.{IsRegionOpen-bound, MeansParts-pushed, MeansParts-with_core}
@@ -161,7 +161,7 @@ loads_plainly c k plain ram limited =
 
 -- the states behind it, by its move, what it writes and its core
 abbrev pub state_by : Situation → StackMove → AbsWrite → Core → AbsState
-state_by c m w core = with_core (moved_state c.stack (kind_of c.rom) None m w c.state) (core_behind (kind_of c.rom) m c.row.cycles w core)
+state_by c m w core = with_core (moved_state c.stack (kind_of c.rom) None m w c.state) (core_behind c.stack.setting.is_whole (kind_of c.rom) m c.row.cycles w core)
 
 pub state_is : (c : Situation) → (parts_at c).state ≡ state_by c (move_at c) (effect_at c).write (effect_at c).core
 unfolding taken_parts taken_move
@@ -206,7 +206,7 @@ pub keeps_effect : (c : Situation) → IsTakenIn c → Keeps c.state.core (effec
 keeps_effect c k =
     subst (λ d. Keeps c.state.core d) (sym (core_is c))
     (Keeps-carry (carry_at c) c.state.core (transferred c).core
-    (Keeps-both c.state.core c.product.core _ k.keeps (Keeps-transfer c.row.op (next_at c) _ c.product.core (word_at c).low (word_at c).high)))
+    (Keeps-both c.state.core c.product.core _ k.keeps (Keeps-transfer c.stack.setting.is_whole c.row.op (next_at c) _ c.product.core (word_at c).low (word_at c).high)))
 
 pub is_write_at : (c : Situation) → IsTakenIn c → IsWrite (effect_at c).write
 is_write_at c k = subst IsWrite (sym (write_is c)) (IsWrite-cut (pointer_at c) (transferred c).write (transferred_is c k).write)
@@ -259,7 +259,7 @@ Leaves-quiet c k l quiet =
 
 -- a state that means the machine with its processor alone, behind the instruction
 pub ended_quietly :
-    (c : Situation) (t : AbsState) (entry : MState) (base : ℕ) → (acted_at c).write ≡ machine_write.Nothing → MeansParts t entry base (record c.machine { processor = (acted_at c).processor })
+    (c : Situation) (t : AbsState) (entry : Activation) (base : ℕ) → (acted_at c).write ≡ machine_write.Nothing → MeansParts t entry base (record c.machine { processor = (acted_at c).processor })
     → MeansParts (ended false c.row.cycles t) entry base (left_at c)
 ended_quietly c t entry base quiet m =
     let none : stored_at c ≡ view c.rom c.machine false = nothing_stored (view c.rom c.machine false) (acted_at c).write quiet in

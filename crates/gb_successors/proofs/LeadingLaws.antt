@@ -19,7 +19,7 @@ use Rattle.gb_domain.specs.declared.setting.Setting.{Setting}
 use Rattle.gb_domain.specs.declared.types.Core.{Core}
 use Rattle.gb_domain.specs.declared.types.Halves.{Halves}
 use Rattle.gb_domain.specs.Types.{AbsState}
-use Rattle.gb_product.specs.Below.gb_abs.Meaning.{Holds, MeansParts}
+use Rattle.gb_product.specs.Below.gb_abs.Meaning.{Activation, Holds, MeansParts}
 use Rattle.gb_product.specs.Below.gb_abs.Operations.{with_core}
 use Rattle.gb_product.specs.Below.gb_abs.Stack.{AreInRegion}
 use Rattle.gb_product.proofs.Below.gb_abs_laws.StackLaws.{IsRegionOpen-bound, Pops-popped}
@@ -214,13 +214,13 @@ Landed-moved c m e quiet silent moved =
 
 -- in main, where that begins anew
 pub record LandedAnew (c : Situation) : Type 0 where
-  pub means : (entry : MState) → MeansParts (parts_at c).state entry (c.stack.region.last + 1) (left_at c)
+  pub means : (entry : Activation) → MeansParts (parts_at c).state entry (c.stack.region.last + 1) (left_at c)
   pub room : AreInRegion c.stack.region (c.stack.region.last + 1) (length (parts_at c).state.items)
   pub bytes : length (parts_at c).state.items ≡ bytes_moved (move_at c) (length c.state.items)
 
 pub Landed-anew :
     (c : Situation) (n : ℕ) → move_at c ≡ move.Restart n → (effect_at c).write ≡ write.Nothing → (acted_at c).write ≡ machine_write.Nothing
-    → ((entry : MState) → IsMoved c.stack.region (move.Restart n) c.state (moved_at c (move.Restart n) (effect_at c).core) entry (c.stack.region.last + 1) (acting c)) → LandedAnew c
+    → ((entry : Activation) → IsMoved c.stack.region (move.Restart n) c.state (moved_at c (move.Restart n) (effect_at c).core) entry (c.stack.region.last + 1) (acting c)) → LandedAnew c
 Landed-anew c n e quiet silent moved =
     let m : StackMove = move.Restart n in
     let state = quiet_is c m e quiet in

@@ -22,7 +22,7 @@ use Rattle.gb_domain.specs.Types.{AbsState}
 use Rattle.gb_product.specs.Below.gb_vals.Vals.{single}
 use Rattle.gb_product.specs.Below.gb_abs.Cells.{ArePlaced}
 use Rattle.gb_product.specs.Below.gb_abs.Located.{sp_halves}
-use Rattle.gb_product.specs.Below.gb_abs.Meaning.{AreItems, Holds, MeansCore}
+use Rattle.gb_product.specs.Below.gb_abs.Meaning.{Activation, AreItems, Holds, MeansCore}
 use Rattle.gb_product.specs.Below.gb_abs.Operations.{core_end, with_core}
 use Rattle.gb_product.specs.Below.gb_abs.Stack.{pushed}
 use Rattle.gb_product.specs.Below.gb_abs.Storage.{peek}
@@ -68,7 +68,7 @@ plain_at : (c : Situation) → IsTakenIn c → moves_sp c.row.op ≡ false → I
 plain_at c k still =
     subst IsPlainWrite (sym (write_is c))
     (IsPlainWrite-cut (pointer_at c) (transferred c).write (pointer_below c.stack.setting.rules c.row.op c.product.core.registers c.product.relations.pairs k.pairs)
-    (IsPlainWrite-transfer c.row.op (next_at c) (sp_halves c.stack.setting c.state) c.product.core (word_at c).low (word_at c).high still k.operands k.core))
+    (IsPlainWrite-transfer c.stack.setting.is_whole c.row.op (next_at c) (sp_halves c.stack.setting c.state) c.product.core (word_at c).low (word_at c).high still k.operands k.core))
 
 -- ---- by what it does to the stack
 
@@ -217,18 +217,18 @@ lands c k allowed l = by_sp (moves_sp c.row.op) refl
 -- ---- a call
 
 -- the two newest items
-record AreNewest (i : Halves) (entry : MState) (sp : ℕ) (s : Storage) : Type 0 where
+record AreNewest (i : Halves) (entry : Activation) (sp : ℕ) (s : Storage) : Type 0 where
   high : Holds i.high entry (peek s (sp + 1))
   low : Holds i.low entry (peek s sp)
 
-newest : (items : List Val) (i : Halves) (entry : MState) (top sp : ℕ) (s : Storage) → AreItems (items ++ i.high ∷ i.low ∷ []) entry top s → sp + (length items + 2) ≡ top → AreNewest i entry sp s
+newest : (items : List Val) (i : Halves) (entry : Activation) (top sp : ℕ) (s : Storage) → AreItems (items ++ i.high ∷ i.low ∷ []) entry top s → sp + (length items + 2) ≡ top → AreNewest i entry sp s
 newest [] i entry top sp s h e =
     let one : top - 1 ≡ sp + 1 = omega arith in
     let two : top - 1 - 1 ≡ sp = omega arith in
     record { high = subst (λ n. Holds i.high entry (peek s n)) one h.0; low = subst (λ n. Holds i.low entry (peek s n)) two h.1.0 }
 newest (v ∷ items) i entry top sp s h e = newest items i entry (top - 1) sp s h.1 (omega arith)
 
-single_is : (n v : ℕ) (entry : MState) → Holds (single n) entry v → v ≡ n
+single_is : (n v : ℕ) (entry : Activation) → Holds (single n) entry v → v ≡ n
 single_is n v entry h =
     let least = h.least in
     let most = h.most in

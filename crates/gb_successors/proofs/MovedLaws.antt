@@ -39,7 +39,7 @@ ram_by z region span v s c (inr h) = rw h refl
 
 stored_by :
     (z : Setting) (region : Region) (a : Option Area) (k : Kind) (span : Span) (v : Val) (s : AbsState) (c : Core)
-    → IsApartFrom z s c → stored_in z region a k span v (with_core s c) ≡ with_core (stored_in z region a k span v s) (stored_core_in a k span v c)
+    → IsApartFrom z s c → stored_in z region a k span v (with_core s c) ≡ with_core (stored_in z region a k span v s) (stored_core_in z.is_whole a k span v c)
 stored_by z region (Some (area.Controller (Some r))) k span v s c h = refl
 stored_by z region (Some area.Ram) k span v s c h = ram_by z region span v s c h
 stored_by z region (Some area.InterruptEnable) k span v s c h = refl
@@ -47,17 +47,17 @@ stored_by z region _ k span v s c h = refl
 
 apart_stored :
     (z : Setting) (region : Region) (k : Kind) (span : Span) (v : Val) (s : AbsState) (c : Core)
-    → IsApartFrom z s c → stored_state z region k span v (with_core s c) ≡ with_core (stored_state z region k span v s) (stored_core k span v c)
+    → IsApartFrom z s c → stored_state z region k span v (with_core s c) ≡ with_core (stored_state z region k span v s) (stored_core z.is_whole k span v c)
 unfolding stored_state stored_core
 apart_stored z region k span v s c h = stored_by z region (area_of k span) k span v s c h
 
 -- a store leaves the stack as it is set
-still_apart : (z : Setting) (region : Region) (k : Kind) (span : Span) (v : Val) (s : AbsState) (c : Core) → IsApartFrom z s c → IsApartFrom z (stored_state z region k span v s) (stored_core k span v c)
+still_apart : (z : Setting) (region : Region) (k : Kind) (span : Span) (v : Val) (s : AbsState) (c : Core) → IsApartFrom z s c → IsApartFrom z (stored_state z region k span v s) (stored_core z.is_whole k span v c)
 unfolding stored_state stored_core ram_stored
 still_apart z region k span v s c (inl h) = inl h
 still_apart z region k span v s c (inr h) = inr (by (area_of k span))
   where
-    by : (a : Option Area) → (stored_core_in a k span v c).stack_set ≡ (stored_in z region a k span v s).core.stack_set
+    by : (a : Option Area) → (stored_core_in z.is_whole a k span v c).stack_set ≡ (stored_in z region a k span v s).core.stack_set
     by (Some (area.Controller (Some r))) = h
     by (Some area.Ram) = h
     by (Some area.InterruptEnable) = h
@@ -66,12 +66,12 @@ still_apart z region k span v s c (inr h) = inr (by (area_of k span))
 
 pub written_by :
     (z : Setting) (region : Region) (k : Kind) (w : AbsWrite) (s : AbsState) (c : Core)
-    → IsApartFrom z s c → written z region k w (with_core s c) ≡ with_core (written z region k w s) (written_core k w c)
+    → IsApartFrom z s c → written z region k w (with_core s c) ≡ with_core (written z region k w s) (written_core z.is_whole k w c)
 unfolding written written_core
 written_by z region k (write.Byte span v) s c h = apart_stored z region k span v s c h
 written_by z region k (write.Word a low high) s c h =
     ap (λ (t : AbsState). stored_state z region k (one (behind a)) high t) (apart_stored z region k (one a) low s c h)
-    ∙ apart_stored z region k (one (behind a)) high (stored_state z region k (one a) low s) (stored_core k (one a) low c) (still_apart z region k (one a) low s c h)
+    ∙ apart_stored z region k (one (behind a)) high (stored_state z region k (one a) low s) (stored_core z.is_whole k (one a) low c) (still_apart z region k (one a) low s c h)
 written_by z region k _ s c h = refl
 
 -- ---- items and cells that stay

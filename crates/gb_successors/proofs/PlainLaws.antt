@@ -66,12 +66,12 @@ Keeps-pair pair.De w s c h = record { ctl = h.ctl; bound = h.bound; ie = h.ie; s
 Keeps-pair pair.Hl w s c h = record { ctl = h.ctl; bound = h.bound; ie = h.ie; stack = h.stack }
 Keeps-pair pair.Sp w s c h = h
 
-Keeps-indirect : (which : Indirect) (s : Core) → Keeps s (with_indirect which s)
+Keeps-indirect : (whole : Bool) (which : Indirect) (s : Core) → Keeps s (with_indirect whole which s)
 unfolding with_indirect
-Keeps-indirect indirect.Bc s = Keeps-itself s
-Keeps-indirect indirect.De s = Keeps-itself s
-Keeps-indirect indirect.HlIncrement s = Keeps-pair pair.Hl _ s s (Keeps-itself s)
-Keeps-indirect indirect.HlDecrement s = Keeps-pair pair.Hl _ s s (Keeps-itself s)
+Keeps-indirect whole indirect.Bc s = Keeps-itself s
+Keeps-indirect whole indirect.De s = Keeps-itself s
+Keeps-indirect whole indirect.HlIncrement s = Keeps-pair pair.Hl _ s s (Keeps-itself s)
+Keeps-indirect whole indirect.HlDecrement s = Keeps-pair pair.Hl _ s s (Keeps-itself s)
 
 Keeps-stack_pair : (which : StackPair) (w : Halves) (s : Core) → Keeps s (with_stack_pair which w s)
 unfolding with_stack_pair
@@ -85,38 +85,38 @@ unfolding store_operand
 Keeps-store (operand.Register r) v s c h = Keeps-set r v s c h
 Keeps-store operand.AtHl v s c h = h
 
-Keeps-alu : (how : AluOp) (from : Operand) (s : Core) (low : Val) → Keeps s (apply_alu how from s low).core
+Keeps-alu : (whole : Bool) (how : AluOp) (from : Operand) (s : Core) (low : Val) → Keeps s (apply_alu whole how from s low).core
 unfolding apply_alu update_a
-Keeps-alu how (operand.Register A) s low = record { ctl = refl; bound = refl; ie = refl; stack = refl }
-Keeps-alu how (operand.Register r) s low = record { ctl = refl; bound = refl; ie = refl; stack = refl }
-Keeps-alu how operand.AtHl s low = record { ctl = refl; bound = refl; ie = refl; stack = refl }
+Keeps-alu whole how (operand.Register A) s low = record { ctl = refl; bound = refl; ie = refl; stack = refl }
+Keeps-alu whole how (operand.Register r) s low = record { ctl = refl; bound = refl; ie = refl; stack = refl }
+Keeps-alu whole how operand.AtHl s low = record { ctl = refl; bound = refl; ie = refl; stack = refl }
 
-pub Keeps-transfer : (o : Op) (next : ℕ) (sp : Halves) (s : Core) (low high : Val) → Keeps s (transfer o next sp s low high).core
+pub Keeps-transfer : (whole : Bool) (o : Op) (next : ℕ) (sp : Halves) (s : Core) (low high : Val) → Keeps s (transfer whole o next sp s low high).core
 unfolding transfer update_operand update_a
-Keeps-transfer (op.LoadPair to w) next sp s low high = Keeps-pair to _ s s (Keeps-itself s)
-Keeps-transfer (op.StoreA to) next sp s low high = Keeps-indirect to s
-Keeps-transfer (op.LoadA from) next sp s low high = Keeps-set A low s _ (Keeps-indirect from s)
-Keeps-transfer (op.IncrementPair which) next sp s low high = Keeps-pair which _ s s (Keeps-itself s)
-Keeps-transfer (op.DecrementPair which) next sp s low high = Keeps-pair which _ s s (Keeps-itself s)
-Keeps-transfer (op.Increment which) next sp s low high = Keeps-store which _ s _ (record { ctl = refl; bound = refl; ie = refl; stack = refl })
-Keeps-transfer (op.Decrement which) next sp s low high = Keeps-store which _ s _ (record { ctl = refl; bound = refl; ie = refl; stack = refl })
-Keeps-transfer (op.LoadImmediate to v) next sp s low high = Keeps-store to _ s s (Keeps-itself s)
-Keeps-transfer (op.AddHl which) next sp s low high =
+Keeps-transfer whole (op.LoadPair to w) next sp s low high = Keeps-pair to _ s s (Keeps-itself s)
+Keeps-transfer whole (op.StoreA to) next sp s low high = Keeps-indirect whole to s
+Keeps-transfer whole (op.LoadA from) next sp s low high = Keeps-set A low s _ (Keeps-indirect whole from s)
+Keeps-transfer whole (op.IncrementPair which) next sp s low high = Keeps-pair which _ s s (Keeps-itself s)
+Keeps-transfer whole (op.DecrementPair which) next sp s low high = Keeps-pair which _ s s (Keeps-itself s)
+Keeps-transfer whole (op.Increment which) next sp s low high = Keeps-store which _ s _ (record { ctl = refl; bound = refl; ie = refl; stack = refl })
+Keeps-transfer whole (op.Decrement which) next sp s low high = Keeps-store which _ s _ (record { ctl = refl; bound = refl; ie = refl; stack = refl })
+Keeps-transfer whole (op.LoadImmediate to v) next sp s low high = Keeps-store to _ s s (Keeps-itself s)
+Keeps-transfer whole (op.AddHl which) next sp s low high =
     let h = Keeps-pair pair.Hl _ s s (Keeps-itself s) in
     record { ctl = h.ctl; bound = h.bound; ie = h.ie; stack = h.stack }
-Keeps-transfer (op.Load to from) next sp s low high = Keeps-store to _ s s (Keeps-itself s)
-Keeps-transfer (op.Alu how from) next sp s low high = Keeps-alu how from s low
-Keeps-transfer (op.Pop to) next sp s low high = Keeps-stack_pair to _ s
-Keeps-transfer (op.LoadHigh b) next sp s low high = Keeps-set A low s s (Keeps-itself s)
-Keeps-transfer op.LoadHighC next sp s low high = Keeps-set A low s s (Keeps-itself s)
-Keeps-transfer (op.LoadAbsolute w) next sp s low high = Keeps-set A low s s (Keeps-itself s)
-Keeps-transfer (op.LoadHlSp e8) next sp s low high =
+Keeps-transfer whole (op.Load to from) next sp s low high = Keeps-store to _ s s (Keeps-itself s)
+Keeps-transfer whole (op.Alu how from) next sp s low high = Keeps-alu whole how from s low
+Keeps-transfer whole (op.Pop to) next sp s low high = Keeps-stack_pair to _ s
+Keeps-transfer whole (op.LoadHigh b) next sp s low high = Keeps-set A low s s (Keeps-itself s)
+Keeps-transfer whole op.LoadHighC next sp s low high = Keeps-set A low s s (Keeps-itself s)
+Keeps-transfer whole (op.LoadAbsolute w) next sp s low high = Keeps-set A low s s (Keeps-itself s)
+Keeps-transfer whole (op.LoadHlSp e8) next sp s low high =
     let h = Keeps-pair pair.Hl _ s s (Keeps-itself s) in
     record { ctl = h.ctl; bound = h.bound; ie = h.ie; stack = h.stack }
-Keeps-transfer (op.Shift how which) next sp s low high = Keeps-store which _ s _ (record { ctl = refl; bound = refl; ie = refl; stack = refl })
-Keeps-transfer (op.Reset n which) next sp s low high = Keeps-store which _ s s (Keeps-itself s)
-Keeps-transfer (op.Set n which) next sp s low high = Keeps-store which _ s s (Keeps-itself s)
-Keeps-transfer o next sp s low high = record { ctl = refl; bound = refl; ie = refl; stack = refl }
+Keeps-transfer whole (op.Shift how which) next sp s low high = Keeps-store which _ s _ (record { ctl = refl; bound = refl; ie = refl; stack = refl })
+Keeps-transfer whole (op.Reset n which) next sp s low high = Keeps-store which _ s s (Keeps-itself s)
+Keeps-transfer whole (op.Set n which) next sp s low high = Keeps-store which _ s s (Keeps-itself s)
+Keeps-transfer whole o next sp s low high = record { ctl = refl; bound = refl; ie = refl; stack = refl }
 
 -- ---- addresses
 
@@ -184,32 +184,32 @@ unfolding store_operand
 IsPlainWrite-store (operand.Register r) v s c e h = tt
 IsPlainWrite-store operand.AtHl v s c e h = subst (λ (x : Span). x.last < 65536) (sym e) (small_hl s h)
 
-IsPlainWrite-alu : (how : AluOp) (from : Operand) (s : Core) (low : Val) → IsPlainWrite (apply_alu how from s low).write
+IsPlainWrite-alu : (whole : Bool) (how : AluOp) (from : Operand) (s : Core) (low : Val) → IsPlainWrite (apply_alu whole how from s low).write
 unfolding apply_alu update_a
-IsPlainWrite-alu how (operand.Register A) s low = tt
-IsPlainWrite-alu how (operand.Register r) s low = tt
-IsPlainWrite-alu how operand.AtHl s low = tt
+IsPlainWrite-alu whole how (operand.Register A) s low = tt
+IsPlainWrite-alu whole how (operand.Register r) s low = tt
+IsPlainWrite-alu whole how operand.AtHl s low = tt
 
-pub IsPlainWrite-transfer : (o : Op) (next : ℕ) (sp : Halves) (s : Core) (low high : Val) → moves_sp o ≡ false → HasBytes o → IsCore s → IsPlainWrite (transfer o next sp s low high).write
+pub IsPlainWrite-transfer : (whole : Bool) (o : Op) (next : ℕ) (sp : Halves) (s : Core) (low high : Val) → moves_sp o ≡ false → HasBytes o → IsCore s → IsPlainWrite (transfer whole o next sp s low high).write
 unfolding transfer update_operand update_a hl_span
-IsPlainWrite-transfer (op.StoreA to) next sp s low high e b c = small_indirect to s c
-IsPlainWrite-transfer (op.Increment which) next sp s low high e b c = IsPlainWrite-store which _ s _ refl c
-IsPlainWrite-transfer (op.Decrement which) next sp s low high e b c = IsPlainWrite-store which _ s _ refl c
-IsPlainWrite-transfer (op.LoadImmediate to v) next sp s low high e b c = IsPlainWrite-store to _ s s refl c
-IsPlainWrite-transfer (op.StoreSp w) next sp s low high e b c = b
-IsPlainWrite-transfer (op.Load to from) next sp s low high e b c = IsPlainWrite-store to _ s s refl c
-IsPlainWrite-transfer (op.Alu how from) next sp s low high e b c = IsPlainWrite-alu how from s low
-IsPlainWrite-transfer (op.Push from) next sp s low high e b c = cc
-IsPlainWrite-transfer (op.CallIf condition w) next sp s low high e b c = cc
-IsPlainWrite-transfer (op.Call w) next sp s low high e b c = cc
-IsPlainWrite-transfer (op.Restart w) next sp s low high e b c = cc
-IsPlainWrite-transfer (op.StoreHigh n) next sp s low high e b c = let small : n < 256 = b in omega arith
-IsPlainWrite-transfer op.StoreHighC next sp s low high e b c = small_high s c
-IsPlainWrite-transfer (op.StoreAbsolute w) next sp s low high e b c = b
-IsPlainWrite-transfer (op.Shift how which) next sp s low high e b c = IsPlainWrite-store which _ s _ refl c
-IsPlainWrite-transfer (op.Reset n which) next sp s low high e b c = IsPlainWrite-store which _ s s refl c
-IsPlainWrite-transfer (op.Set n which) next sp s low high e b c = IsPlainWrite-store which _ s s refl c
-IsPlainWrite-transfer o next sp s low high e b c = tt
+IsPlainWrite-transfer whole (op.StoreA to) next sp s low high e b c = small_indirect to s c
+IsPlainWrite-transfer whole (op.Increment which) next sp s low high e b c = IsPlainWrite-store which _ s _ refl c
+IsPlainWrite-transfer whole (op.Decrement which) next sp s low high e b c = IsPlainWrite-store which _ s _ refl c
+IsPlainWrite-transfer whole (op.LoadImmediate to v) next sp s low high e b c = IsPlainWrite-store to _ s s refl c
+IsPlainWrite-transfer whole (op.StoreSp w) next sp s low high e b c = b
+IsPlainWrite-transfer whole (op.Load to from) next sp s low high e b c = IsPlainWrite-store to _ s s refl c
+IsPlainWrite-transfer whole (op.Alu how from) next sp s low high e b c = IsPlainWrite-alu whole how from s low
+IsPlainWrite-transfer whole (op.Push from) next sp s low high e b c = cc
+IsPlainWrite-transfer whole (op.CallIf condition w) next sp s low high e b c = cc
+IsPlainWrite-transfer whole (op.Call w) next sp s low high e b c = cc
+IsPlainWrite-transfer whole (op.Restart w) next sp s low high e b c = cc
+IsPlainWrite-transfer whole (op.StoreHigh n) next sp s low high e b c = let small : n < 256 = b in omega arith
+IsPlainWrite-transfer whole op.StoreHighC next sp s low high e b c = small_high s c
+IsPlainWrite-transfer whole (op.StoreAbsolute w) next sp s low high e b c = b
+IsPlainWrite-transfer whole (op.Shift how which) next sp s low high e b c = IsPlainWrite-store which _ s _ refl c
+IsPlainWrite-transfer whole (op.Reset n which) next sp s low high e b c = IsPlainWrite-store which _ s s refl c
+IsPlainWrite-transfer whole (op.Set n which) next sp s low high e b c = IsPlainWrite-store which _ s s refl c
+IsPlainWrite-transfer whole o next sp s low high e b c = tt
 
 -- ---- targets
 

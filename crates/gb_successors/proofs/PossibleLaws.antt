@@ -36,7 +36,7 @@ use Rattle.gb_product.specs.Below.gb_vals.Vals.{any_val}
 use Rattle.gb_product.specs.Below.gb_abs.declared.span.Span.{Span}
 use Rattle.gb_product.specs.Below.gb_abs.Span.{is_one, may_meet}
 use Rattle.gb_product.specs.Below.gb_abs.Located.{item_at, stack_base}
-use Rattle.gb_product.specs.Below.gb_abs.Meaning.{Holds, MeansCore, MeansParts}
+use Rattle.gb_product.specs.Below.gb_abs.Meaning.{Activation, Holds, MeansCore, MeansParts}
 use Rattle.gb_product.specs.Below.gb_abs.Operations.{core_end, with_core}
 use Rattle.gb_product.specs.Below.gb_abs.Origins.{registers_without_origins, core_without_origins}
 use Rattle.gb_product.specs.Below.gb_abs.Stack.{youngest}
@@ -100,7 +100,7 @@ taken_by o p l h i j taken = by (Flags.condition_of o) refl
     by None e = is_taken-without o p i j e
     by (Some k) e = is_taken-with o k p i j e ∙ (sym (is_taken-with o k p l h e) ∙ taken)
 
-holds_any : (entry : MState) (n : ℕ) → n ≤ 255 → Holds any_val entry n
+holds_any : (entry : Activation) (n : ℕ) → n ≤ 255 → Holds any_val entry n
 holds_any entry n h = record { least = omega arith; most = h; low = refl; origin = λ o e. cc }
 
 -- no OAM transfer runs
@@ -110,7 +110,7 @@ at_rest x = record x { storage = record x.storage { count = 0 } }
 abbrev core_at_rest : Core → Core
 core_at_rest core = record core { bound = 0 }
 
-MeansCore-rest : (core : Core) (entry x : MState) → MeansCore core entry x → MeansCore (core_at_rest core) entry (at_rest x)
+MeansCore-rest : (core : Core) (entry : Activation) (x : MState) → MeansCore core entry x → MeansCore (core_at_rest core) entry (at_rest x)
 MeansCore-rest core entry x m =
     record {
       registers = m.registers;
@@ -337,21 +337,21 @@ Writes-after region (machine_write.Word a w) memory = λ b ne more. refl
 Writes-after region (machine_write.Push sp w) memory = λ b out. refl
 
 -- the core behind the instruction has the registers of its effect, without origins at most
-In-stored : (a : Option Area) (k : Kind) (span : Span) (v : Val) (core : Core) → (stored_core_in a k span v core).registers ≡ core.registers
-In-stored (Some (area.Controller (Some r))) k span v core = refl
-In-stored (Some area.InterruptEnable) k span v core = refl
-In-stored _ k span v core = refl
+In-stored : (whole : Bool) (a : Option Area) (k : Kind) (span : Span) (v : Val) (core : Core) → (stored_core_in whole a k span v core).registers ≡ core.registers
+In-stored whole (Some (area.Controller (Some r))) k span v core = refl
+In-stored whole (Some area.InterruptEnable) k span v core = refl
+In-stored whole _ k span v core = refl
 
-stored_registers : (k : Kind) (span : Span) (v : Val) (core : Core) → (stored_core k span v core).registers ≡ core.registers
+stored_registers : (whole : Bool) (k : Kind) (span : Span) (v : Val) (core : Core) → (stored_core whole k span v core).registers ≡ core.registers
 unfolding stored_core
-stored_registers k span v core = In-stored (area_of k span) k span v core
+stored_registers whole k span v core = In-stored whole (area_of k span) k span v core
 
-written_registers : (k : Kind) (w : AbsWrite) (core : Core) → (written_core k w core).registers ≡ core.registers
+written_registers : (whole : Bool) (k : Kind) (w : AbsWrite) (core : Core) → (written_core whole k w core).registers ≡ core.registers
 unfolding written_core
-written_registers k (write.Byte span v) core = stored_registers k span v core
-written_registers k (write.Word a low high) core = stored_registers k _ high _ ∙ stored_registers k _ low core
-written_registers k write.Nothing core = refl
-written_registers k (write.Push high low) core = refl
+written_registers whole k (write.Byte span v) core = stored_registers whole k span v core
+written_registers whole k (write.Word a low high) core = stored_registers whole k _ high _ ∙ stored_registers whole k _ low core
+written_registers whole k write.Nothing core = refl
+written_registers whole k (write.Push high low) core = refl
 
 ended_registers : (b : Bool) (n : ℕ) (core : Core) → (core_end b n core).registers ≡ core.registers
 unfolding core_end
@@ -377,10 +377,10 @@ moved_registers (move.Take k) r core n h = h
 moved_registers (move.Append k) r core n h = h
 moved_registers move.Lost r core n h = h
 
-In-behind : (k : Kind) (m : StackMove) (cycles : ℕ) (w : AbsWrite) (core : Core) (r : Register) (n : ℕ) → In (get r core.registers) n → In (get r (core_behind k m cycles w core).registers) n
+In-behind : (whole : Bool) (k : Kind) (m : StackMove) (cycles : ℕ) (w : AbsWrite) (core : Core) (r : Register) (n : ℕ) → In (get r core.registers) n → In (get r (core_behind whole k m cycles w core).registers) n
 unfolding core_behind
-In-behind k m cycles w core r n h =
-    subst (λ (s : Registers Val). In (get r s) n) (sym (ended_registers (starts w) cycles _ ∙ written_registers k w (moved_core m core))) (moved_registers m r core n h)
+In-behind whole k m cycles w core r n h =
+    subst (λ (s : Registers Val). In (get r s) n) (sym (ended_registers (starts w) cycles _ ∙ written_registers whole k w (moved_core m core))) (moved_registers m r core n h)
 
 -- ---- reducing
 
@@ -421,7 +421,7 @@ possible c k =
     (record {
       registers = λ r.
           subst (λ (s : AbsState). In (get r s.core.registers) (get r e.processor.registers)) (sym (state_is c))
-          (In-behind (kind_of c.rom) (move_at c) c.row.cycles (effect_at c).write (effect_at c).core r (get r e.processor.registers)
+          (In-behind c.stack.setting.is_whole (kind_of c.rom) (move_at c) c.row.cycles (effect_at c).write (effect_at c).core r (get r e.processor.registers)
           (In-from (get r (effect_at c).core.registers) c.entry (get r e.processor.registers) (f.core.registers r)));
       pairs = behind_it.pairs;
     })

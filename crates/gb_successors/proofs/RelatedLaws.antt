@@ -25,7 +25,7 @@ use Rattle.gb_product.specs.Below.gb_abs.Operations.{core_end}
 use Rattle.gb_product.specs.Below.gb_abs.Span.{one}
 use Rattle.gb_product.specs.Below.gb_abs.Stack.{pushed, popped}
 use Rattle.gb_product.specs.Below.gb_abs.Storage.{peek}
-use Rattle.gb_product.specs.Below.gb_abs.Meaning.{MeansCore, MeansParts}
+use Rattle.gb_product.specs.Below.gb_abs.Meaning.{Activation, MeansCore, MeansParts}
 use Rattle.gb_product.specs.Below.gb_abs_effects.declared.targets.Target.{Target}
 use Rattle.gb_product.specs.Below.gb_abs_effects.declared.targets.Target.TheVariants as target
 use Rattle.gb_product.specs.Below.gb_abs_effects.declared.writes.AbsWrite.{AbsWrite}
@@ -56,7 +56,7 @@ use Rattle.gb_successors.proofs.SuccessorLaws.{begun, given, effect, left_by, is
 
 -- ---- other things known together
 
-pub MeansParts-related : (r : Relations) (s : AbsState) (entry : MState) (base : ℕ) (x : MState) → MeansParts s entry base x → MeansParts (with_relations r s) entry base x
+pub MeansParts-related : (r : Relations) (s : AbsState) (entry : Activation) (base : ℕ) (x : MState) → MeansParts s entry base x → MeansParts (with_relations r s) entry base x
 MeansParts-related r s entry base x m =
     record { core = m.core; memory = m.memory; sp = m.sp; stack = m.stack; items = m.items; cells = m.cells }
 
@@ -77,7 +77,7 @@ IsAllowed-parts z rom region ranges s base r t h =
     fit Simple target.Lost k = k
 
 pub LeadsSimply-related :
-    (region : Region) (w : Target) (r : Relations) (t : Successor) (entry : MState) (base : ℕ) (x y : MState)
+    (region : Region) (w : Target) (r : Relations) (t : Successor) (entry : Activation) (base : ℕ) (x y : MState)
     → LeadsSimply region w t entry base x y → LeadsSimply region w (related_successor r t) entry base x y
 unfolding pushed
 LeadsSimply-related region (target.At a) r t entry base x y h = record { means = MeansParts-related r t.state entry base y h.means; goes = h.goes; room = h.room }
@@ -89,7 +89,7 @@ LeadsSimply-related region target.Unknown r t entry base x y h = tt
 LeadsSimply-related region target.Lost r t entry base x y h = tt
 
 -- where it is said that it leads
-pub led_simply : (z : Setting) (region : Region) (w : Target) (t : Successor) (entry : MState) (base : ℕ) (x y : MState) → z.rules ≡ Simple → LeadsTo z.rules z region w t entry base x y → LeadsSimply region w t entry base x y
+pub led_simply : (z : Setting) (region : Region) (w : Target) (t : Successor) (entry : Activation) (base : ℕ) (x y : MState) → z.rules ≡ Simple → LeadsTo z.rules z region w t entry base x y → LeadsSimply region w t entry base x y
 led_simply z region w t entry base x y e h = subst (λ r. LeadsTo r z region w t entry base x y) e h
 
 followed_simply : (z : Setting) (w : Target) → z.rules ≡ Simple → is_followed z.rules w ≡ true → is_followed Simple w ≡ true
@@ -97,7 +97,7 @@ followed_simply z w e h = subst (λ r. is_followed r w ≡ true) e h
 
 -- ---- the core behind it
 
-core_led : (region : Region) (w : Target) (t : Successor) (entry : MState) (base : ℕ) (x y : MState) → is_followed Simple w ≡ true → LeadsSimply region w t entry base x y → MeansCore t.state.core entry y
+core_led : (region : Region) (w : Target) (t : Successor) (entry : Activation) (base : ℕ) (x y : MState) → is_followed Simple w ≡ true → LeadsSimply region w t entry base x y → MeansCore t.state.core entry y
 unfolding pushed
 core_led region (target.At a) t entry base x y known h = h.means.core
 core_led region (target.Call a) t entry base x y known h = h.means.core
@@ -138,7 +138,7 @@ IsCore-ended true n c h = record { ime = h.ime; bound = omega arith; ctl = h.ctl
 IsCore-ended false n c h = record { ime = h.ime; bound = let b = h.bound in omega arith; ctl = h.ctl; flags = h.flags; ie = h.ie; registers = h.registers }
 
 IsCore-taken :
-    (z : Setting) (rom : List ℕ) (region : Region) (ranges : List Range) (row : Row) (a : ℕ) (s : AbsState) (entry : MState) (base : ℕ) (x : MState) (reads : List ℕ) (c : Core)
+    (z : Setting) (rom : List ℕ) (region : Region) (ranges : List Range) (row : Row) (a : ℕ) (s : AbsState) (entry : Activation) (base : ℕ) (x : MState) (reads : List ℕ) (c : Core)
     → IsTaken z rom region ranges row a s entry base x reads c → IsCore (simple_parts z rom region row (behind_row a row) s c).state.core
 unfolding ended
 IsCore-taken z rom region ranges row a s entry base x reads c k =
@@ -151,7 +151,7 @@ IsCore-taken z rom region ranges row a s entry base x reads c k =
     core_of : IsTaken z rom region ranges row a s entry base x reads c → IsCore (abs_effect z rom row a s c).core
     core_of k =
         let word = is_word z rom s c _ k.core.ie k.stands.vals k.stands.items k.stands.cartridge.bytes in
-        (transfer_inhabited row.op (behind_row a row) (sp_halves z s) c (low_of z rom row s c) (high_of z rom row s c) (abs_effect z rom row a s c) refl k.operands (omega arith) k.core word.low word.high (IsWord-sp z s entry base x k.stands.based k.stands.means.parts)).core
+        (transfer_inhabited z.is_whole row.op (behind_row a row) (sp_halves z s) c (low_of z rom row s c) (high_of z rom row s c) (abs_effect z rom row a s c) refl k.operands (omega arith) k.core word.low word.high (IsWord-sp z s entry base x k.stands.based k.stands.means.parts)).core
 
 -- ---- taken
 
@@ -178,7 +178,7 @@ unfolding advanced
 related_begun row x r h = h
 
 pub related_taken :
-    (z : Setting) (rom : List ℕ) (region : Region) (ranges : List Range) (row : Row) (a : ℕ) (s : AbsState) (entry : MState) (base : ℕ) (x : MState) (reads : List ℕ) (c : Core) (w : Target)
+    (z : Setting) (rom : List ℕ) (region : Region) (ranges : List Range) (row : Row) (a : ℕ) (s : AbsState) (entry : Activation) (base : ℕ) (x : MState) (reads : List ℕ) (c : Core) (w : Target)
     → IsTaken z rom region ranges row a s entry base x reads c → is_followed Simple w ≡ true
     → LeadsSimply region w (simple_parts z rom region row (behind_row a row) s c) entry base x (outside (executed (within rom x) row reads))
     → (sp : Bounds) (low : Val) (r : Relations) → AreRelated r (begun row x)
@@ -196,7 +196,7 @@ related_taken z rom region ranges row a s entry base x reads c w k known led sp 
     (by_rules z.rules region row.op sp c.registers low r _ _ _ k.rules byte (subst (λ (v : MState). AreBytes v.processor.registers) is bytes))
 
 pub Leads-taken :
-    (z : Setting) (rom : List ℕ) (region : Region) (ranges : List Range) (row : Row) (a : ℕ) (s : AbsState) (entry : MState) (base : ℕ) (x : MState) (reads : List ℕ) (c : Core)
+    (z : Setting) (rom : List ℕ) (region : Region) (ranges : List Range) (row : Row) (a : ℕ) (s : AbsState) (entry : Activation) (base : ℕ) (x : MState) (reads : List ℕ) (c : Core)
     → IsTaken z rom region ranges row a s entry base x reads c
     → LeadsParts z region ranges (simple_parts z rom region row (behind_row a row) s c) entry base x (outside (executed (within rom x) row reads))
     → (sp : Bounds) (low : Val) (r : Relations) → AreRelated r (begun row x)

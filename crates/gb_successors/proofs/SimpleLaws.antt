@@ -62,7 +62,7 @@ high_of z rom row s c = (known_read z rom row s c).high
 
 -- the transfer function's effect, next being the address behind it
 abbrev pub effect_at : Setting → List ℕ → Row → ℕ → AbsState → Core → AbsEffect
-effect_at z rom row next s c = transfer row.op next (sp_halves z s) c (low_of z rom row s c) (high_of z rom row s c)
+effect_at z rom row next s c = transfer z.is_whole row.op next (sp_halves z s) c (low_of z rom row s c) (high_of z rom row s c)
 
 abbrev pub abs_effect : Setting → List ℕ → Row → ℕ → AbsState → Core → AbsEffect
 abs_effect z rom row a s c = effect_at z rom row (behind_row a row) s c
@@ -232,18 +232,18 @@ unfolding effect_in
 effect_simply k rom row next s p cell h told =
     let z = k.setting in
     let word = word_in k rom row.op s p in
-    ap (λ b. refined b (known_carry z.rules row.op (sp_bounds z s) p.core.registers p.relations.pairs) (transfer row.op next (sp_halves z s) p.core word.low word.high))
+    ap (λ b. refined b (known_carry z.rules row.op (sp_bounds z s) p.core.registers p.relations.pairs) (transfer z.is_whole row.op next (sp_halves z s) p.core word.low word.high))
     (pointer_none z.rules row.op p.core.registers p.relations.pairs h)
-    ∙ (ap (λ c. refined None c (transfer row.op next (sp_halves z s) p.core word.low word.high))
+    ∙ (ap (λ c. refined None c (transfer z.is_whole row.op next (sp_halves z s) p.core word.low word.high))
     (carry_none z.rules row.op (sp_bounds z s) p.core.registers p.relations.pairs h)
-    ∙ (refined_whole (transfer row.op next (sp_halves z s) p.core word.low word.high)
-    ∙ (ap (λ (w : Halves). transfer row.op next (sp_halves z s) p.core w.low w.high) (word_simply k rom row s p cell h told)
-    ∙ ap (λ sp. transfer row.op next sp p.core (low_of z rom row (with_cell_if z cell s) p.core) (high_of z rom row (with_cell_if z cell s) p.core)) (same_sp z cell s))))
+    ∙ (refined_whole (transfer z.is_whole row.op next (sp_halves z s) p.core word.low word.high)
+    ∙ (ap (λ (w : Halves). transfer z.is_whole row.op next (sp_halves z s) p.core w.low w.high) (word_simply k rom row s p cell h told)
+    ∙ ap (λ sp. transfer z.is_whole row.op next sp p.core (low_of z rom row (with_cell_if z cell s) p.core) (high_of z rom row (with_cell_if z cell s) p.core)) (same_sp z cell s))))
 
 -- the states behind it, by its effect
 state_simply :
     (k : Stack) (rom : List ℕ) (row : Row) (s : AbsState) (cell : Option Cell) (e : AbsEffect) → k.setting.rules ≡ Simple
-    → with_core (moved_state k (kind_of rom) cell (stack_move k row.op e.write None) e.write s) (core_behind (kind_of rom) (stack_move k row.op e.write None) row.cycles e.write e.core)
+    → with_core (moved_state k (kind_of rom) cell (stack_move k row.op e.write None) e.write s) (core_behind k.setting.is_whole (kind_of rom) (stack_move k row.op e.write None) row.cycles e.write e.core)
     ≡ ended (starts e.write) row.cycles (written k.setting k.region (kind_of rom) e.write (with_stack_of k.setting row.op e.write (with_core (with_cell_if k.setting cell s) e.core)))
 unfolding moved_state core_behind ended
 state_simply k rom row s cell e h =
@@ -276,7 +276,7 @@ taken_simply k rom row next s p cell h told =
     (target_whole z.rules z row.op next (word_in k rom row.op s p) p.core (pointer_in k row.op p) _ _ h)
     refl
     (ap (λ b. with_core (moved_state k kind cell (stack_move k row.op (effect_in k rom row.op next s p).write b) (effect_in k rom row.op next s p).write s)
-    (core_behind kind (stack_move k row.op (effect_in k rom row.op next s p).write b) row.cycles (effect_in k rom row.op next s p).write (effect_in k rom row.op next s p).core))
+    (core_behind k.setting.is_whole kind (stack_move k row.op (effect_in k rom row.op next s p).write b) row.cycles (effect_in k rom row.op next s p).write (effect_in k rom row.op next s p).core))
     (pointer_none z.rules row.op p.core.registers p.relations.pairs h)
-    ∙ (ap (λ (e : AbsEffect). with_core (moved_state k kind cell (stack_move k row.op e.write None) e.write s) (core_behind kind (stack_move k row.op e.write None) row.cycles e.write e.core)) effect
+    ∙ (ap (λ (e : AbsEffect). with_core (moved_state k kind cell (stack_move k row.op e.write None) e.write s) (core_behind k.setting.is_whole kind (stack_move k row.op e.write None) row.cycles e.write e.core)) effect
     ∙ state_simply k rom row s cell (effect_at z rom row next (with_cell_if z cell s) p.core) h))

@@ -25,7 +25,7 @@ use Rattle.gb_product.specs.Below.gb_vals.Flags.{known}
 use Rattle.gb_product.specs.Below.gb_vals.Meaning.{may_be}
 use Rattle.gb_product.specs.Below.gb_abs.Storage.{peek}
 use Rattle.gb_product.specs.Below.gb_abs.Located.{sp_halves, sp_bounds, bounds_by, stack_base}
-use Rattle.gb_product.specs.Below.gb_abs.Meaning.{Holds, MeansCore}
+use Rattle.gb_product.specs.Below.gb_abs.Meaning.{Activation, Holds, MeansCore}
 use Rattle.gb_product.proofs.Below.gb_abs_laws.LocatedLaws.{halves_sound, bounds_sound}
 use Rattle.gb_product.specs.Below.gb_abs_effects.declared.reads.AbsRead.{AbsRead}
 use Rattle.gb_product.specs.Below.gb_abs_effects.declared.reads.AbsRead.TheVariants as read
@@ -67,7 +67,7 @@ HoldsRead-cut (Some b) (read.Byte span) sp (machine_read.Word a) h w = h
 HoldsRead-cut b read.Nothing sp m h w = h
 HoldsRead-cut b read.Top sp m h w = h
 
-HoldsWrite-cut : (b : Option Bounds) (w : AbsWrite) (entry : MState) (sp : ℕ) (m : Write) → HoldsWrite w entry sp m → WritesWithin b m → HoldsWrite (cut_write b w) entry sp m
+HoldsWrite-cut : (b : Option Bounds) (w : AbsWrite) (entry : Activation) (sp : ℕ) (m : Write) → HoldsWrite w entry sp m → WritesWithin b m → HoldsWrite (cut_write b w) entry sp m
 HoldsWrite-cut None (write.Byte span v) entry sp m h n = h
 HoldsWrite-cut (Some b) (write.Byte span v) entry sp (machine_write.Byte a n) h w = (record { first = w.least; last = w.most }, h.1, h.2)
 HoldsWrite-cut (Some b) (write.Byte span v) entry sp machine_write.Nothing h w = absurd h
@@ -130,7 +130,7 @@ is_word_at c k =
 pub transferred_is : (c : Situation) → IsTakenIn c → IsAbsEffect (transferred c)
 transferred_is c k =
     let word = is_word_at c k in
-    transfer_inhabited c.row.op (next_at c) (sp_halves c.stack.setting c.state) c.product.core (word_at c).low (word_at c).high (transferred c) refl k.operands (next_small c) k.core word.low word.high
+    transfer_inhabited c.stack.setting.is_whole c.row.op (next_at c) (sp_halves c.stack.setting c.state) c.product.core (word_at c).low (word_at c).high (transferred c) refl k.operands (next_small c) k.core word.low word.high
     (IsWord-sp c.stack.setting c.state c.entry c.base c.machine k.stands.based k.stands.means.parts)
 
 -- ---- the effect, by pairs too
@@ -157,7 +157,7 @@ carry_known : (b : Bool) → may_be (known b) b ≡ true
 carry_known true = refl
 carry_known false = refl
 
-MeansCore-carry : (carry : Option Bool) (core : Core) (entry x : MState) → IsIfKnown carry x.processor.flags.carry → MeansCore core entry x → MeansCore (with_carry carry core) entry x
+MeansCore-carry : (carry : Option Bool) (core : Core) (entry : Activation) (x : MState) → IsIfKnown carry x.processor.flags.carry → MeansCore core entry x → MeansCore (with_carry carry core) entry x
 MeansCore-carry None core entry x h m = m
 MeansCore-carry (Some b) core entry x h m =
     record {
@@ -211,7 +211,7 @@ begins c l h k g =
 
 sound_at : (c : Situation) → IsTakenIn c → effects.IsSoundTransfer c.row.op (next_at c) (sp_halves c.stack.setting c.state) c.product.core (word_at c).low (word_at c).high (transferred c)
 sound_at c k =
-    transfer_sound c.row.op (next_at c) (sp_halves c.stack.setting c.state) c.product.core (word_at c).low (word_at c).high (transferred c) refl k.operands k.core (is_word_at c k).low
+    transfer_sound c.stack.setting.is_whole c.row.op (next_at c) (sp_halves c.stack.setting c.state) c.product.core (word_at c).low (word_at c).high (transferred c) refl k.operands k.core (is_word_at c k).low
 
 carry_given : (c : Situation) (l h : ℕ) → IsTakenIn c → IsIfKnown (carry_at c) (effect_by c l h).processor.flags.carry
 carry_given c l h k =

@@ -15,7 +15,7 @@ use Rattle.gb_domain.specs.Types.{AbsState}
 use Rattle.gb_domain.specs.Pairs.{ArePairs}
 use Rattle.gb_domain.specs.Rules.{IsCore}
 use Rattle.gb_product.specs.Below.gb_abs.Located.{sp_halves, sp_bounds}
-use Rattle.gb_product.specs.Below.gb_abs.Meaning.{MeansCore, MeansParts}
+use Rattle.gb_product.specs.Below.gb_abs.Meaning.{Activation, MeansCore, MeansParts}
 use Rattle.gb_product.specs.Below.gb_abs.Operations.{with_core}
 use Rattle.gb_product.proofs.Below.gb_abs_laws.StackLaws.{MeansParts-with_core}
 use Rattle.gb_product.specs.Below.gb_abs_effects.declared.reads.AbsRead.{AbsRead}
@@ -47,7 +47,7 @@ pub record Situation : Type 0 where
   pub address : ℕ
   pub state : AbsState
   pub product : Product
-  pub entry : MState
+  pub entry : Activation
   pub base : ℕ
   pub machine : MState
   pub reads : List ℕ
@@ -68,7 +68,7 @@ word_at c = word_in c.stack c.rom c.row.op c.state c.product
 
 -- what its registers alone say of its effect, and what pairs say beside them
 abbrev pub transferred : Situation → AbsEffect
-transferred c = transfer c.row.op (next_at c) (sp_halves c.stack.setting c.state) c.product.core (word_at c).low (word_at c).high
+transferred c = transfer c.stack.setting.is_whole c.row.op (next_at c) (sp_halves c.stack.setting c.state) c.product.core (word_at c).low (word_at c).high
 
 abbrev pub effect_at : Situation → AbsEffect
 effect_at c = effect_in c.stack c.rom c.row.op (next_at c) c.state c.product

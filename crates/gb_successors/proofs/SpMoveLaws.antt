@@ -39,7 +39,7 @@ extended_is Simple m h = absurd (let bad : Simple ≡ Extended = h in cc)
 -- a word is put on
 pub record Puts (k : Stack) (o : Op) (next : ℕ) (sp : Halves) (c : Core) (low high : Val) : Type 0 where
   pub value : Halves
-  pub write_is : (transfer o next sp c low high).write ≡ write.Push value.high value.low
+  pub write_is : (transfer k.setting.is_whole o next sp c low high).write ≡ write.Push value.high value.low
   pub read_is : read_of o c ≡ read.Nothing
   pub move_is : (b : Option Bounds) → stack_move k o (write.Push value.high value.low) b ≡ move.Push value
 
@@ -98,7 +98,7 @@ no_push k o b = tt
 -- what moves SP puts a word on, or writes nothing
 pub puts_or_nothing :
     (k : Stack) (o : Op) (next : ℕ) (sp : Halves) (c : Core) (low high : Val) → k.setting.rules ≡ Extended → moves_sp o ≡ true
-    → Puts k o next sp c low high ⊎ ((transfer o next sp c low high).write ≡ write.Nothing)
+    → Puts k o next sp c low high ⊎ ((transfer k.setting.is_whole o next sp c low high).write ≡ write.Nothing)
 unfolding transfer read_of stack_move
 puts_or_nothing k (op.LoadPair to w) next sp c low high h moves = inr refl
 puts_or_nothing k (op.IncrementPair which) next sp c low high h moves = inr refl
@@ -151,7 +151,7 @@ no_stay_extended r m e h = subst IsNoStay (sym (extended_is r m e)) h
 -- what moves SP, and writes nothing, moves the stack
 pub no_stay :
     (k : Stack) (o : Op) (next : ℕ) (sp : Halves) (c : Core) (low high : Val) (b : Option Bounds) → k.setting.rules ≡ Extended → moves_sp o ≡ true
-    → (transfer o next sp c low high).write ≡ write.Nothing → (o ≡ op.LoadSpHl → is_some b ≡ true) → IsNoStay (stack_move k o write.Nothing b)
+    → (transfer k.setting.is_whole o next sp c low high).write ≡ write.Nothing → (o ≡ op.LoadSpHl → is_some b ≡ true) → IsNoStay (stack_move k o write.Nothing b)
 unfolding transfer stack_move
 no_stay k (op.LoadPair pair.Sp a) next sp c low high b r moves quiet hl = no_stay_to k.setting.rules k a
 no_stay k (op.IncrementPair pair.Sp) next sp c low high b r moves quiet hl = no_stay_extended k.setting.rules (move.Take 1) r tt

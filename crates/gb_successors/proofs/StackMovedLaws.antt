@@ -17,7 +17,7 @@ use Rattle.gb_domain.specs.Types.{AbsState}
 use Rattle.gb_product.specs.Below.gb_vals.Vals.{any_val}
 use Rattle.gb_product.specs.Below.gb_abs.Bytes.{without_newest, with_any_bytes, resized}
 use Rattle.gb_product.specs.Below.gb_abs.Origins.{core_without_origins}
-use Rattle.gb_product.specs.Below.gb_abs.Meaning.{MeansCore, MeansParts}
+use Rattle.gb_product.specs.Below.gb_abs.Meaning.{Activation, MeansCore, MeansParts}
 use Rattle.gb_product.specs.Below.gb_abs.Operations.{with_core}
 use Rattle.gb_product.specs.Below.gb_abs.Stack.{AreInRegion}
 use Rattle.gb_product.proofs.Below.gb_abs_laws.ByteLaws.{taking_sound, appending_sound, resizing_sound}
@@ -68,14 +68,14 @@ appended-if_room z n s h = ap (λ b. cond b s (with_any_bytes n s)) h
 -- ---- the machine with its effect's processor, whose storage is as before
 
 -- states behind a move, and the machine there
-pub record IsMoved (region : Region) (m : StackMove) (s t : AbsState) (entry : MState) (base : ℕ) (y : MState) : Type 0 where
+pub record IsMoved (region : Region) (m : StackMove) (s t : AbsState) (entry : Activation) (base : ℕ) (y : MState) : Type 0 where
   pub means : MeansParts t entry base y
   pub room : AreInRegion region base (length t.items)
   pub bytes : length t.items ≡ bytes_moved m (length s.items)
 
 -- what a core holds of, wherever SP is
 pub taken_off :
-    (z : Setting) (region : Region) (n : ℕ) (s : AbsState) (core : Core) (entry : MState) (base : ℕ) (x : MState) (p : Processor)
+    (z : Setting) (region : Region) (n : ℕ) (s : AbsState) (core : Core) (entry : Activation) (base : ℕ) (x : MState) (p : Processor)
     → MeansParts s entry base x → MeansCore core entry (record x { processor = p }) → core.stack_set ≡ s.core.stack_set → HoldsBytes n s
     → AreInRegion region base (length s.items) → IsRegion region → p.sp ≡ (x.processor.sp + n) % 65536
     → IsMoved region (move.Take n) s (with_core (with_stack_moved z (move.Take n) s) (moved_core (move.Take n) core)) entry base (record x { processor = p })
@@ -96,7 +96,7 @@ unfolding with_any_bytes
 longer n s = length-appended n s.items
 
 pub put_on :
-    (z : Setting) (region : Region) (n : ℕ) (s : AbsState) (core : Core) (entry : MState) (base : ℕ) (x : MState) (p : Processor)
+    (z : Setting) (region : Region) (n : ℕ) (s : AbsState) (core : Core) (entry : Activation) (base : ℕ) (x : MState) (p : Processor)
     → MeansParts s entry base x → MeansCore core entry (record x { processor = p }) → HasRoomFor n z region s base
     → IsRegion region → p.sp ≡ (x.processor.sp + (65536 - n)) % 65536
     → IsMoved region (move.Append n) s (with_core (with_stack_moved z (move.Append n) s) (moved_core (move.Append n) core)) entry base (record x { processor = p })
@@ -111,7 +111,7 @@ put_on z region n s core entry base x p m c has is sp =
       bytes = longer n s;
     })
 
-MeansCore-set : (core : Core) (entry x : MState) → MeansCore core entry x → MeansCore (core_set core) entry x
+MeansCore-set : (core : Core) (entry : Activation) (x : MState) → MeansCore core entry x → MeansCore (core_set core) entry x
 MeansCore-set core entry x m =
     record {
       registers = m.registers;
@@ -126,7 +126,7 @@ MeansCore-set core entry x m =
 
 -- SP is set so many bytes below a base
 set_below :
-    (region : Region) (n : ℕ) (s : AbsState) (core : Core) (entry : MState) (base : ℕ) (x : MState) (p : Processor)
+    (region : Region) (n : ℕ) (s : AbsState) (core : Core) (entry : Activation) (base : ℕ) (x : MState) (p : Processor)
     → MeansParts s entry base x → MeansCore core entry (record x { processor = p }) → AreInRegion region base n → IsRegion region → p.sp ≡ base - n
     → IsMoved region (move.Set n) s (with_core (resized n s) (core_set core)) entry base (record x { processor = p })
 unfolding resized
@@ -141,7 +141,7 @@ set_below region n s core entry base x p m c room is sp =
     }
 
 pub set_own :
-    (k : Stack) (n : ℕ) (s : AbsState) (core : Core) (entry : MState) (base : ℕ) (x : MState) (p : Processor) → k.setting.rules ≡ Extended → IsBase k.setting base
+    (k : Stack) (n : ℕ) (s : AbsState) (core : Core) (entry : Activation) (base : ℕ) (x : MState) (p : Processor) → k.setting.rules ≡ Extended → IsBase k.setting base
     → MeansParts s entry base x → MeansCore core entry (record x { processor = p }) → AreInRegion k.region base n → IsRegion k.region → IsMovedTo k (move.Set n) x.processor.sp p.sp
     → IsMoved k.region (move.Set n) s (with_core (with_stack_moved k.setting (move.Set n) s) (moved_core (move.Set n) core)) entry base (record x { processor = p })
 unfolding with_stack_moved moved_core
@@ -155,7 +155,7 @@ set_own k n s core entry base x p extended right m c room is to =
 abbrev forgotten : AbsState → AbsState
 forgotten s = record (begun_anew s) { core = record (core_without_origins s.core) { stack_set = false } }
 
-MeansCore-unset : (core : Core) (entry x : MState) → MeansCore core entry x → MeansCore (record core { stack_set = false }) entry x
+MeansCore-unset : (core : Core) (entry : Activation) (x : MState) → MeansCore core entry x → MeansCore (record core { stack_set = false }) entry x
 MeansCore-unset core entry x m =
     record {
       registers = m.registers;
@@ -168,7 +168,7 @@ MeansCore-unset core entry x m =
       stopped = m.stopped;
     }
 
-MeansParts-forgotten : (s : AbsState) (entry other : MState) (base top : ℕ) (x : MState) → MeansParts s entry base x → MeansParts (forgotten s) other top x
+MeansParts-forgotten : (s : AbsState) (entry other : Activation) (base top : ℕ) (x : MState) → MeansParts s entry base x → MeansParts (forgotten s) other top x
 MeansParts-forgotten s entry other base top x m =
     record {
       core = MeansCore-unset (core_without_origins s.core) other x (MeansCore-without_origins s.core entry other x m.core);
@@ -184,7 +184,7 @@ unfolding resized
 same_forgotten n s core = refl
 
 pub set_anew :
-    (k : Stack) (n : ℕ) (s : AbsState) (core : Core) (entry other : MState) (base : ℕ) (x : MState) (p : Processor) → k.setting.rules ≡ Extended
+    (k : Stack) (n : ℕ) (s : AbsState) (core : Core) (entry other : Activation) (base : ℕ) (x : MState) (p : Processor) → k.setting.rules ≡ Extended
     → MeansParts s entry base x → MeansCore core entry (record x { processor = p }) → AreInRegion k.region (k.region.last + 1) n → IsRegion k.region
     → IsMovedTo k (move.Restart n) x.processor.sp p.sp
     → IsMoved k.region (move.Restart n) s (with_core (with_stack_moved k.setting (move.Restart n) s) (moved_core (move.Restart n) core)) other (k.region.last + 1) (record x { processor = p })

@@ -33,7 +33,7 @@ use Rattle.gb_product.specs.Below.gb_vals.Vals.{single, any_val}
 use Rattle.gb_product.specs.Below.gb_abs.Storage.{peek}
 use Rattle.gb_product.specs.Below.gb_abs.Located.{sp_halves}
 use Rattle.gb_product.specs.Below.gb_abs.Operations.{core_end, with_core}
-use Rattle.gb_product.specs.Below.gb_abs.Meaning.{Holds, MeansCore, MeansParts, IsMemory}
+use Rattle.gb_product.specs.Below.gb_abs.Meaning.{Activation, Holds, MeansCore, MeansParts, IsMemory}
 use Rattle.gb_product.specs.Below.gb_abs.Cells.{ArePlaced}
 use Rattle.gb_product.specs.Below.gb_abs.Stack.{AreInRegion, pushed, popped, last_word, youngest}
 use Rattle.gb_product.specs.Below.gb_abs.Sound.{Pops}
@@ -86,19 +86,19 @@ ended_nothing z region k n s = refl
 -- ---- a word is pushed
 
 -- what the machine writes is the word
-pub record IsPushed (high low : Val) (entry : MState) (sp : ℕ) (w : Write) : Type 0 where
+pub record IsPushed (high low : Val) (entry : Activation) (sp : ℕ) (w : Write) : Type 0 where
   pub value : ℕ
   pub is : w ≡ machine_write.Push sp value
   pub high_held : Holds high entry (value / 256)
   pub low_held : Holds low entry (value % 256)
 
-pub push_of : (high low : Val) (entry : MState) (sp : ℕ) (w : Write) → HoldsWrite (write.Push high low) entry sp w → IsPushed high low entry sp w
+pub push_of : (high low : Val) (entry : Activation) (sp : ℕ) (w : Write) → HoldsWrite (write.Push high low) entry sp w → IsPushed high low entry sp w
 push_of high low entry sp machine_write.Nothing h = absurd h
 push_of high low entry sp (machine_write.Byte a n) h = absurd h
 push_of high low entry sp (machine_write.Word a n) h = absurd h
 push_of high low entry sp (machine_write.Push a n) h = record { value = n; is = ap (λ b. machine_write.Push b n) h.0; high_held = h.1; low_held = h.2 }
 
-pub small_word : (v : Val) (entry : MState) (n : ℕ) → IsVal v → Holds v entry (n / 256) → n < 65536
+pub small_word : (v : Val) (entry : Activation) (n : ℕ) → IsVal v → Holds v entry (n / 256) → n < 65536
 small_word v entry n is h =
     let most = h.most in
     let hi = is.hi in
@@ -123,13 +123,13 @@ not_pushed region base sp bytes a b room stack at above = choose (b == a) refl
     choose false e = e
 
 -- what is left of the machine, whose word stands on the stack
-record Pushed (z : Setting) (rom : List ℕ) (region : Region) (ranges : List Range) (s : AbsState) (core : Core) (i : Halves) (entry : MState) (base : ℕ) (x : MState) (e : Effect) : Type 0 where
+record Pushed (z : Setting) (rom : List ℕ) (region : Region) (ranges : List Range) (s : AbsState) (core : Core) (i : Halves) (entry : Activation) (base : ℕ) (x : MState) (e : Effect) : Type 0 where
   pub means : MeansParts (pushed i (with_core s core)) entry base (record { processor = e.processor; storage = (stored (view rom x false) e.write).storage })
   pub faults : store_faults region (view rom x false) e.write ≡ no_faults
   pub starting : (stored (view rom x false) e.write).starting ≡ false
   pub kept : (b : ℕ) → IsKept z region ranges base b → peek (stored (view rom x false) e.write).storage b ≡ peek x.storage b
 
-pub same_but_sp : (core : Core) (entry x y : MState) (sp : ℕ) → MeansCore core entry x → y ≡ record { processor = with_sp x.processor sp; storage = x.storage } → MeansCore core entry y
+pub same_but_sp : (core : Core) (entry : Activation) (x y : MState) (sp : ℕ) → MeansCore core entry x → y ≡ record { processor = with_sp x.processor sp; storage = x.storage } → MeansCore core entry y
 same_but_sp core entry x y sp m e = subst (λ z. MeansCore core entry z) (sym e) (record {
   registers = m.registers;
   flags = m.flags;
@@ -141,7 +141,7 @@ same_but_sp core entry x y sp m e = subst (λ z. MeansCore core entry z) (sym e)
   stopped = m.stopped;
 })
 
-pushes : (z : Setting) (rom : List ℕ) (region : Region) (ranges : List Range) (row : Row) (a : ℕ) (s : AbsState) (entry : MState) (base : ℕ) (x : MState) (reads : List ℕ) (c : Core)
+pushes : (z : Setting) (rom : List ℕ) (region : Region) (ranges : List Range) (row : Row) (a : ℕ) (s : AbsState) (entry : Activation) (base : ℕ) (x : MState) (reads : List ℕ) (c : Core)
     → IsTaken z rom region ranges row a s entry base x reads c → (high low : Val) → (abs_effect z rom row a s c).write ≡ write.Push high low
     → s.core.stack_set ≡ true → AreInRegion region base (length s.items + 2) → is_stack_limited region s.core ≡ false
     → Follows (abs_effect z rom row a s c) entry (begun row x) (effect rom row x reads)
@@ -200,7 +200,7 @@ bytes_popped o n s =
 
 -- PUSH
 pub Done-push :
-    (z : Setting) (rom : List ℕ) (region : Region) (ranges : List Range) (row : Row) (a : ℕ) (s : AbsState) (entry : MState) (base : ℕ) (x : MState) (reads : List ℕ) (c : Core)
+    (z : Setting) (rom : List ℕ) (region : Region) (ranges : List Range) (row : Row) (a : ℕ) (s : AbsState) (entry : Activation) (base : ℕ) (x : MState) (reads : List ℕ) (c : Core)
     → IsTaken z rom region ranges row a s entry base x reads c → is_push row.op ≡ true → IsPushable z region s base → IsAllowed z rom region ranges s base (simple_parts z rom region row (behind_row a row) s c)
     → Done z rom region ranges row s (simple_parts z rom region row (behind_row a row) s c) entry base x reads
 unfolding is_write_limited
@@ -258,7 +258,7 @@ unfolding ended
 ended_cells n s = refl
 
 pub Done-call :
-    (z : Setting) (rom : List ℕ) (region : Region) (ranges : List Range) (row : Row) (a : ℕ) (s : AbsState) (entry : MState) (base : ℕ) (x : MState) (reads : List ℕ) (c : Core)
+    (z : Setting) (rom : List ℕ) (region : Region) (ranges : List Range) (row : Row) (a : ℕ) (s : AbsState) (entry : Activation) (base : ℕ) (x : MState) (reads : List ℕ) (c : Core)
     → IsTaken z rom region ranges row a s entry base x reads c → is_call row.op ≡ true → s.core.stack_set ≡ true → IsAllowed z rom region ranges s base (simple_parts z rom region row (behind_row a row) s c)
     → Done z rom region ranges row s (simple_parts z rom region row (behind_row a row) s c) entry base x reads
 unfolding is_write_limited
@@ -312,12 +312,12 @@ unfolding popped
 popped_set s h = h
 
 -- the stack is set on the side too
-set_of : (z : Setting) (rom : List ℕ) (region : Region) (ranges : List Range) (row : Row) (a : ℕ) (s : AbsState) (entry : MState) (base : ℕ) (x : MState) (reads : List ℕ) (c : Core)
+set_of : (z : Setting) (rom : List ℕ) (region : Region) (ranges : List Range) (row : Row) (a : ℕ) (s : AbsState) (entry : Activation) (base : ℕ) (x : MState) (reads : List ℕ) (c : Core)
     → IsTaken z rom region ranges row a s entry base x reads c → s.core.stack_set ≡ true → c.stack_set ≡ true
 set_of z rom region ranges row a s entry base x reads c k set = k.keeps.stack ∙ set
 
 -- the state before its reads is meant
-means_begun_taken : (z : Setting) (rom : List ℕ) (region : Region) (ranges : List Range) (row : Row) (a : ℕ) (s : AbsState) (entry : MState) (base : ℕ) (x : MState) (reads : List ℕ) (c : Core)
+means_begun_taken : (z : Setting) (rom : List ℕ) (region : Region) (ranges : List Range) (row : Row) (a : ℕ) (s : AbsState) (entry : Activation) (base : ℕ) (x : MState) (reads : List ℕ) (c : Core)
     → IsTaken z rom region ranges row a s entry base x reads c → MeansParts (with_core s c) entry base (begun row x)
 means_begun_taken z rom region ranges row a s entry base x reads c k = means_begun rom row s entry base x c k.keeps k.stands.means.parts k.means
 
@@ -327,7 +327,7 @@ is_word_read sp (machine_read.Byte a) h = absurd h
 is_word_read sp (machine_read.Word a) h = ap machine_read.Word h
 
 -- what the machine reads is the word on top of the stack
-reads_top : (z : Setting) (rom : List ℕ) (region : Region) (ranges : List Range) (row : Row) (a : ℕ) (s : AbsState) (entry : MState) (base : ℕ) (x : MState) (reads : List ℕ) (c : Core)
+reads_top : (z : Setting) (rom : List ℕ) (region : Region) (ranges : List Range) (row : Row) (a : ℕ) (s : AbsState) (entry : Activation) (base : ℕ) (x : MState) (reads : List ℕ) (c : Core)
     → IsTaken z rom region ranges row a s entry base x reads c → read_of row.op c ≡ read.Top → Effects.read_of row.op (advanced x.processor row) ≡ machine_read.Word (begun row x).processor.sp
 reads_top z rom region ranges row a s entry base x reads c k is =
     is_word_read (begun row x).processor.sp (Effects.read_of row.op (advanced x.processor row))
@@ -335,14 +335,14 @@ reads_top z rom region ranges row a s entry base x reads c k is =
     ((read_of_sound row.op c (read_of row.op c) refl).gives entry (begun row x) (given rom row x reads).low (given rom row x reads).high k.means k.taken))
 
 -- the word of a state that holds it on top
-pops : (z : Setting) (rom : List ℕ) (region : Region) (ranges : List Range) (row : Row) (a : ℕ) (s : AbsState) (entry : MState) (base : ℕ) (x : MState) (reads : List ℕ) (c : Core)
+pops : (z : Setting) (rom : List ℕ) (region : Region) (ranges : List Range) (row : Row) (a : ℕ) (s : AbsState) (entry : Activation) (base : ℕ) (x : MState) (reads : List ℕ) (c : Core)
     → IsTaken z rom region ranges row a s entry base x reads c → (held : AbsState) (i : Halves) (top : ℕ) → MeansParts held entry top (begun row x) → youngest held ≡ Some i → held.core.stack_set ≡ true
     → AreInRegion region top (length held.items) → is_stack_limited region s.core ≡ false → Pops (popped held) i entry top (begun row x) (view rom x false) reads
 pops z rom region ranges row a s entry base x reads c k held i top means is set room limited =
     Pops-popped region held entry top (begun row x) (view rom x false) i reads means refl set is room k.stands.is_region
     (IsRegionOpen-bound s.core entry x region k.stands.means.parts.core (clear_stack region s.core limited))
 
-pub no_write : (entry : MState) (sp : ℕ) (w : Write) → HoldsWrite write.Nothing entry sp w → w ≡ machine_write.Nothing
+pub no_write : (entry : Activation) (sp : ℕ) (w : Write) → HoldsWrite write.Nothing entry sp w → w ≡ machine_write.Nothing
 no_write entry sp machine_write.Nothing h = refl
 no_write entry sp (machine_write.Byte a n) h = absurd h
 no_write entry sp (machine_write.Word a n) h = absurd h
@@ -357,12 +357,12 @@ unfolding store_faults
 no_store_faults region m w e = ap (store_faults region m) e
 
 -- what is left of the machine, whose word is off the stack
-record Popped (rom : List ℕ) (region : Region) (core : Core) (held : AbsState) (n : ℕ) (entry : MState) (top : ℕ) (x : MState) (e : Effect) : Type 0 where
+record Popped (rom : List ℕ) (region : Region) (core : Core) (held : AbsState) (n : ℕ) (entry : Activation) (top : ℕ) (x : MState) (e : Effect) : Type 0 where
   pub means : MeansParts (ended false n (with_core held core)) entry top (left_by rom x e n)
   pub faults : store_faults region (view rom x false) e.write ≡ no_faults
   pub same : (b : ℕ) → peek (left_by rom x e n).storage b ≡ peek x.storage b
 
-leaves_word : (z : Setting) (rom : List ℕ) (region : Region) (ranges : List Range) (row : Row) (a : ℕ) (s : AbsState) (entry : MState) (base : ℕ) (x : MState) (reads : List ℕ) (c : Core)
+leaves_word : (z : Setting) (rom : List ℕ) (region : Region) (ranges : List Range) (row : Row) (a : ℕ) (s : AbsState) (entry : Activation) (base : ℕ) (x : MState) (reads : List ℕ) (c : Core)
     → IsTaken z rom region ranges row a s entry base x reads c → (after : AbsState) (i : Halves) (top : ℕ) → Pops after i entry top (begun row x) (view rom x false) reads → after.core.stack_set ≡ true
     → read_of row.op c ≡ read.Top → (abs_effect z rom row a s c).write ≡ write.Nothing → Follows (abs_effect z rom row a s c) entry (begun row x) (effect rom row x reads)
     → Popped rom region (abs_effect z rom row a s c).core after row.cycles entry top x (effect rom row x reads)
@@ -390,7 +390,7 @@ pub read_top : (z : Setting) (rom : List ℕ) (s : AbsState) (what : AbsRead) (o
 unfolding read_word
 read_top z rom s what o e is = ap (read_word z rom s) e ∙ ap word_or_any is
 
-loads_word : (z : Setting) (rom : List ℕ) (row : Row) (s : AbsState) (c : Core) (entry : MState) (x : MState) (reads : List ℕ) (i : Halves) (sp : ℕ)
+loads_word : (z : Setting) (rom : List ℕ) (row : Row) (s : AbsState) (c : Core) (entry : Activation) (x : MState) (reads : List ℕ) (i : Halves) (sp : ℕ)
     → known_read z rom row s c ≡ i → Effects.read_of row.op (advanced x.processor row) ≡ machine_read.Word sp
     → Holds i.low entry (loaded (view rom x false) (machine_read.Word sp) reads).low → Holds i.high entry (loaded (view rom x false) (machine_read.Word sp) reads).high
     → load_faults (view rom x false) (machine_read.Word sp) ≡ no_faults
@@ -416,7 +416,7 @@ popped_room region base n s room =
 
 -- POP
 pub Done-pop :
-    (z : Setting) (rom : List ℕ) (region : Region) (ranges : List Range) (row : Row) (a : ℕ) (s : AbsState) (entry : MState) (base : ℕ) (x : MState) (reads : List ℕ) (c : Core)
+    (z : Setting) (rom : List ℕ) (region : Region) (ranges : List Range) (row : Row) (a : ℕ) (s : AbsState) (entry : Activation) (base : ℕ) (x : MState) (reads : List ℕ) (c : Core)
     → IsTaken z rom region ranges row a s entry base x reads c → is_pop row.op ≡ true → IsPoppable s → IsAllowed z rom region ranges s base (simple_parts z rom region row (behind_row a row) s c)
     → Done z rom region ranges row s (simple_parts z rom region row (behind_row a row) s c) entry base x reads
 unfolding is_read_limited
@@ -459,19 +459,19 @@ Done-pop z rom region ranges row a s entry base x reads c k is able allowed =
 abbrev with_return_word : AbsState → Core → ℕ → ℕ → AbsState
 with_return_word s c low high = record s { core = c; items = single high ∷ single low ∷ [] }
 
-Holds-single : (entry : MState) (n : ℕ) → Holds (single n) entry n
+Holds-single : (entry : Activation) (n : ℕ) → Holds (single n) entry n
 Holds-single entry n = record { least = omega arith; most = omega arith; low = refl; origin = λ o h. cc }
 
-single-held : (entry : MState) (n v : ℕ) → Holds (single n) entry v → v ≡ n
+single-held : (entry : Activation) (n v : ℕ) → Holds (single n) entry v → v ≡ n
 single-held entry n v h =
     let least = h.least in
     let most = h.most in
     omega arith
 
-Holds-any : (entry : MState) (n : ℕ) → n ≤ 255 → Holds any_val entry n
+Holds-any : (entry : Activation) (n : ℕ) → n ≤ 255 → Holds any_val entry n
 Holds-any entry n h = record { least = omega arith; most = h; low = refl; origin = λ o e. cc }
 
-return_word_means : (s : AbsState) (c : Core) (entry : MState) (base : ℕ) (x : MState) → MeansParts s entry base x → s.core.stack_set ≡ true → s.items ≡ [] → (y : MState) → y.storage ≡ x.storage → y.processor.sp ≡ x.processor.sp → MeansCore c entry y
+return_word_means : (s : AbsState) (c : Core) (entry : Activation) (base : ℕ) (x : MState) → MeansParts s entry base x → s.core.stack_set ≡ true → s.items ≡ [] → (y : MState) → y.storage ≡ x.storage → y.processor.sp ≡ x.processor.sp → MeansCore c entry y
     → MeansParts (with_return_word s c (peek x.storage base) (peek x.storage (base + 1))) entry (base + 2) y
 return_word_means s c entry base x m set none y storage sp core =
     let stack = m.stack set in
@@ -503,7 +503,7 @@ unfolding youngest
 return_youngest s c low high = refl
 
 pub Done-return :
-    (z : Setting) (rom : List ℕ) (region : Region) (ranges : List Range) (row : Row) (a : ℕ) (s : AbsState) (entry : MState) (base : ℕ) (x : MState) (reads : List ℕ) (c : Core)
+    (z : Setting) (rom : List ℕ) (region : Region) (ranges : List Range) (row : Row) (a : ℕ) (s : AbsState) (entry : Activation) (base : ℕ) (x : MState) (reads : List ℕ) (c : Core)
     → IsTaken z rom region ranges row a s entry base x reads c → is_return row.op ≡ true → IsAllowed z rom region ranges s base (simple_parts z rom region row (behind_row a row) s c)
     → Done z rom region ranges row s (simple_parts z rom region row (behind_row a row) s c) entry base x reads
 unfolding is_read_limited
@@ -553,7 +553,7 @@ Done-return z rom region ranges row a s entry base x reads c k is allowed =
 -- ---- any instruction that is taken
 
 pub taken_executes :
-    (z : Setting) (rom : List ℕ) (region : Region) (ranges : List Range) (row : Row) (a : ℕ) (s : AbsState) (entry : MState) (base : ℕ) (x : MState) (reads : List ℕ) (c : Core)
+    (z : Setting) (rom : List ℕ) (region : Region) (ranges : List Range) (row : Row) (a : ℕ) (s : AbsState) (entry : Activation) (base : ℕ) (x : MState) (reads : List ℕ) (c : Core)
     → IsTaken z rom region ranges row a s entry base x reads c → IsAllowed z rom region ranges s base (simple_parts z rom region row (behind_row a row) s c)
     → Done z rom region ranges row s (simple_parts z rom region row (behind_row a row) s c) entry base x reads
 taken_executes z rom region ranges row a s entry base x reads c k allowed = by k.stack

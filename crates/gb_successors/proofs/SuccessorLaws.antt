@@ -33,7 +33,7 @@ use Rattle.gb_product.specs.Below.gb_abs.Located.{sp_halves, halves_by, stack_ba
 use Rattle.gb_product.specs.Below.gb_abs.Operations.{core_settle, core_end, with_core}
 use Rattle.gb_product.specs.Below.gb_abs.Cells.{ArePlaced}
 use Rattle.gb_product.specs.Below.gb_abs.Stack.{AreInRegion, word_of, last_word, youngest}
-use Rattle.gb_product.specs.Below.gb_abs.Meaning.{Holds, MeansCore, MeansParts, IsMemory}
+use Rattle.gb_product.specs.Below.gb_abs.Meaning.{Activation, Holds, MeansCore, MeansParts, IsMemory}
 use Rattle.gb_product.proofs.Below.gb_abs_laws.LocatedLaws.{halves_sound}
 use Rattle.gb_product.proofs.Below.gb_abs_laws.OperationLaws.{MeansCore-settle, end_sound}
 use Rattle.gb_product.proofs.Below.gb_abs_laws.StackLaws.{MeansParts-with_core}
@@ -93,7 +93,7 @@ pub begun_sp : (row : Row) (x : MState) → (begun row x).processor.sp ≡ x.pro
 unfolding advanced
 begun_sp row x = refl
 
-pub begun_core : (row : Row) (x : MState) (s : Core) (entry : MState) → MeansCore s entry x → MeansCore (core_settle s) entry (begun row x)
+pub begun_core : (row : Row) (x : MState) (s : Core) (entry : Activation) → MeansCore s entry x → MeansCore (core_settle s) entry (begun row x)
 unfolding advanced
 begun_core row x s entry m = MeansCore-settle s entry x _ m
 
@@ -119,7 +119,7 @@ ended_stack false n s set = set
 
 -- time passes, and an OAM transfer may start
 pub MeansParts-ended :
-    (rom : List ℕ) (s : AbsState) (entry : MState) (base : ℕ) (p : Processor) (m : View) (is_started : Bool) (n : ℕ) → m.starting ≡ is_started
+    (rom : List ℕ) (s : AbsState) (entry : Activation) (base : ℕ) (p : Processor) (m : View) (is_started : Bool) (n : ℕ) → m.starting ≡ is_started
     → MeansParts s entry base (record { processor = p; storage = m.storage }) → MeansParts (ended is_started n s) entry base (record { processor = p; storage = (passed m n).storage })
 unfolding ended passed
 MeansParts-ended rom s entry base p m is_started n e h =
@@ -140,7 +140,7 @@ passed_peek m n b = refl
 -- ---- taken
 
 -- the instruction is taken, from the side's core
-pub record IsTaken (z : Setting) (rom : List ℕ) (region : Region) (ranges : List Range) (row : Row) (a : ℕ) (s : AbsState) (entry : MState) (base : ℕ) (x : MState) (reads : List ℕ) (c : Core) : Type 0 where
+pub record IsTaken (z : Setting) (rom : List ℕ) (region : Region) (ranges : List Range) (row : Row) (a : ℕ) (s : AbsState) (entry : Activation) (base : ℕ) (x : MState) (reads : List ℕ) (c : Core) : Type 0 where
   pub stands : Stands z rom region row a s entry base x
   pub rules : z.rules ≡ Simple
   pub operands : HasBytes row.op
@@ -162,18 +162,18 @@ unfolding read_of
 plain_read o base c (inl still) bytes is = IsPlainRead-read_of o c still bytes is
 plain_read o base c (inr e) bytes is = subst (λ q. IsPlainRead (read_of q c)) (sym e) tt
 
-plain_write : (o : Op) (base next : ℕ) (sp : Halves) (c : Core) (low high : Val) → IsPlain o base → HasBytes o → IsCore c → IsPlainWrite (transfer o next sp c low high).write
+plain_write : (whole : Bool) (o : Op) (base next : ℕ) (sp : Halves) (c : Core) (low high : Val) → IsPlain o base → HasBytes o → IsCore c → IsPlainWrite (transfer whole o next sp c low high).write
 unfolding transfer
-plain_write o base next sp c low high (inl still) bytes is = IsPlainWrite-transfer o next sp c low high still bytes is
-plain_write o base next sp c low high (inr e) bytes is = subst (λ q. IsPlainWrite (transfer q next sp c low high).write) (sym e) tt
+plain_write whole o base next sp c low high (inl still) bytes is = IsPlainWrite-transfer whole o next sp c low high still bytes is
+plain_write whole o base next sp c low high (inr e) bytes is = subst (λ q. IsPlainWrite (transfer whole q next sp c low high).write) (sym e) tt
 
 -- the state before its reads
-pub means_begun : (rom : List ℕ) (row : Row) (s : AbsState) (entry : MState) (base : ℕ) (x : MState) (c : Core) → Keeps s.core c → MeansParts s entry base x → MeansCore c entry (begun row x)
+pub means_begun : (rom : List ℕ) (row : Row) (s : AbsState) (entry : Activation) (base : ℕ) (x : MState) (c : Core) → Keeps s.core c → MeansParts s entry base x → MeansCore c entry (begun row x)
     → MeansParts (with_core s c) entry base (begun row x)
 means_begun rom row s entry base x c k m h = MeansParts-with_core s c entry base x (begun row x) m h refl refl (begun_sp row x) (λ set. sym k.stack ∙ set)
 
 -- what its reads give is known, and has no fault
-pub loads : (z : Setting) (rom : List ℕ) (region : Region) (ranges : List Range) (row : Row) (a : ℕ) (s : AbsState) (entry : MState) (base : ℕ) (x : MState) (reads : List ℕ) (c : Core)
+pub loads : (z : Setting) (rom : List ℕ) (region : Region) (ranges : List Range) (row : Row) (a : ℕ) (s : AbsState) (entry : Activation) (base : ℕ) (x : MState) (reads : List ℕ) (c : Core)
     → IsTaken z rom region ranges row a s entry base x reads c → IsPlainRead (read_of row.op c) → reads_closed_ram rom s.core (read_of row.op c) ≡ false → is_read_limited region s.core (read_of row.op c) ≡ false
     → Loads z rom (with_core s c) (read_of row.op c) entry (view rom x false) (Effects.read_of row.op (advanced x.processor row)) reads
 loads z rom region ranges row a s entry base x reads c k plain ram limited =
@@ -188,7 +188,7 @@ IsVal-any : IsVal any_val
 IsVal-any = record { order = omega arith; hi = omega arith; strided = refl }
 
 -- SP as a pair, whose halves are bytes
-pub IsWord-sp : (z : Setting) (s : AbsState) (entry : MState) (base : ℕ) (x : MState) → IsBase z base → MeansParts s entry base x → IsWord (sp_halves z s)
+pub IsWord-sp : (z : Setting) (s : AbsState) (entry : Activation) (base : ℕ) (x : MState) → IsBase z base → MeansParts s entry base x → IsWord (sp_halves z s)
 unfolding sp_halves
 IsWord-sp z s entry base x right m =
     let known = halves_sound z s (sp_halves z s) refl in
@@ -230,12 +230,12 @@ is_word z rom s c read.Nothing ie cells items bytes = IsWord-any
 is_word z rom s c (read.Byte span) ie cells items bytes = record { high = IsVal-any; low = IsVal-loaded_val z rom (with_core s c) span ie cells items bytes }
 is_word z rom s c read.Top ie cells items bytes = IsWord-last s.items items
 
-pub follows : (z : Setting) (rom : List ℕ) (region : Region) (ranges : List Range) (row : Row) (a : ℕ) (s : AbsState) (entry : MState) (base : ℕ) (x : MState) (reads : List ℕ) (c : Core)
+pub follows : (z : Setting) (rom : List ℕ) (region : Region) (ranges : List Range) (row : Row) (a : ℕ) (s : AbsState) (entry : Activation) (base : ℕ) (x : MState) (reads : List ℕ) (c : Core)
     → IsTaken z rom region ranges row a s entry base x reads c
     → Loads z rom (with_core s c) (read_of row.op c) entry (view rom x false) (Effects.read_of row.op (advanced x.processor row)) reads
     → Follows (abs_effect z rom row a s c) entry (begun row x) (effect rom row x reads) × ((effect rom row x reads).processor.sp < 65536)
 follows z rom region ranges row a s entry base x reads c k l =
-    let sound = transfer_sound row.op (behind_row a row) (sp_halves z s) c (low_of z rom row s c) (high_of z rom row s c) (abs_effect z rom row a s c) refl k.operands k.core
+    let sound = transfer_sound z.is_whole row.op (behind_row a row) (sp_halves z s) c (low_of z rom row s c) (high_of z rom row s c) (abs_effect z rom row a s c) refl k.operands k.core
     (is_word z rom s c (read_of row.op c) k.core.ie k.stands.vals k.stands.items k.stands.cartridge.bytes).low in
     let sp_known = halves_sound z s (sp_halves z s) refl in
     let begins : Begins row.op (behind_row a row) (sp_halves z s) c (low_of z rom row s c) (high_of z rom row s c) entry (begun row x) (given rom row x reads).low (given rom row x reads).high = record {
@@ -279,11 +279,11 @@ unfolding with_stack_of
 stack_loaded z o a w t e = ap (λ q. with_stack_of z q w t) e
 
 -- what a write may rely on
-record IsActed (z : Setting) (region : Region) (s t : AbsState) (entry : MState) (base : ℕ) (y : MState) : Type 0 where
+record IsActed (z : Setting) (region : Region) (s t : AbsState) (entry : Activation) (base : ℕ) (y : MState) : Type 0 where
   pub at : AtWrite z region t entry base y
   pub gate : IsSameGate s.core t.core
 
-acted_still : (z : Setting) (region : Region) (s : AbsState) (core : Core) (entry : MState) (base : ℕ) (x y : MState) → MeansParts s entry base x → Keeps s.core core → MeansCore core entry y
+acted_still : (z : Setting) (region : Region) (s : AbsState) (core : Core) (entry : Activation) (base : ℕ) (x y : MState) → MeansParts s entry base x → Keeps s.core core → MeansCore core entry y
     → y.storage ≡ x.storage → y.processor.sp ≡ x.processor.sp → ArePlaced region s.cells → AreInRegion region base (length s.items) → IsRegion region → IsBase z base
     → IsActed z region s (with_core s core) entry base y
 acted_still z region s core entry base x y m k h storage sp placed room is based = record {
@@ -298,7 +298,7 @@ acted_still z region s core entry base x y m k h storage sp placed room is based
 }
 
 -- LD SP,n16: the stack is set, with nothing on it
-acted_set : (z : Setting) (region : Region) (s : AbsState) (core : Core) (entry : MState) (base : ℕ) (x y : MState) → MeansParts s entry base x → Keeps s.core core → MeansCore core entry y
+acted_set : (z : Setting) (region : Region) (s : AbsState) (core : Core) (entry : Activation) (base : ℕ) (x y : MState) → MeansParts s entry base x → Keeps s.core core → MeansCore core entry y
     → y.storage ≡ x.storage → y.processor.sp ≡ base → y.processor.sp < 65536 → ArePlaced region s.cells → AreInRegion region base (length s.items) → IsRegion region → IsBase z base
     → IsActed z region s (record (with_core s core) { core = record core { stack_set = true }; items = [] }) entry base y
 acted_set z region s core entry base x y m k h storage sp small placed room is based = record {
@@ -334,12 +334,12 @@ acted_set z region s core entry base x y m k h storage sp small placed room is b
     same_cells : x.storage ≡ y.storage → AllByRecursion (λ c. Holds c.val entry (peek x.storage c.address)) s.cells → AllByRecursion (λ c. Holds c.val entry (peek y.storage c.address)) s.cells
     same_cells e i = subst (λ t. AllByRecursion (λ c. Holds c.val entry (peek t c.address)) s.cells) e i
 
-pub keeps_effect : (z : Setting) (rom : List ℕ) (region : Region) (ranges : List Range) (row : Row) (a : ℕ) (s : AbsState) (entry : MState) (base : ℕ) (x : MState) (reads : List ℕ) (c : Core)
+pub keeps_effect : (z : Setting) (rom : List ℕ) (region : Region) (ranges : List Range) (row : Row) (a : ℕ) (s : AbsState) (entry : Activation) (base : ℕ) (x : MState) (reads : List ℕ) (c : Core)
     → IsTaken z rom region ranges row a s entry base x reads c → Keeps s.core (abs_effect z rom row a s c).core
 keeps_effect z rom region ranges row a s entry base x reads c k =
-    Keeps-both s.core c _ k.keeps (Keeps-transfer row.op (behind_row a row) (sp_halves z s) c (low_of z rom row s c) (high_of z rom row s c))
+    Keeps-both s.core c _ k.keeps (Keeps-transfer z.is_whole row.op (behind_row a row) (sp_halves z s) c (low_of z rom row s c) (high_of z rom row s c))
 
-acts : (z : Setting) (rom : List ℕ) (region : Region) (ranges : List Range) (row : Row) (a : ℕ) (s : AbsState) (entry : MState) (base : ℕ) (x : MState) (reads : List ℕ) (c : Core)
+acts : (z : Setting) (rom : List ℕ) (region : Region) (ranges : List Range) (row : Row) (a : ℕ) (s : AbsState) (entry : Activation) (base : ℕ) (x : MState) (reads : List ℕ) (c : Core)
     → IsTaken z rom region ranges row a s entry base x reads c → IsPlain row.op base → Follows (abs_effect z rom row a s c) entry (begun row x) (effect rom row x reads) → (effect rom row x reads).processor.sp < 65536
     → IsActed z region s (effect_state z rom row a s c) entry base (acted rom row x reads)
 acts z rom region ranges row a s entry base x reads c k plain f small = choose plain
@@ -394,14 +394,14 @@ unfolding simple_parts
 state_is z rom region row a s c = refl
 
 -- what it writes are bytes
-pub is_write : (z : Setting) (rom : List ℕ) (region : Region) (ranges : List Range) (row : Row) (a : ℕ) (s : AbsState) (entry : MState) (base : ℕ) (x : MState) (reads : List ℕ) (c : Core)
+pub is_write : (z : Setting) (rom : List ℕ) (region : Region) (ranges : List Range) (row : Row) (a : ℕ) (s : AbsState) (entry : Activation) (base : ℕ) (x : MState) (reads : List ℕ) (c : Core)
     → IsTaken z rom region ranges row a s entry base x reads c → IsWrite (abs_effect z rom row a s c).write
 is_write z rom region ranges row a s entry base x reads c k =
     let word = is_word z rom s c (read_of row.op c) k.core.ie k.stands.vals k.stands.items k.stands.cartridge.bytes in
-    (transfer_inhabited row.op (behind_row a row) (sp_halves z s) c (low_of z rom row s c) (high_of z rom row s c) (abs_effect z rom row a s c) refl k.operands (omega arith) k.core word.low word.high (IsWord-sp z s entry base x k.stands.based k.stands.means.parts)).write
+    (transfer_inhabited z.is_whole row.op (behind_row a row) (sp_halves z s) c (low_of z rom row s c) (high_of z rom row s c) (abs_effect z rom row a s c) refl k.operands (omega arith) k.core word.low word.high (IsWord-sp z s entry base x k.stands.based k.stands.means.parts)).write
 
 -- its write
-stores : (z : Setting) (rom : List ℕ) (region : Region) (ranges : List Range) (row : Row) (a : ℕ) (s : AbsState) (entry : MState) (base : ℕ) (x : MState) (reads : List ℕ) (c : Core)
+stores : (z : Setting) (rom : List ℕ) (region : Region) (ranges : List Range) (row : Row) (a : ℕ) (s : AbsState) (entry : Activation) (base : ℕ) (x : MState) (reads : List ℕ) (c : Core)
     → IsTaken z rom region ranges row a s entry base x reads c → IsPlain row.op base → IsAllowed z rom region ranges s base (simple_parts z rom region row (behind_row a row) s c)
     → Follows (abs_effect z rom row a s c) entry (begun row x) (effect rom row x reads) → (effect rom row x reads).processor.sp < 65536
     → Stores z rom region ranges (effect_state z rom row a s c) (abs_effect z rom row a s c).write entry base (acted rom row x reads) (view rom x false) (effect rom row x reads).write
@@ -410,17 +410,17 @@ stores z rom region ranges row a s entry base x reads c k plain allowed f small 
     let w : AbsWrite = (abs_effect z rom row a s c).write in
     let may = allowed_write z rom region ranges s base _ allowed in
     Stores-write z rom region ranges (effect_state z rom row a s c) entry base (acted rom row x reads) (begun row x).processor.sp w (effect rom row x reads).write acted_at.at
-    (plain_write row.op base (behind_row a row) (sp_halves z s) c (low_of z rom row s c) (high_of z rom row s c) plain k.operands k.core)
+    (plain_write z.is_whole row.op base (behind_row a row) (sp_halves z s) c (low_of z rom row s c) (high_of z rom row s c) plain k.operands k.core)
     (is_write z rom region ranges row a s entry base x reads c k) f.write
     (subst (λ v. is_unstorable z (kind_of rom) region ranges v ≡ false) (write_is z rom region row a s c) allowed.stores)
     (writes_same rom s.core (effect_state z rom row a s c).core w acted_at.gate ∙ subst (λ v. writes_closed_ram rom s.core v ≡ false) (write_is z rom region row a s c) may.0)
     (write_limited_same region s.core (effect_state z rom row a s c).core w acted_at.gate ∙ subst (λ v. is_write_limited region s.core v ≡ false) (write_is z rom region row a s c) may.1)
 
-pub leads_simply : (z : Setting) (region : Region) (w : Target) (t : Successor) (entry : MState) (base : ℕ) (x y : MState) → z.rules ≡ Simple → LeadsSimply region w t entry base x y → LeadsTo z.rules z region w t entry base x y
+pub leads_simply : (z : Setting) (region : Region) (w : Target) (t : Successor) (entry : Activation) (base : ℕ) (x y : MState) → z.rules ≡ Simple → LeadsSimply region w t entry base x y → LeadsTo z.rules z region w t entry base x y
 leads_simply z region w t entry base x y e h = subst (λ r. LeadsTo r z region w t entry base x y) (sym e) h
 
 -- where the machine goes on in the same procedure, it stays; of a jump to somewhere nothing is said
-leads_plain : (region : Region) (w : Target) (t : Successor) (entry : MState) (base : ℕ) (x y : MState) → IsPlainTarget w → MeansParts t.state entry base y → HoldsTarget w y.processor.pc
+leads_plain : (region : Region) (w : Target) (t : Successor) (entry : Activation) (base : ℕ) (x y : MState) → IsPlainTarget w → MeansParts t.state entry base y → HoldsTarget w y.processor.pc
     → AreInRegion region base (length t.state.items) → LeadsSimply region w t entry base x y
 leads_plain region (target.At a) t entry base x y plain means goes room = record { means = means; goes = goes; room = room }
 leads_plain region (target.Call a) t entry base x y plain means goes room = absurd plain
@@ -428,20 +428,20 @@ leads_plain region target.Return t entry base x y plain means goes room = absurd
 leads_plain region _ t entry base x y plain means goes room = tt
 
 -- the machine behind it
-pub executed_taken : (z : Setting) (rom : List ℕ) (region : Region) (ranges : List Range) (row : Row) (a : ℕ) (s : AbsState) (entry : MState) (base : ℕ) (x : MState) (reads : List ℕ) (c : Core)
+pub executed_taken : (z : Setting) (rom : List ℕ) (region : Region) (ranges : List Range) (row : Row) (a : ℕ) (s : AbsState) (entry : Activation) (base : ℕ) (x : MState) (reads : List ℕ) (c : Core)
     → IsTaken z rom region ranges row a s entry base x reads c → outside (executed (within rom x) row reads) ≡ left_by rom x (effect rom row x reads) row.cycles
 executed_taken z rom region ranges row a s entry base x reads c k =
     executed_is rom x row reads ∙ ap (left_by rom x (effect rom row x reads)) (ap (λ b. cond b row.cycles row.cycles_not_taken) k.taken)
 
 -- where it goes on
-pub goes_to : (z : Setting) (rom : List ℕ) (region : Region) (ranges : List Range) (row : Row) (a : ℕ) (s : AbsState) (entry : MState) (base : ℕ) (x : MState) (reads : List ℕ) (c : Core)
+pub goes_to : (z : Setting) (rom : List ℕ) (region : Region) (ranges : List Range) (row : Row) (a : ℕ) (s : AbsState) (entry : Activation) (base : ℕ) (x : MState) (reads : List ℕ) (c : Core)
     → IsTaken z rom region ranges row a s entry base x reads c → HoldsTarget (target_of row.op (behind_row a row) c) (effect rom row x reads).processor.pc
 goes_to z rom region ranges row a s entry base x reads c k =
     (target_of_sound row.op (behind_row a row) c (target_of row.op (behind_row a row) c) refl).gives entry (begun row x) (given rom row x reads).low (given rom row x reads).high
     k.means (begun_pc row x a k.runs k.mark k.stands.at) k.taken
 
 -- an instruction leads by a successor, and has no fault
-pub record Done (z : Setting) (rom : List ℕ) (region : Region) (ranges : List Range) (row : Row) (s : AbsState) (t : Successor) (entry : MState) (base : ℕ) (x : MState) (reads : List ℕ) : Type 0 where
+pub record Done (z : Setting) (rom : List ℕ) (region : Region) (ranges : List Range) (row : Row) (s : AbsState) (t : Successor) (entry : Activation) (base : ℕ) (x : MState) (reads : List ℕ) : Type 0 where
   pub held : length t.state.items ≤ bytes_behind row.op (length s.items)
   pub leads : LeadsParts z region ranges t entry base x (outside (executed (within rom x) row reads))
   pub faults : row_faults (Some row) region (within rom x) reads ≡ no_faults
@@ -463,7 +463,7 @@ bytes_plain z rom row a s c base (inr e) =
 
 -- one that leaves SP, or sets it
 pub Done-plain :
-    (z : Setting) (rom : List ℕ) (region : Region) (ranges : List Range) (row : Row) (a : ℕ) (s : AbsState) (entry : MState) (base : ℕ) (x : MState) (reads : List ℕ) (c : Core)
+    (z : Setting) (rom : List ℕ) (region : Region) (ranges : List Range) (row : Row) (a : ℕ) (s : AbsState) (entry : Activation) (base : ℕ) (x : MState) (reads : List ℕ) (c : Core)
     → IsTaken z rom region ranges row a s entry base x reads c → IsPlain row.op base → IsAllowed z rom region ranges s base (simple_parts z rom region row (behind_row a row) s c)
     → Done z rom region ranges row s (simple_parts z rom region row (behind_row a row) s c) entry base x reads
 Done-plain z rom region ranges row a s entry base x reads c k plain allowed =

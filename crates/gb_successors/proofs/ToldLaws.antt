@@ -20,7 +20,7 @@ use Rattle.gb_domain.specs.Limits.{cell_room}
 use Rattle.gb_domain.specs.Rules.{IsVal}
 use Rattle.gb_domain.specs.Types.{AbsState}
 use Rattle.gb_product.specs.Below.gb_abs.Cells.{is_below, is_above, is_at, entered, with_cell, IsPlaced, ArePlaced}
-use Rattle.gb_product.specs.Below.gb_abs.Meaning.{MeansParts}
+use Rattle.gb_product.specs.Below.gb_abs.Meaning.{Activation, MeansParts}
 use Rattle.gb_product.specs.Below.gb_abs.Operations.{with_core}
 use Rattle.gb_product.specs.Below.gb_abs.Stack.{AreInRegion}
 use Rattle.gb_product.specs.Below.gb_abs.Storage.{peek}
@@ -63,20 +63,20 @@ told_with_core z (Some c) s core = refl
 -- ---- the cell
 
 -- it lies where a cell may, and what is said of its byte is right
-pub record IsToldCell (region : Region) (entry x : MState) (c : Cell) : Type 0 where
+pub record IsToldCell (region : Region) (entry : Activation) (x : MState) (c : Cell) : Type 0 where
   pub placed : IsPlaced region c
   pub val : IsVal c.val
   pub holds : HoldsCell entry x c
 
 IsToldCell-if :
-    (region : Region) (entry x : MState) (cell : Option Cell)
+    (region : Region) (entry : Activation) (x : MState) (cell : Option Cell)
     → IfSome cell (IsPlaced region) → IfSome cell (λ c. IsVal c.val) → IfSome cell (λ c. HoldsCell entry x c) → IfSome cell (IsToldCell region entry x)
 IsToldCell-if region entry x None p v h = tt
 IsToldCell-if region entry x (Some c) p v h = record { placed = p; val = v; holds = h }
 
 -- that of a side
 pub IsToldCell-side :
-    (region : Region) (cells : List Cell) (core : Core) (r : Relations) (b : Branch) (entry x : MState)
+    (region : Region) (cells : List Cell) (core : Core) (r : Relations) (b : Branch) (entry : Activation) (x : MState)
     → IsByteFree region r.byte.address → AreVals cells → IsSideOf cells core r b → IfSome b.cell (λ c. HoldsCell entry x c) → IfSome b.cell (IsToldCell region entry x)
 IsToldCell-side region cells core r b entry x free vals is h = IsToldCell-if region entry x b.cell (side_placed region cells core r b free is) (is.val vals) h
 
@@ -93,7 +93,7 @@ AllByRecursion-with_cell P room c cells p h = choose (list_any (is_at c.address)
 -- ---- where the machine stands
 
 MeansParts-told :
-    (region : Region) (room : ℕ) (c : Cell) (s : AbsState) (entry : MState) (base : ℕ) (x : MState) → IsToldCell region entry x c
+    (region : Region) (room : ℕ) (c : Cell) (s : AbsState) (entry : Activation) (base : ℕ) (x : MState) → IsToldCell region entry x c
     → ArePlaced region s.cells → AreInRegion region base (length s.items) → IsRegion region → MeansParts s entry base x
     → MeansParts (record s { cells = with_cell room c s.cells }) entry base x
 MeansParts-told region room c s entry base x told placed room_left is m =
@@ -102,7 +102,7 @@ MeansParts-told region room c s entry base x told placed room_left is m =
     told.holds told.placed placed room_left is
 
 pub Stands-told :
-    (z : Setting) (rom : List ℕ) (region : Region) (row : Row) (a : ℕ) (cell : Option Cell) (s : AbsState) (entry : MState) (base : ℕ) (x : MState)
+    (z : Setting) (rom : List ℕ) (region : Region) (row : Row) (a : ℕ) (cell : Option Cell) (s : AbsState) (entry : Activation) (base : ℕ) (x : MState)
     → IfSome cell (IsToldCell region entry x) → Stands z rom region row a s entry base x → Stands z rom region row a (with_cell_if z cell s) entry base x
 unfolding with_cell_if
 Stands-told z rom region row a None s entry base x told h = h

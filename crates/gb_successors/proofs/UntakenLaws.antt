@@ -20,7 +20,7 @@ use Rattle.gb_domain.specs.declared.types.Core.{Core}
 use Rattle.gb_domain.specs.declared.types.Range.{Range}
 use Rattle.gb_domain.specs.Types.{AbsState}
 use Rattle.gb_product.specs.Below.gb_abs.Operations.{with_core}
-use Rattle.gb_product.specs.Below.gb_abs.Meaning.{MeansCore}
+use Rattle.gb_product.specs.Below.gb_abs.Meaning.{Activation, MeansCore}
 use Rattle.gb_product.specs.Below.gb_abs.Stack.{AreInRegion}
 use Rattle.gb_product.specs.Below.gb_abs.Storage.{peek}
 use Rattle.gb_product.proofs.Below.gb_abs_laws.StackLaws.{MeansParts-with_core}
@@ -60,7 +60,7 @@ unfolding ended
 bytes_ended n s = omega arith
 
 -- where it goes on in the same procedure, by any rules
-pub leads_at : (z : Setting) (region : Region) (a : ℕ) (t : Successor) (entry : MState) (base : ℕ) (x y : MState) → StaysAt region a t entry base y → LeadsTo z.rules z region (target.At a) t entry base x y
+pub leads_at : (z : Setting) (region : Region) (a : ℕ) (t : Successor) (entry : Activation) (base : ℕ) (x y : MState) → StaysAt region a t entry base y → LeadsTo z.rules z region (target.At a) t entry base x y
 leads_at z region a t entry base x y h = by z.rules
   where
     by : (r : Rules) → LeadsTo r z region (target.At a) t entry base x y
@@ -96,7 +96,7 @@ unfolding ended
 bytes_untaken row next s c r = bytes-least row.op (length s.items)
 
 pub untaken_executes :
-    (z : Setting) (rom : List ℕ) (region : Region) (ranges : List Range) (row : Row) (a : ℕ) (s : AbsState) (entry : MState) (base : ℕ) (x : MState) (reads : List ℕ) (c : Core) (r : Relations)
+    (z : Setting) (rom : List ℕ) (region : Region) (ranges : List Range) (row : Row) (a : ℕ) (s : AbsState) (entry : Activation) (base : ℕ) (x : MState) (reads : List ℕ) (c : Core) (r : Relations)
     → Stands z rom region row a s entry base x → (row.op ≡ op.Stop → ⊥) → x.processor.halt_mark ≡ false
     → Keeps s.core c → MeansCore c entry (begun row x) → AreRelated r (begun row x) → (effect rom row x reads).is_taken ≡ false
     → Leads z region ranges (simple_untaken row (behind_row a row) s c r) entry base x (outside (executed (within rom x) row reads)) × (row_faults (Some row) region (within rom x) reads ≡ no_faults)

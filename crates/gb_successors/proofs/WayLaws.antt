@@ -25,7 +25,7 @@ use Rattle.gb_domain.specs.Types.{AbsState}
 use Rattle.gb_product.specs.Below.gb_vals.Bits.{may_enable}
 use Rattle.gb_product.specs.Below.gb_abs.Located.{sp_bounds}
 use Rattle.gb_product.specs.Below.gb_abs.Operations.{core_settle, with_core, ime_set_after}
-use Rattle.gb_product.specs.Below.gb_abs.Meaning.{Holds, MeansCore, MeansParts, ime_may_be}
+use Rattle.gb_product.specs.Below.gb_abs.Meaning.{Activation, Holds, MeansCore, MeansParts, ime_may_be}
 use Rattle.gb_product.specs.Below.gb_abs.Stack.{AreInRegion}
 use Rattle.gb_product.specs.Below.gb_abs.Storage.{peek}
 use Rattle.gb_product.proofs.Below.gb_abs_laws.OperationLaws.{IsCore-settle}
@@ -113,7 +113,7 @@ taken_is k rom row next s b h told =
     ap (related_successor (relations_behind k rom row.op s (product_of b.core b.relations))) (taken_simply k rom row next s (product_of b.core b.relations) b.cell h told)
 
 Leads-behind :
-    (k : Stack) (rom : List ℕ) (ranges : List Range) (row : Row) (a : ℕ) (s : AbsState) (entry : MState) (base : ℕ) (x : MState) (reads : List ℕ) (b : Branch)
+    (k : Stack) (rom : List ℕ) (ranges : List Range) (row : Row) (a : ℕ) (s : AbsState) (entry : Activation) (base : ℕ) (x : MState) (reads : List ℕ) (b : Branch)
     → IsTaken k.setting rom k.region ranges row a (with_cell_if k.setting b.cell s) entry base x reads b.core → AreRelated b.relations (begun row x)
     → LeadsParts k.setting k.region ranges (simple_parts k.setting rom k.region row (behind_row a row) (with_cell_if k.setting b.cell s) b.core) entry base x (outside (executed (within rom x) row reads))
     → Leads k.setting k.region ranges (simple_taken k rom row (behind_row a row) s b) entry base x (outside (executed (within rom x) row reads))
@@ -129,7 +129,7 @@ stack_simply : (k : Stack) (rom : List ℕ) (row : Row) (a : ℕ) (s : AbsState)
 stack_simply k rom row a s base e h = subst (λ r. IsStackRuled r k rom row a s base) e h.stack
 
 executes_simply :
-    (k : Stack) (rom : List ℕ) (row : Row) (a : ℕ) (s : AbsState) (ranges : List Range) (entry : MState) (base : ℕ) (x : MState) (reads : List ℕ)
+    (k : Stack) (rom : List ℕ) (row : Row) (a : ℕ) (s : AbsState) (ranges : List Range) (entry : Activation) (base : ℕ) (x : MState) (reads : List ℕ)
     → k.setting.rules ≡ Simple → Stands k.setting rom k.region row a s entry base x → IsRuled k rom row a s base → x.processor.halt_mark ≡ false → slice_index reads 0 ≤ 255
     → Executes k rom ranges row a s (successors_of k rom row a s) entry base x reads
 executes_simply k rom row a s ranges entry base x reads simple stands ruled mark byte =
@@ -206,7 +206,7 @@ executes_simply k rom row a s ranges entry base x reads simple stands ruled mark
 -- ---- HALT
 
 -- an interrupt that is enabled is one that may be
-enabled_known : (v : Val) (entry : MState) (ie : ℕ) → Holds v entry ie → not (ie % 32 == 0) ≡ true → may_enable v ≡ true
+enabled_known : (v : Val) (entry : Activation) (ie : ℕ) → Holds v entry ie → not (ie % 32 == 0) ≡ true → may_enable v ≡ true
 unfolding may_enable
 enabled_known v entry ie h e =
     let least = h.least in
@@ -225,7 +225,7 @@ unfolding successors_of
 stays_at k rom row a s p is = ap (option_and_then (λ (q : Product). stays row a s)) is
 
 -- interrupts are on
-woken_core : (s : Core) (entry x : MState) → MeansCore s entry x → MeansCore (woken s) entry (record x { processor = record x.processor { ime = ime.On } })
+woken_core : (s : Core) (entry : Activation) (x : MState) → MeansCore s entry x → MeansCore (woken s) entry (record x { processor = record x.processor { ime = ime.On } })
 woken_core s entry x m = record {
   registers = m.registers;
   flags = m.flags;
@@ -238,7 +238,7 @@ woken_core s entry x m = record {
 }
 
 halt_stays :
-    (k : Stack) (rom : List ℕ) (row : Row) (a : ℕ) (s : AbsState) (ranges : List Range) (entry : MState) (base : ℕ) (x : MState)
+    (k : Stack) (rom : List ℕ) (row : Row) (a : ℕ) (s : AbsState) (ranges : List Range) (entry : Activation) (base : ℕ) (x : MState)
     → Stands k.setting rom k.region row a s entry base x → IsHalt row → x.processor.ime ≡ ime.Pending → has_enabled (within rom x) ≡ true
     → LeadsBy k.setting k.region ranges (length s.items) (successors_of k rom row a s).stays entry base x (outside (halt_stay (within rom x)))
 unfolding halt_stay within outside staying_successor ended
@@ -269,7 +269,7 @@ repeated x = record x { processor = record x.processor { pc = (x.processor.pc + 
 off_settled : (s : ImeSet) (i : Ime) → i ≡ ime.Off → ime_may_be s i ≡ true → ime_may_be (ime_set_after s) i ≡ true
 off_settled s i e h = subst (λ j. ime_may_be (ime_set_after s) j ≡ true) (sym e) (subst (λ j. ime_may_be s j ≡ true) e h)
 
-repeated_core : (s : Core) (entry x : MState) → x.processor.ime ≡ ime.Off → MeansCore s entry x → MeansCore (core_settle s) entry (repeated x)
+repeated_core : (s : Core) (entry : Activation) (x : MState) → x.processor.ime ≡ ime.Off → MeansCore s entry x → MeansCore (core_settle s) entry (repeated x)
 unfolding core_settle
 repeated_core s entry x off m = record {
   registers = m.registers;
@@ -296,7 +296,7 @@ halt_target z rom region row a s c halt = rw (halt.op_is, halt.length_is) refl
 
 -- what is known together stays
 halt_related :
-    (k : Stack) (rom : List ℕ) (row : Row) (a : ℕ) (s : AbsState) (entry : MState) (base : ℕ) (x y : MState)
+    (k : Stack) (rom : List ℕ) (row : Row) (a : ℕ) (s : AbsState) (entry : Activation) (base : ℕ) (x y : MState)
     → k.setting.rules ≡ Simple → Stands k.setting rom k.region row a s entry base x → IsHalt row → y.processor.registers ≡ x.processor.registers → y.processor.flags ≡ x.processor.flags
     → AreRelated (relations_behind k rom row.op s (product_of (core_settle s.core) s.relations)) y
 unfolding relations_behind compared_after comparison_of writes_a writes_flags written_registers
@@ -308,7 +308,7 @@ halt_related k rom row a s entry base x y simple stands halt registers flags =
     (subst (λ r. AreBytes r) (sym registers) (AreBytes-core s.core entry x stands.core stands.means.parts.core))
 
 halt_repeats_simply :
-    (k : Stack) (rom : List ℕ) (row : Row) (a : ℕ) (s : AbsState) (ranges : List Range) (entry : MState) (base : ℕ) (x : MState)
+    (k : Stack) (rom : List ℕ) (row : Row) (a : ℕ) (s : AbsState) (ranges : List Range) (entry : Activation) (base : ℕ) (x : MState)
     → k.setting.rules ≡ Simple → Stands k.setting rom k.region row a s entry base x → IsHalt row → x.processor.ime ≡ ime.Off → x.processor.halt_mark ≡ false
     → LeadsBy k.setting k.region ranges (length s.items) (successors_of k rom row a s).taken entry base x (outside (halt_bug (within rom x)))
 unfolding halt_bug within outside with_cell_if
@@ -343,7 +343,7 @@ halt_repeats_simply k rom row a s ranges entry base x simple stands halt off mar
 -- ---- by any rules
 
 executes :
-    (k : Stack) (rom : List ℕ) (row : Row) (a : ℕ) (s : AbsState) (ranges : List Range) (entry : MState) (base : ℕ) (x : MState) (reads : List ℕ)
+    (k : Stack) (rom : List ℕ) (row : Row) (a : ℕ) (s : AbsState) (ranges : List Range) (entry : Activation) (base : ℕ) (x : MState) (reads : List ℕ)
     → Stands k.setting rom k.region row a s entry base x → IsRuled k rom row a s base → x.processor.halt_mark ≡ false → slice_index reads 0 ≤ 255
     → Executes k rom ranges row a s (successors_of k rom row a s) entry base x reads
 executes k rom row a s ranges entry base x reads stands ruled mark byte = by k.setting.rules refl
@@ -353,7 +353,7 @@ executes k rom row a s ranges entry base x reads stands ruled mark byte = by k.s
     by Extended e = executes_widely k rom row a s ranges entry base x reads e stands ruled mark byte
 
 halt_repeats :
-    (k : Stack) (rom : List ℕ) (row : Row) (a : ℕ) (s : AbsState) (ranges : List Range) (entry : MState) (base : ℕ) (x : MState)
+    (k : Stack) (rom : List ℕ) (row : Row) (a : ℕ) (s : AbsState) (ranges : List Range) (entry : Activation) (base : ℕ) (x : MState)
     → Stands k.setting rom k.region row a s entry base x → IsHalt row → x.processor.ime ≡ ime.Off → x.processor.halt_mark ≡ false
     → LeadsBy k.setting k.region ranges (length s.items) (successors_of k rom row a s).taken entry base x (outside (halt_bug (within rom x)))
 halt_repeats k rom row a s ranges entry base x stands halt off mark = by k.setting.rules refl

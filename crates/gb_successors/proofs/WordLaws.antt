@@ -32,7 +32,7 @@ no_other h = cc
 pub record IsPush (z : Setting) (o : Op) (next : ℕ) (sp : Halves) (c : Core) (low high : Val) : Type 0 where
   pub first : Val
   pub second : Val
-  pub write_is : (transfer o next sp c low high).write ≡ write.Push first second
+  pub write_is : (transfer z.is_whole o next sp c low high).write ≡ write.Push first second
   pub read_is : read_of o c ≡ read.Nothing
   pub target_is : target_of o next c ≡ target.At next
   pub leaves : (s : AbsState) → with_stack_of z o (write.Push first second) s ≡ pushed_if_room z (record { high = first; low = second }) s
@@ -45,7 +45,7 @@ IsPush-is_push z o next sp c low high h = absurd (no_other h)
 -- a call
 pub record IsCall (z : Setting) (o : Op) (next : ℕ) (sp : Halves) (c : Core) (low high : Val) : Type 0 where
   pub address : ℕ
-  pub write_is : (transfer o next sp c low high).write ≡ write.Push (single (next / 256)) (single (next % 256))
+  pub write_is : (transfer z.is_whole o next sp c low high).write ≡ write.Push (single (next / 256)) (single (next % 256))
   pub read_is : read_of o c ≡ read.Nothing
   pub target_is : target_of o next c ≡ target.Call address
   pub leaves : (w : AbsWrite) (s : AbsState) → with_stack_of z o w s ≡ s
@@ -59,7 +59,7 @@ IsCall-is_call z o next sp c low high h = absurd (no_other h)
 
 -- POP
 pub record IsPop (z : Setting) (o : Op) (next : ℕ) (sp : Halves) (c : Core) (low high : Val) : Type 0 where
-  pub write_is : (transfer o next sp c low high).write ≡ write.Nothing
+  pub write_is : (transfer z.is_whole o next sp c low high).write ≡ write.Nothing
   pub read_is : read_of o c ≡ read.Top
   pub target_is : target_of o next c ≡ target.At next
   pub leaves : (w : AbsWrite) (s : AbsState) → with_stack_of z o w s ≡ popped s
@@ -71,7 +71,7 @@ IsPop-is_pop z o next sp c low high h = absurd (no_other h)
 
 -- a return
 pub record IsReturn (z : Setting) (o : Op) (next : ℕ) (sp : Halves) (c : Core) (low high : Val) : Type 0 where
-  pub write_is : (transfer o next sp c low high).write ≡ write.Nothing
+  pub write_is : (transfer z.is_whole o next sp c low high).write ≡ write.Nothing
   pub read_is : read_of o c ≡ read.Top
   pub target_is : target_of o next c ≡ target.Return
   pub leaves : (w : AbsWrite) (s : AbsState) → with_stack_of z o w s ≡ s

@@ -102,11 +102,11 @@ moved_by (Some m) what s = moved_state m.stack m.kind m.cell m.stack_move what s
 abbrev pub state_behind : Option Moved → AbsWrite → Core → Relations → AbsState → AbsState
 state_behind m what core r s = with_relations r (with_core (moved_by m what s) core)
 
--- what a write makes of the core
-unfoldable pub written_core : Kind → AbsWrite → Core → Core
-written_core k (write.Byte span v) core = stored_core k span v core
-written_core k (write.Word a low high) core = stored_core k (one (behind a)) high (stored_core k (one a) low core)
-written_core k _ core = core
+-- what a write makes of the core; whole says that the rules are those of version 4
+unfoldable pub written_core : Bool → Kind → AbsWrite → Core → Core
+written_core whole k (write.Byte span v) core = stored_core whole k span v core
+written_core whole k (write.Word a low high) core = stored_core whole k (one (behind a)) high (stored_core whole k (one a) low core)
+written_core whole k _ core = core
 
-unfoldable pub core_behind : Kind → StackMove → ℕ → AbsWrite → Core → Core
-core_behind k m n what core = core_end (starts what) n (written_core k what (moved_core m core))
+unfoldable pub core_behind : Bool → Kind → StackMove → ℕ → AbsWrite → Core → Core
+core_behind whole k m n what core = core_end (starts what) n (written_core whole k what (moved_core m core))

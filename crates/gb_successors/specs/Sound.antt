@@ -26,7 +26,7 @@ use Rattle.gb_domain.specs.Settings.{IsBase}
 use Rattle.gb_product.specs.Below.gb_abs.Storage.{peek}
 use Rattle.gb_product.specs.Below.gb_abs.Cells.{ArePlaced}
 use Rattle.gb_product.specs.Below.gb_abs.Stack.{AreInRegion, pushed}
-use Rattle.gb_product.specs.Below.gb_abs.Meaning.{MeansParts, origin_value}
+use Rattle.gb_product.specs.Below.gb_abs.Meaning.{Activation, MeansParts, origin_value}
 use Rattle.gb_product.specs.Below.gb_abs_effects.declared.targets.Target.{Target}
 use Rattle.gb_product.specs.Below.gb_abs_effects.declared.targets.Target.TheVariants as target
 use Rattle.gb_product.specs.Below.gb_abs_effects.Sound.{HasBytes}
@@ -164,13 +164,13 @@ pub record IsAllowed (z : Setting) (rom : List ℕ) (region : Region) (ranges : 
 -- ---- where successors lead
 
 -- the machine stands in the same procedure at an address
-pub record StaysAt (region : Region) (a : ℕ) (t : Successor) (entry : MState) (base : ℕ) (y : MState) : Type 0 where
+pub record StaysAt (region : Region) (a : ℕ) (t : Successor) (entry : Activation) (base : ℕ) (y : MState) : Type 0 where
   pub means : MeansParts t.state entry base y
   pub goes : y.processor.pc ≡ a
   pub room : AreInRegion region base (length t.state.items)
 
 -- the machine has called: the word of the address behind the call is on its stack
-pub record CallsAt (region : Region) (a : ℕ) (t : Successor) (entry : MState) (base : ℕ) (y : MState) : Type 0 where
+pub record CallsAt (region : Region) (a : ℕ) (t : Successor) (entry : Activation) (base : ℕ) (y : MState) : Type 0 where
   pub means : MeansParts (pushed (known_word t.next) t.state) entry base y
   pub next : t.next < 65536
   pub goes : y.processor.pc ≡ a
@@ -178,19 +178,19 @@ pub record CallsAt (region : Region) (a : ℕ) (t : Successor) (entry : MState) 
   pub placed : ArePlaced region t.state.cells
 
 -- from x to y the machine has returned to the word at the base, which is off the stack
-pub record ReturnsTo (t : Successor) (entry : MState) (base : ℕ) (x y : MState) : Type 0 where
+pub record ReturnsTo (t : Successor) (entry : Activation) (base : ℕ) (x y : MState) : Type 0 where
   pub means : MeansParts t.state entry (base + 2) y
   pub goes : y.processor.pc ≡ word (peek x.storage (base + 1)) (peek x.storage base)
 
 -- by the rules of versions 1 and 2 nothing is said of a jump to somewhere, nor of what version 3 alone follows
-abbrev pub LeadsSimply : Region → Target → Successor → MState → ℕ → MState → MState → Type 0
+abbrev pub LeadsSimply : Region → Target → Successor → Activation → ℕ → MState → MState → Type 0
 LeadsSimply region (target.At a) t entry base x y = StaysAt region a t entry base y
 LeadsSimply region (target.Call a) t entry base x y = CallsAt region a t entry base y
 LeadsSimply region target.Return t entry base x y = ReturnsTo t entry base x y
 LeadsSimply region _ t entry base x y = Unit {0}
 
 -- the machine has called: the address behind the call is on top of its stack, and among what the procedure holds
-pub record CalledAt (region : Region) (a : ℕ) (t : Successor) (entry : MState) (base : ℕ) (y : MState) : Type 0 where
+pub record CalledAt (region : Region) (a : ℕ) (t : Successor) (entry : Activation) (base : ℕ) (y : MState) : Type 0 where
   pub means : MeansParts t.state entry base y
   pub goes : y.processor.pc ≡ a
   pub room : AreInRegion region base (length t.state.items)
@@ -200,7 +200,7 @@ pub record CalledAt (region : Region) (a : ℕ) (t : Successor) (entry : MState)
   pub placed : ArePlaced region t.state.cells
 
 -- the machine has gone back to the word that was pushed as the procedure was entered, which isn't main
-pub record ReturnsBy (z : Setting) (region : Region) (t : Successor) (entry : MState) (base : ℕ) (y : MState) : Type 0 where
+pub record ReturnsBy (z : Setting) (region : Region) (t : Successor) (entry : Activation) (base : ℕ) (y : MState) : Type 0 where
   pub means : MeansParts t.state entry base y
   pub goes : y.processor.pc ≡ word (origin_value ReturnHigh entry) (origin_value ReturnLow entry)
   pub room : AreInRegion region base (length t.state.items)
@@ -208,19 +208,19 @@ pub record ReturnsBy (z : Setting) (region : Region) (t : Successor) (entry : MS
 
 -- main begins anew: nothing that is known is a copy of what stood somewhere at entry
 pub record BeginsAnew (region : Region) (a : ℕ) (t : Successor) (y : MState) : Type 0 where
-  pub means : (entry : MState) → MeansParts t.state entry (region.last + 1) y
+  pub means : (entry : Activation) → MeansParts t.state entry (region.last + 1) y
   pub goes : y.processor.pc ≡ a
   pub room : AreInRegion region (region.last + 1) (length t.state.items)
 
 -- by the rules of version 3
-abbrev pub LeadsWidely : Setting → Region → Target → Successor → MState → ℕ → MState → Type 0
+abbrev pub LeadsWidely : Setting → Region → Target → Successor → Activation → ℕ → MState → Type 0
 LeadsWidely z region (target.At a) t entry base y = StaysAt region a t entry base y
 LeadsWidely z region (target.Call a) t entry base y = CalledAt region a t entry base y
 LeadsWidely z region target.Return t entry base y = ReturnsBy z region t entry base y
 LeadsWidely z region (target.Main a) t entry base y = BeginsAnew region a t y
 LeadsWidely z region _ t entry base y = Unit {0}
 
-abbrev pub LeadsTo : Rules → Setting → Region → Target → Successor → MState → ℕ → MState → MState → Type 0
+abbrev pub LeadsTo : Rules → Setting → Region → Target → Successor → Activation → ℕ → MState → MState → Type 0
 LeadsTo Simple z region w t entry base x y = LeadsSimply region w t entry base x y
 LeadsTo Extended z region w t entry base x y = LeadsWidely z region w t entry base y
 
@@ -233,18 +233,18 @@ is_followed Extended (target.Main a) = true
 is_followed rules _ = true
 
 -- each part of the states behind by itself: an event leads from x to y by the successor, and leaves what the procedure keeps
-pub record LeadsParts (z : Setting) (region : Region) (ranges : List Range) (t : Successor) (entry : MState) (base : ℕ) (x y : MState) : Type 0 where
+pub record LeadsParts (z : Setting) (region : Region) (ranges : List Range) (t : Successor) (entry : Activation) (base : ℕ) (x y : MState) : Type 0 where
   pub to : LeadsTo z.rules z region t.target t entry base x y
   pub kept : (b : ℕ) → IsKept z region ranges base b → peek y.storage b ≡ peek x.storage b
 
 -- so it does, and what is known together of the states behind holds of y, where it is said where that is
-pub record Leads (z : Setting) (region : Region) (ranges : List Range) (t : Successor) (entry : MState) (base : ℕ) (x y : MState) : Type 0 where
+pub record Leads (z : Setting) (region : Region) (ranges : List Range) (t : Successor) (entry : Activation) (base : ℕ) (x y : MState) : Type 0 where
   pub to : LeadsTo z.rules z region t.target t entry base x y
   pub kept : (b : ℕ) → IsKept z region ranges base b → peek y.storage b ≡ peek x.storage b
   pub related : is_followed z.rules t.target ≡ true → AreRelated t.state.relations y
 
 -- the machine stands before an instruction at an address, in a state that s means
-pub record Stands (z : Setting) (rom : List ℕ) (region : Region) (row : Row) (a : ℕ) (s : AbsState) (entry : MState) (base : ℕ) (x : MState) : Type 0 where
+pub record Stands (z : Setting) (rom : List ℕ) (region : Region) (row : Row) (a : ℕ) (s : AbsState) (entry : Activation) (base : ℕ) (x : MState) : Type 0 where
   pub cartridge : IsRom rom
   pub is_region : IsRegion region
   pub core : IsCore s.core
@@ -267,7 +267,7 @@ pub record IsRuled (k : Stack) (rom : List ℕ) (row : Row) (a : ℕ) (s : AbsSt
 
 -- where the HALT mark is clear, an instruction that is executed leads by one of the successors, if nothing is against that
 -- one's accesses, and then without a fault
-pub record Executes (k : Stack) (rom : List ℕ) (ranges : List Range) (row : Row) (a : ℕ) (s : AbsState) (ss : Successors) (entry : MState) (base : ℕ) (x : MState) (reads : List ℕ) : Type 0 where
+pub record Executes (k : Stack) (rom : List ℕ) (ranges : List Range) (row : Row) (a : ℕ) (s : AbsState) (ss : Successors) (entry : Activation) (base : ℕ) (x : MState) (reads : List ℕ) : Type 0 where
   pub successor : Successor
   pub is_one : IsOneOf ss successor
   pub leads : IsAllowed k.setting rom k.region ranges s base successor → Leads k.setting k.region ranges successor entry base x (outside (executed (within rom x) row reads))
@@ -276,7 +276,7 @@ pub record Executes (k : Stack) (rom : List ℕ) (ranges : List Range) (row : Ro
   pub faults : IsAllowed k.setting rom k.region ranges s base successor → row_faults (Some row) k.region (within rom x) reads ≡ no_faults
 
 -- an event leads by a successor, which holds no more than so many bytes
-pub record LeadsBy (z : Setting) (region : Region) (ranges : List Range) (bytes : ℕ) (way : Option Successor) (entry : MState) (base : ℕ) (x y : MState) : Type 0 where
+pub record LeadsBy (z : Setting) (region : Region) (ranges : List Range) (bytes : ℕ) (way : Option Successor) (entry : Activation) (base : ℕ) (x y : MState) : Type 0 where
   pub successor : Successor
   pub is_way : way ≡ Some successor
   pub held : length successor.state.items ≤ bytes
@@ -293,14 +293,14 @@ pub record IsHalt (row : Row) : Type 0 where
 -- Then, with IME pending, the processor stays on it; with IME off the byte behind it will be read twice.
 pub record AreSoundSuccessors (k : Stack) (rom : List ℕ) (row : Row) (a : ℕ) (s : AbsState) (ss : Successors) : Type 0 where
   pub executes :
-      (ranges : List Range) (entry : MState) (base : ℕ) (x : MState) (reads : List ℕ)
+      (ranges : List Range) (entry : Activation) (base : ℕ) (x : MState) (reads : List ℕ)
       → Stands k.setting rom k.region row a s entry base x → IsRuled k rom row a s base → x.processor.halt_mark ≡ false → slice_index reads 0 ≤ 255
       → Executes k rom ranges row a s ss entry base x reads
   pub stays :
-      (ranges : List Range) (entry : MState) (base : ℕ) (x : MState)
+      (ranges : List Range) (entry : Activation) (base : ℕ) (x : MState)
       → Stands k.setting rom k.region row a s entry base x → IsHalt row → x.processor.ime ≡ ime.Pending → has_enabled (within rom x) ≡ true
       → LeadsBy k.setting k.region ranges (length s.items) ss.stays entry base x (outside (halt_stay (within rom x)))
   pub repeats :
-      (ranges : List Range) (entry : MState) (base : ℕ) (x : MState)
+      (ranges : List Range) (entry : Activation) (base : ℕ) (x : MState)
       → Stands k.setting rom k.region row a s entry base x → IsHalt row → x.processor.ime ≡ ime.Off → x.processor.halt_mark ≡ false
       → LeadsBy k.setting k.region ranges (length s.items) ss.taken entry base x (outside (halt_bug (within rom x)))

@@ -55,7 +55,7 @@ unfoldable pub effect_in : Stack → List ℕ → Op → ℕ → AbsState → Pr
 effect_in k rom o next s p =
     let word = word_in k rom o s p in
     refined (pointer_in k o p) (known_carry k.setting.rules o (sp_bounds k.setting s) p.core.registers p.relations.pairs)
-    (transfer o next (sp_halves k.setting s) p.core word.low word.high)
+    (transfer k.setting.is_whole o next (sp_halves k.setting s) p.core word.low word.high)
 
 -- what that does to the stack
 unfoldable pub taken_move : Stack → List ℕ → Row → ℕ → AbsState → Product → StackMove
@@ -73,7 +73,7 @@ taken_parts k rom row next s p cell =
       target =
           refined_target k.setting.rules k.setting row.op next (word_in k rom row.op s p) p.core (pointer_in k row.op p) m (target_of row.op next p.core);
       next = next;
-      state = with_core (moved_state k (kind_of rom) cell m effect.write s) (core_behind (kind_of rom) m row.cycles effect.write effect.core);
+      state = with_core (moved_state k (kind_of rom) cell m effect.write s) (core_behind k.setting.is_whole (kind_of rom) m row.cycles effect.write effect.core);
     }
 
 -- the same states, of which something else is known together

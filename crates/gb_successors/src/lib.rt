@@ -26,7 +26,7 @@ pub use gb_domain::pairs::{
 pub use gb_domain::places::{NO_REGISTER, OneByte, Test};
 pub use gb_domain::relations::Relations;
 pub use gb_domain::types::{
-    Abs, Cell, Core, Ctl, Flg, ImeSet, May, Origin, RANGES, Range, Rules, Setting, Val,
+    Abs, Cell, Core, Ctl, Flg, ImeSet, KeptBanks, May, Origin, RANGES, Range, Rules, Setting, Val,
 };
 pub use gb_product::covering::covers;
 pub use gb_product::parts::Product;

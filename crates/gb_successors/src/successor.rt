@@ -136,14 +136,20 @@ fn move_of(
 
 /// The core behind a write.
 #[tactic(auto, unfolding(crate::specs::Behind::written_core))]
-fn write_core(kind: Kind, write: AbsWrite, core: &mut Core)
-    ensures { core.new ≡ Behind.written_core kind write core.old }
+fn write_core(is_whole: bool, kind: Kind, write: AbsWrite, core: &mut Core)
+    ensures { core.new ≡ Behind.written_core is_whole kind write core.old }
 {
     match write {
-        AbsWrite::Byte(span, val) => store_in_core(kind, span, &val, core),
+        AbsWrite::Byte(span, val) => store_in_core(is_whole, kind, span, &val, core),
         AbsWrite::Word(address, low, high) => {
-            store_in_core(kind, Span::one(address), &low, core);
-            store_in_core(kind, Span::one(address.wrapping_add(1)), &high, core);
+            store_in_core(is_whole, kind, Span::one(address), &low, core);
+            store_in_core(
+                is_whole,
+                kind,
+                Span::one(address.wrapping_add(1)),
+                &high,
+                core,
+            );
         }
         AbsWrite::Nothing | AbsWrite::Push { .. } => {}
     }
@@ -152,11 +158,18 @@ fn write_core(kind: Kind, write: AbsWrite, core: &mut Core)
 /// The core behind an instruction, of its effect.
 #[inline(always)]
 #[tactic(auto, unfolding(crate::specs::Behind::core_behind))]
-fn end_core(kind: Kind, stack_move: StackMove, cycles: u8, write: AbsWrite, core: &mut Core)
-    ensures { core.new ≡ Behind.core_behind kind stack_move cycles write core.old }
+fn end_core(
+    is_whole: bool,
+    kind: Kind,
+    stack_move: StackMove,
+    cycles: u8,
+    write: AbsWrite,
+    core: &mut Core,
+)
+    ensures { core.new ≡ Behind.core_behind is_whole kind stack_move cycles write core.old }
 {
     move_core(stack_move, core);
-    write_core(kind, write, core);
+    write_core(is_whole, kind, write, core);
     pass(starts(write), cycles, core);
 }
 
@@ -209,6 +222,7 @@ fn successor_by<'a>(
     let sp = sp_bounds(setting, state);
     let read = cut_read(pointer, read_of(op, core));
     let inputs = Inputs {
+        is_whole: setting.is_whole,
         next,
         sp: sp_halves(setting, state),
         word: read_word(setting, taken.rom, state, core, read),
@@ -224,6 +238,7 @@ fn successor_by<'a>(
     let kind = taken.rom.kind();
     let moved = move_of(stack, kind, taken.cell, stack_move, effect.write);
     end_core(
+        setting.is_whole,
         kind,
         stack_move,
         taken.row.cycles,

@@ -2,9 +2,13 @@ pub mod AluLaws
 pub mod BitLaws
 pub mod BranchLaws
 pub mod CarryLaws
+pub mod CuttingLaws
 pub mod DaaLaws
 pub mod FlagLaws
 pub mod LogicLaws
+pub mod LowLogicLaws
+pub mod LowShiftLaws
+pub mod LowSumLaws
 pub mod MeaningLaws
 pub mod OriginLaws
 pub mod ShiftLaws

@@ -1,12 +1,17 @@
 pub mod Alu
 pub mod Bits
 pub mod Carry
+pub mod Congruence
 pub mod Daa
 pub mod Flags
 pub mod Logic
+pub mod LowLogic
+pub mod LowShifts
+pub mod LowSums
 pub mod Meaning
 pub mod Outcomes
 pub mod Shifts
+pub mod Strided
 pub mod Sums
 pub mod Tests
 pub mod Vals

@@ -3,6 +3,7 @@ use Rattle.std.proofs.Common.{◌≡◌, ℕ, Bool, true, false, List, Option, S
 use Rattle.std.proofs.lemmas.List.Elements.{All-contains}
 use Rattle.gb_ops.specs.declared.machine.Event.{Event}
 use Rattle.gb_ops.specs.Play.{MState}
+use Rattle.gb_rules.specs.Below.gb_abs.Meaning.{Activation}
 use Rattle.gb_rules.specs.Below.gb_domain.Types.{Node}
 use Rattle.gb_rules.specs.Below.gb_domain.Certificate.{Certificate}
 use Rattle.gb_rules.specs.Below.gb_states.Rules.{IsCertificate}
@@ -27,7 +28,7 @@ unfolding reason_against
 right_node rom cert n h = right_reason (reason_of rom cert n) (lacks_handler cert n) h
 
 -- one event, from a state that a node of a right certificate means
-pub IsSafeEvent-right : (rom : List ℕ) (cert : Certificate) (procedure : ℕ) (entry : MState) (base : ℕ) (s : MState) (e : Event) → IsRom rom → IsCertificate cert → IsRight rom cert
+pub IsSafeEvent-right : (rom : List ℕ) (cert : Certificate) (procedure : ℕ) (entry : Activation) (base : ℕ) (s : MState) (e : Event) → IsRom rom → IsCertificate cert → IsRight rom cert
     → IsMeant rom cert procedure entry base s → IsSafeEvent rom cert procedure entry base s e
 IsSafeEvent-right rom cert procedure entry base s e cartridge certificate right m =
     let p = right_node rom cert m.node (All-contains (λ n. reason_against rom cert n ≡ None) cert.nodes m.node right.nodes m.is_node) in

@@ -20,7 +20,7 @@ use Rattle.gb_rules.specs.Below.gb_domain.Values.{have_same}
 use Rattle.gb_rules.specs.Below.gb_states.Rules.{IsCertificate, is_of, have_entries}
 use Rattle.gb_rules.specs.Below.gb_domain.Certificate.{Certificate}
 use Rattle.gb_rules.specs.Below.gb_abs.Storage.{peek, peek_by}
-use Rattle.gb_rules.specs.Below.gb_abs.Meaning.{Holds, HoldsFlags, MeansCore, MeansParts, IsMemory, origin_value, ime_may_be}
+use Rattle.gb_rules.specs.Below.gb_abs.Meaning.{Activation, Holds, HoldsFlags, MeansCore, MeansParts, IsMemory, origin_value, ime_may_be}
 use Rattle.gb_rules.specs.Below.gb_vals.Flags.{known}
 use Rattle.gb_rules.specs.Below.gb_vals.Meaning.{may_be}
 use Rattle.gb_rules.proofs.Below.gb_vals_laws.MeaningLaws.{known-may_be}
@@ -32,7 +32,7 @@ use Rattle.gb_rules.proofs.Below.gb_product_laws.MeaningLaws.{HoldRelations-noth
 use Rattle.gb_rules.specs.Below.gb_domain.Limits.{rules_of}
 use Rattle.gb_rules.specs.Below.gb_domain.Settings.{IsBase}
 use Rattle.gb_rules.specs.Procedures.{need_of, setting_of}
-use Rattle.gb_rules.specs.Safety.{IsMeant}
+use Rattle.gb_rules.specs.Safety.{begun, IsMeant}
 use Rattle.gb_rules.proofs.SearchLaws.{Contains-slice_get}
 use Rattle.gb_rules.proofs.CoveringLaws.{covered_items}
 use Rattle.gb_rules.proofs.ProcedureLaws.{HasReturnWord-main, main_based, main_room}
@@ -48,12 +48,12 @@ least x m h = omega arith
 most : (x m : ℕ) → x ≡ m → x ≤ m
 most x m h = omega arith
 
-Holds-own : (v : Val) (entry : MState) (x : ℕ) (o : Origin) → v.lo ≡ x → v.hi ≡ x → v.origin ≡ Some o → x ≡ origin_value o entry → v.low_bits ≡ 0 → Holds v entry x
+Holds-own : (v : Val) (entry : Activation) (x : ℕ) (o : Origin) → v.lo ≡ x → v.hi ≡ x → v.origin ≡ Some o → x ≡ origin_value o entry → v.low_bits ≡ 0 → Holds v entry x
 Holds-own v entry x o l h e s none =
     record { least = omega arith; most = omega arith; low = subst (λ n. have_same n x v.lo ≡ true) (sym none) refl; origin = λ q i. let j : o ≡ q = same_Some _ _ (sym e ∙ i) in s ∙ ap (λ p. origin_value p entry) j }
 
 Holds-start : (rom : List ℕ) (cert : Certificate) (s : MState) (r : Register) → s.processor ≡ processor_at_power_up rom
-    → Holds (get r (core_at_power_up rom cert.region).registers) s (get r s.processor.registers)
+    → Holds (get r (core_at_power_up rom cert.region).registers) (begun s) (get r s.processor.registers)
 unfolding core_at_power_up processor_at_power_up
 Holds-start rom cert s A h = let e = sym (ap (λ p. p.registers.a) h) in Holds-own _ _ _ origin.A e e refl refl refl
 Holds-start rom cert s B h = let e = sym (ap (λ p. p.registers.b) h) in Holds-own _ _ _ origin.B e e refl refl refl
@@ -64,7 +64,7 @@ Holds-start rom cert s H h = let e = sym (ap (λ p. p.registers.h) h) in Holds-o
 Holds-start rom cert s L h = let e = sym (ap (λ p. p.registers.l) h) in Holds-own _ _ _ origin.L e e refl refl refl
 
 HoldsFlags-start : (rom : List ℕ) (cert : Certificate) (s : MState) → s.processor ≡ processor_at_power_up rom
-    → HoldsFlags (core_at_power_up rom cert.region).flags s s.processor.flags
+    → HoldsFlags (core_at_power_up rom cert.region).flags (begun s) s.processor.flags
 unfolding core_at_power_up processor_at_power_up
 HoldsFlags-start rom cert s h =
     let others : Bool = not (slice_index rom 0x14D == 0) in
@@ -76,7 +76,7 @@ HoldsFlags-start rom cert s h =
       own = λ e. refl;
     }
 
-MeansCore-at_start : (rom : List ℕ) (cert : Certificate) (s : MState) → IsStart rom s → MeansCore (core_at_power_up rom cert.region) s s
+MeansCore-at_start : (rom : List ℕ) (cert : Certificate) (s : MState) → IsStart rom s → MeansCore (core_at_power_up rom cert.region) (begun s) s
 unfolding core_at_power_up processor_at_power_up
 MeansCore-at_start rom cert s h =
     record {
@@ -91,7 +91,7 @@ MeansCore-at_start rom cert s h =
         second_most = most s.storage.banks.second 0 (ap (λ c. c.second) h.banks);
         gate = ap (λ c. may_be (known false) c.gate) h.banks;
         mode = ap (λ c. may_be (known false) c.mode) h.banks;
-        kept = λ e. refl;
+        kept = record { bank = λ e. refl; second = λ e. refl; gate = λ e. refl; mode = λ e. refl; high_bank = λ e. refl };
       };
       count = most s.storage.count 0 h.count;
       locked = ap (λ p. p.locked) h.processor;
@@ -131,7 +131,7 @@ stack_start last h = let e : last ≡ 0xFFFD = eqb-true last 0xFFFD h in omega a
 small_start : (sp : ℕ) → sp ≡ 0xFFFE → sp < 65536
 small_start sp h = omega arith
 
-MeansParts-start : (rom : List ℕ) (cert : Certificate) (s : MState) → IsStart rom s → MeansParts (state_at_power_up rom cert.region) s (main_base cert) s
+MeansParts-start : (rom : List ℕ) (cert : Certificate) (s : MState) → IsStart rom s → MeansParts (state_at_power_up rom cert.region) (begun s) (main_base cert) s
 unfolding core_at_power_up processor_at_power_up
 MeansParts-start rom cert s h =
     record {
@@ -156,7 +156,7 @@ register_start rom s E h = byte_start _ 0xD8 (ap (λ p. p.registers.e) h) (omega
 register_start rom s H h = byte_start _ 0x01 (ap (λ p. p.registers.h) h) (omega arith)
 register_start rom s L h = byte_start _ 0x4D (ap (λ p. p.registers.l) h) (omega arith)
 
-Means-start : (rom : List ℕ) (cert : Certificate) (s : MState) → IsStart rom s → Means (state_at_power_up rom cert.region) s (main_base cert) s
+Means-start : (rom : List ℕ) (cert : Certificate) (s : MState) → IsStart rom s → Means (state_at_power_up rom cert.region) (begun s) (main_base cert) s
 Means-start rom cert s h =
     record {
       parts = MeansParts-start rom cert s h;
@@ -198,7 +198,7 @@ main_entry_node cert n c at = by cert.procedures c.some_procedure c.entries at
     by (p ∷ ps) lt h e = is_of_main (slice_get cert.nodes p.entry) n e (and_parts _ _ h).0
 
 IsMeant-entry : (rom : List ℕ) (cert : Certificate) (o : Option Node) (s : MState) → IsCertificate cert → ((n : Node) → o ≡ Some n → Contains cert.nodes n) → ((n : Node) → o ≡ Some n → n.procedure ≡ 0)
-    → is_bad_node rom cert o ≡ false → IsStart rom s → IsMeant rom cert 0 s (main_base cert) s
+    → is_bad_node rom cert o ≡ false → IsStart rom s → IsMeant rom cert 0 (begun s) (main_base cert) s
 IsMeant-entry rom cert None s c f g h i = not_so h
 IsMeant-entry rom cert (Some n) s c f g h i =
     let p = or_parts _ _ h in
@@ -221,7 +221,7 @@ IsMeant-entry rom cert (Some n) s c f g h i =
     }
 
 -- a start is meant by main's entry
-pub IsMeant-start : (rom : List ℕ) (cert : Certificate) (s : MState) → IsCertificate cert → is_bad_entry rom cert ≡ false → IsStart rom s → IsMeant rom cert 0 s (main_base cert) s
+pub IsMeant-start : (rom : List ℕ) (cert : Certificate) (s : MState) → IsCertificate cert → is_bad_entry rom cert ≡ false → IsStart rom s → IsMeant rom cert 0 (begun s) (main_base cert) s
 unfolding is_bad_entry
 IsMeant-start rom cert s c good start =
     IsMeant-entry rom cert (slice_get cert.nodes (main_entry cert)) s c (Contains-slice_get cert.nodes (main_entry cert)) (λ n at. main_entry_node cert n c at) good start

@@ -219,7 +219,7 @@ same_return cert version rules procedure t = by t.target
 same_setting : (cert : Certificate) (version procedure : ℕ) → rules_of version ≡ rules_of cert.version → setting_of (other cert version) procedure ≡ setting_of cert procedure
 unfolding setting_of
 same_setting cert version procedure e =
-    let with : Rules → Setting = λ rules. record { rules = rules; is_main = procedure == 0; base = base_in (slice_get cert.procedures procedure) } in
+    let with : Rules → Setting = λ rules. record { rules = rules; is_whole = false; is_main = procedure == 0; base = base_in (slice_get cert.procedures procedure) } in
     ap with e
 
 same_stack : (cert : Certificate) (version procedure : ℕ) → rules_of version ≡ rules_of cert.version → stack_of (other cert version) procedure ≡ stack_of cert procedure

@@ -18,7 +18,7 @@ use Rattle.gb_rules.specs.Below.gb_domain.Values.{have_same}
 use Rattle.gb_rules.specs.Below.gb_fields.Limits.{unit, node_limit, range_room}
 use Rattle.gb_rules.specs.Below.gb_states.declared.role.Role.{Role}
 use Rattle.gb_rules.specs.Below.gb_states.declared.role.Role.TheVariants as role
-use Rattle.gb_rules.specs.Below.gb_states.Rules.{is_whole, may_be_pushed, may_be_of, is_sayable, are_sayable, is_core_sayable, is_cell_sayable, is_state_sayable, IsState, IsProcedure, IsNode, IsCertificate, is_of, have_entries, is_after, key}
+use Rattle.gb_rules.specs.Below.gb_states.Rules.{is_whole, may_be_pushed, is_return_origin, is_declared_origin, is_all_or_none, may_be_of, is_sayable, are_sayable, is_core_sayable, is_cell_sayable, is_state_sayable, IsState, IsProcedure, IsNode, IsCertificate, is_of, have_entries, is_after, key}
 use Rattle.gb_rules.proofs.Below.gb_states_laws.StateLaws.{limit_bound}
 use Rattle.gb_verify.specs.Widened.{return_word, above_return_word, widened_node, widened_need, widened_procedure, widened_procedures, widened_by, widened}
 
@@ -31,8 +31,14 @@ any_whole n = grind (arith, nat_tests)
 both : {a b : Bool} → a ≡ true → b ≡ true → (a && b) ≡ true
 both e f = rw (e, f) refl
 
+neither : (a b : Bool) → not (a || b) ≡ true → not b ≡ true
+neither true b h = cc
+neither false b h = h
+
 val_sayable : (v : Val) → is_sayable Simple v ≡ true → is_sayable Extended v ≡ true
-val_sayable v h = (and_parts (may_be_of Simple v.origin) (v.low_bits == 0) h).1
+val_sayable v h =
+    let p = and_parts (may_be_of Simple v.origin) (v.low_bits == 0) h in
+    both (neither (is_return_origin v.origin) (is_declared_origin v.origin) p.0) p.1
 
 vals_sayable : (vs : List Val) → list_all (is_sayable Simple) vs ≡ true → list_all (is_sayable Extended) vs ≡ true
 vals_sayable [] h = refl
@@ -60,9 +66,10 @@ registers_sayable s h =
 sayable : (s : AbsState) → is_state_sayable Simple s ≡ true → is_state_sayable Extended s ≡ true
 sayable s h =
     let p = and_parts (is_core_sayable Simple s.core) (list_all (is_sayable Simple) s.items && list_all (is_cell_sayable Simple) s.cells) h in
-    let c = and_parts (is_sayable Simple s.core.ie) (are_sayable Simple s.core.registers) p.0 in
+    let k = and_parts (is_all_or_none s.core.ctl.kept) (is_sayable Simple s.core.ie && are_sayable Simple s.core.registers) p.0 in
+    let c = and_parts (is_sayable Simple s.core.ie) (are_sayable Simple s.core.registers) k.1 in
     let l = and_parts (list_all (is_sayable Simple) s.items) (list_all (is_cell_sayable Simple) s.cells) p.1 in
-    both (both (val_sayable s.core.ie c.0) (registers_sayable s.core.registers c.1)) (both (vals_sayable s.items l.0) (cells_sayable s.cells l.1))
+    both (both k.0 (both (val_sayable s.core.ie c.0) (registers_sayable s.core.registers c.1))) (both (vals_sayable s.items l.0) (cells_sayable s.cells l.1))
 
 pushed : (role : Role) (stack_set : Bool) (n : ℕ) → may_be_pushed Simple role stack_set n ≡ true → may_be_pushed Extended role stack_set n ≡ true
 pushed role.Main b n h = h

@@ -6,7 +6,7 @@ use Rattle.gb_ops.specs.declared.machine.Region.{Region}
 use Rattle.gb_rules.specs.Below.gb_domain.declared.types.Origin.TheVariants as origin
 use Rattle.gb_rules.specs.Below.gb_domain.declared.types.Val.{Val}
 use Rattle.gb_rules.specs.Below.gb_domain.declared.types.Core.{Core}
-use Rattle.gb_rules.specs.Below.gb_domain.Types.{AbsState, state_of, origin_of_register}
+use Rattle.gb_rules.specs.Below.gb_domain.Types.{AbsState, state_of, origin_of_register, all_or_none}
 use Rattle.gb_rules.specs.Below.gb_vals.Flags.{known}
 
 -- a register's value at power-up, which is its own origin
@@ -21,7 +21,7 @@ core_at_power_up rom region =
       ime = record { off = true; pending = false; on = false };
       bound = 0;
       stack_set = region.last == 0xFFFD;
-      ctl = record { bank_lo = 1; bank_hi = 1; second_lo = 0; second_hi = 0; gate = known false; mode = known false; is_kept = true };
+      ctl = record { bank_lo = 1; bank_hi = 1; second_lo = 0; second_hi = 0; gate = known false; mode = known false; kept = all_or_none true };
       flags = record { zero = known true; subtract = known false; half_carry = known others; carry = known others; is_own = true };
       ie = record { lo = 0; hi = 0; low_bits = 0; origin = Some origin.Ie };
       registers = record { a = own A 0x01; b = own B 0x00; c = own C 0x13; d = own D 0x00; e = own E 0xD8; h = own H 0x01; l = own L 0x4D };

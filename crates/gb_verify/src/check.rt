@@ -16,8 +16,8 @@ use gb_rules::procedures::stack_of;
 use gb_rules::room::Room;
 use gb_rules::rules::reason_near;
 use gb_rules::{
-    Abs, Cert, Core, Ctl, Flg, ImeSet, NodeRef, Origin, Reason, Stack, Val, covers, holds_bytes,
-    known,
+    Abs, Cert, Core, Ctl, Flg, ImeSet, KeptBanks, NodeRef, Origin, Reason, Stack, Val, covers,
+    holds_bytes, known,
 };
 use gb_text::Rom;
 
@@ -54,7 +54,7 @@ pub fn core_at_power_up(rom: &Rom<'_>, region: Region) -> Core
             second_hi: 0,
             gate: known(false),
             mode: known(false),
-            is_kept: true,
+            kept: KeptBanks::all_or_none(true),
         },
         flags: Flg {
             zero: known(true),

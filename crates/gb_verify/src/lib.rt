@@ -26,11 +26,11 @@ pub use gb_rules::procedures::{
 pub use gb_rules::rules::{check_node, is_nop_behind};
 pub use gb_rules::{
     ANY_BOUNDS, Abs, AbsRead, AbsWrite, Bounds, Cell, Cert, CertFault, Core, Ctl, Flg, Halves,
-    ImeSet, Link, May, NO_REGISTER, NOTHING_KNOWN, NodeRef, OneByte, Origin, Other, PairFacts,
-    Pairs, ProcedureRef, RANGES, Range, Reason, Relations, Resumed, Rules, Setting, Span, Stack,
-    Successor, Successors, Target, Test, Val, WordPair, any, are_ranges_inside, area_end, callee,
-    cell_at, covers, covers_controller, covers_core, covers_ime, covers_may, covers_origin,
-    covers_relations, covers_val, enter, handler, holds_bytes, is_limited, is_ram,
+    ImeSet, KeptBanks, Link, May, NO_REGISTER, NOTHING_KNOWN, NodeRef, OneByte, Origin, Other,
+    PairFacts, Pairs, ProcedureRef, RANGES, Range, Reason, Relations, Resumed, Rules, Setting,
+    Span, Stack, Successor, Successors, Target, Test, Val, WordPair, any, are_ranges_inside,
+    area_end, callee, cell_at, covers, covers_controller, covers_core, covers_ime, covers_may,
+    covers_origin, covers_relations, covers_val, enter, handler, holds_bytes, is_limited, is_ram,
     is_stack_limited, known_bank, known_byte, known_bytes, leaves_area, left_by_dispatch,
     length_of, lies_in_high_ram, may_come, meets_closed_ram, reduced, resume, successors_of,
     test_alone, with_value,

@@ -3,9 +3,9 @@ use Rattle.std.proofs.Common.{◌≡◌, ℕ, ◌+◌, ◌-◌, ◌*◌, ◌/◌
 use Rattle.std.specs.Prelude.{min}
 use Rattle.gb_domain.specs.declared.low_bits.LowBits.{LowBits}
 use Rattle.gb_domain.specs.LowBits.{modulus}
-use Rattle.gb_low_bits.specs.Shifts.{doubled, halved, swapped}
+use Rattle.gb_vals.specs.LowShifts.{doubled, halved, swapped}
 use Rattle.gb_domain.specs.Meaning.{Has}
-use Rattle.gb_low_bits.specs.Meaning.{IsSound, IsSoundOfDigit, shifted_left, shifted_right, with_digits_swapped}
+use Rattle.gb_vals.specs.Congruence.{IsSound, IsSoundOfDigit, shifted_left, shifted_right, with_digits_swapped}
 use Rattle.gb_domain.proofs.ModulusLaws.{each_count, Has-low_bits, congruent-byte, modulus-eight}
 
 -- ---- SLA

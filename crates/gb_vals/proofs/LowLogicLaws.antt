@@ -6,10 +6,10 @@ use Rattle.std.specs.Prelude.{bit_xor, min, max}
 use Rattle.std.specs.Int.{bit_at}
 use Rattle.gb_domain.specs.declared.low_bits.LowBits.{LowBits}
 use Rattle.gb_domain.specs.LowBits.{modulus, low_bits, all_of, count_passing}
-use Rattle.gb_low_bits.specs.Sums.{one_if}
-use Rattle.gb_low_bits.specs.Logic.{is_bit, decides, is_known, known_bits, conjunction, disjunction, exclusion, complement, mask_of, reset_bit, set_bit, complemented, with_bit_reset, with_bit_set}
+use Rattle.gb_vals.specs.LowSums.{one_if}
+use Rattle.gb_vals.specs.LowLogic.{is_bit, decides, is_known, known_bits, conjunction, disjunction, exclusion, complement, mask_of, reset_bit, set_bit, complemented, with_bit_reset, with_bit_set}
 use Rattle.gb_domain.specs.Meaning.{Has}
-use Rattle.gb_low_bits.specs.Meaning.{IsSound, IsSoundOfTwo}
+use Rattle.gb_vals.specs.Congruence.{IsSound, IsSoundOfTwo}
 use Rattle.gb_domain.proofs.ModulusLaws.{each_modulus, Has-low_bits, Has-bit, congruent-bits}
 use Rattle.gb_domain.proofs.PassingLaws.{count_passing-passes}
 use Rattle.gb_domain.proofs.LowBitsLaws.{below, Has-all_of}

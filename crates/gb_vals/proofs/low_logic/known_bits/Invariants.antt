@@ -1,7 +1,7 @@
 use Rattle.std.proofs.Common.{◌≡◌, ◌-◌}
 use Rattle.gb_domain.specs.LowBits.{passing, count_passing}
-use Rattle.gb_low_bits.specs.Logic.{is_known}
-use Rattle.gb_low_bits.proofs.logic.known_bits.Given as goal
+use Rattle.gb_vals.specs.LowLogic.{is_known}
+use Rattle.gb_vals.proofs.low_logic.known_bits.Given as goal
 
 abbrev pub invariant-loop-bit : goal.invariant-loop-bit
 invariant-loop-bit l =

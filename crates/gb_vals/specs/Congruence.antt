@@ -2,7 +2,7 @@
 use Rattle.std.specs.Prelude.{◌≡◌, ℕ, ◌+◌, ◌-◌, ◌*◌, ◌/◌, ◌%◌, ◌<◌, ◌≤◌, Bool, Option, Some, None}
 use Rattle.gb_domain.specs.declared.low_bits.LowBits.{LowBits}
 use Rattle.gb_domain.specs.Meaning.{Has}
-use Rattle.gb_low_bits.specs.Sums.{one_if}
+use Rattle.gb_vals.specs.LowSums.{one_if}
 
 -- ---- low bits
 

@@ -4,9 +4,9 @@ use Rattle.std.proofs.lemmas.Bool.Decides.{nat_tests}
 use Rattle.std.specs.Prelude.{min}
 use Rattle.gb_domain.specs.declared.low_bits.LowBits.{LowBits}
 use Rattle.gb_domain.specs.LowBits.{modulus, no_low_bits}
-use Rattle.gb_low_bits.specs.Sums.{one_if, sum, difference, incremented, decremented, high_incremented, high_decremented}
+use Rattle.gb_vals.specs.LowSums.{one_if, sum, difference, incremented, decremented, high_incremented, high_decremented}
 use Rattle.gb_domain.specs.Meaning.{Has}
-use Rattle.gb_low_bits.specs.Meaning.{MayBe, IsSound, IsSoundOfSum, IsSoundOfHigh, added, subtracted, next_byte, previous_byte, next_word, previous_word}
+use Rattle.gb_vals.specs.Congruence.{MayBe, IsSound, IsSoundOfSum, IsSoundOfHigh, added, subtracted, next_byte, previous_byte, next_word, previous_word}
 use Rattle.gb_domain.proofs.ModulusLaws.{each_modulus, Has-low_bits, Has-fewer, congruent-byte}
 
 -- ---- congruence of sums
@@ -45,7 +45,7 @@ carry-small : (c : Bool) → one_if c < 2
 carry-small true = omega arith
 carry-small false = omega arith
 
-Has-nothing : (x : ℕ) → Has no_low_bits x
+pub Has-nothing : (x : ℕ) → Has no_low_bits x
 unfolding modulus
 Has-nothing x = record { same = one x }
   where

@@ -3,7 +3,7 @@ use Rattle.std.specs.Prelude.{ℕ, ◌-◌, ◌%◌, ◌^◌, Bool, true, false,
 use Rattle.std.specs.Int.{bit_at}
 use Rattle.gb_domain.specs.declared.low_bits.LowBits.{LowBits}
 use Rattle.gb_domain.specs.LowBits.{low_bits, all_of, has_bit, count_passing}
-use Rattle.gb_low_bits.specs.Sums.{one_if}
+use Rattle.gb_vals.specs.LowSums.{one_if}
 
 -- the bit is known to be this one
 abbrev pub is_bit : Bool → LowBits → ℕ → Bool

@@ -1,3 +1,0 @@
-pub mod LogicLaws
-pub mod ShiftLaws
-pub mod SumLaws

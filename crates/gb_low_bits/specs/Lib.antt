@@ -1,4 +1,0 @@
-pub mod Sums
-pub mod Logic
-pub mod Shifts
-pub mod Meaning
