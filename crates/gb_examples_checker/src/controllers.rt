@@ -2,7 +2,7 @@
 
 use gb_abs::span::Span;
 use gb_abs_memory::shown::known_bank;
-use gb_abs_memory::windows::{ControllerRegister, ctl_written, window_of, windows};
+use gb_abs_memory::windows::{ControllerRegister, ctl_written, kept_after, window_of, windows};
 use gb_domain::types::KeptBanks;
 use gb_ops::machine::Kind;
 use gb_samples::cartridges::{PLAIN, file, small};
@@ -186,6 +186,36 @@ fn leaves(kind: Kind, lo: u8, hi: u8, left: Left) -> bool {
 fn gate_mode_and_second_register_after_a_store(rt: HostRuntime) {
     for (i, (kind, lo, hi, left)) in STORES.iter().enumerate() {
         assert!(rt; leaves(*kind, *lo, *hi, *left), "store {i}");
+    }
+}
+
+/// A register, and what a store to it leaves kept by the rules of version 4: the bank's low eight bits, the second register, the gate,
+/// the mode, and the bank's bit 8.
+const KEPT: [(ControllerRegister, (bool, bool, bool, bool, bool)); 6] = [
+    (ControllerRegister::Gate, (true, true, false, true, true)),
+    (BANK, (false, true, true, true, false)),
+    (LOW, (false, true, true, true, true)),
+    (HIGH, (true, true, true, true, false)),
+    (ControllerRegister::Second, (true, false, true, true, true)),
+    (ControllerRegister::Mode, (true, true, true, false, true)),
+];
+
+#[test]
+fn registers_kept_after_a_store(rt: HostRuntime) {
+    let all = KeptBanks::all_or_none(true);
+    let none = KeptBanks::all_or_none(false);
+    for (i, (register, expected)) in KEPT.iter().enumerate() {
+        let (bank, second, gate, mode, high_bank) = *expected;
+        let left = KeptBanks {
+            bank,
+            second,
+            gate,
+            mode,
+            high_bank,
+        };
+        assert!(rt; kept_after(true, *register, all) == left, "register {i}");
+        assert!(rt; kept_after(true, *register, none) == none, "register {i}");
+        assert!(rt; kept_after(false, *register, all) == none, "register {i}");
     }
 }
 

@@ -81,7 +81,6 @@ pub use gb_rows::{Rows, find_in, first_near, found_from};
 pub use gb_trace::{
     Reason, callee, check_irqs, check_node, covered_at, covers, enter, resume, successors_of,
 };
-pub use gb_vals::AbsComputed;
 pub use gb_vals::alu::{alu, alu_itself};
 pub use gb_vals::bits::{reset_bit, set_bit, test_bit};
 pub use gb_vals::carry::{complement_carry, set_carry};
@@ -89,6 +88,7 @@ pub use gb_vals::daa::adjust;
 pub use gb_vals::logic::complement;
 pub use gb_vals::shifts::{rotate_a, shift};
 pub use gb_vals::sums::{decrement, increment};
+pub use gb_vals::{AbsComputed, strided};
 
 // The verdict, and texts.
 pub use gb_trace::{
