@@ -1,12 +1,12 @@
 //! Facts: bytes of arrays that stay within bounds.
 
 use gb_domain::pairs::{ANY_BOUNDS, Bounds};
-use gb_domain::types::Range;
+use gb_domain::types::{Cell, Origin, Range, Val};
 use gb_domain::{LowBits, StridedInterval};
 use gb_ram_bounds::covering::{byte_at, gives_facts};
 use gb_ram_bounds::facts::{has_address, keeps_facts, level_after};
 use gb_ram_bounds::returned::returned_level;
-use gb_ram_bounds::{AddressSet, ByteCell, Fact, Pointers};
+use gb_ram_bounds::{AddressSet, Fact, Fill, Pointers};
 use std::process::Abort;
 
 /// The bytes from the first to the second.
@@ -58,13 +58,29 @@ const FACTS: &[Fact] = &[
     },
 ];
 
+/// All of RAM up to the structs was cleared.
+const CLEARED: &[Fill] = &[Fill {
+    first: 0xC000,
+    last: 0xC1FF,
+    lo: 0,
+    hi: 0,
+    end: None,
+}];
+
 /// The cell of an address, if there is one, and what it says.
 type CellAt = Option<(u16, FromTo)>;
 
-fn cell_of(address: u16, bytes: FromTo) -> ByteCell {
-    ByteCell {
+/// It is a copy of A as the routine was entered, which facts don't care about.
+fn cell_of(address: u16, bytes: FromTo) -> Cell {
+    let (lo, hi) = bytes;
+    Cell {
         address,
-        value: from_to(bytes),
+        val: Val {
+            lo,
+            hi,
+            low_bits: 0,
+            origin: Some(Origin::A),
+        },
     }
 }
 
@@ -98,29 +114,36 @@ enum FactStep {
     Drop(CellAt, bool),
     /// Whether with this cell the facts from this one on hold too, which didn't.
     Raise(CellAt, usize, bool),
+    /// Whether, as RAM was cleared, with this cell the facts up to this one hold, of which none did.
+    Clear(CellAt, usize, bool),
     /// How many hold where a routine returns: its exit's cell, so many at the exit, so many in the caller.
     Return(CellAt, usize, usize, usize),
 }
 
-use FactStep::{Byte, Drop, IsAbout, Raise, Return, Store};
+use FactStep::{Byte, Clear, Drop, IsAbout, Raise, Return, Store};
 
 fn are_about(number: usize, address: u16) -> Option<bool> {
     Some(has_address(FACTS.get(number)?, address))
 }
 
-fn byte(level: usize, cells: &[ByteCell], address: u16) -> Option<StridedInterval> {
+fn byte(level: usize, cells: &[Cell], address: u16) -> Option<StridedInterval> {
     let facts = FACTS.get(..level)?;
     Some(byte_at(facts, cells, &[], &ANY_POINTERS, address))
 }
 
-fn are_given(cells: &[ByteCell], from: usize) -> Option<bool> {
+fn are_given(cells: &[Cell], from: usize) -> Option<bool> {
     let held = FACTS.get(..from)?;
     let wanted = FACTS.get(from..)?;
     Some(gives_facts(held, cells, &[], &ANY_POINTERS, &[], wanted))
 }
 
+fn are_cleared(cells: &[Cell], to: usize) -> Option<bool> {
+    let wanted = FACTS.get(..to)?;
+    Some(gives_facts(&[], cells, CLEARED, &ANY_POINTERS, &[], wanted))
+}
+
 /// Whether a step comes out so with these cells.
-fn agrees_with(step: &FactStep, cells: &[ByteCell]) -> bool {
+fn agrees_with(step: &FactStep, cells: &[Cell]) -> bool {
     match *step {
         IsAbout(number, address, result) => are_about(number, address) == Some(result),
         Byte(level, _, address, result) => byte(level, cells, address) == Some(from_to(result)),
@@ -129,6 +152,7 @@ fn agrees_with(step: &FactStep, cells: &[ByteCell]) -> bool {
         }
         Drop(_, result) => keeps_facts(FACTS, cells, &[]) == result,
         Raise(_, from, result) => are_given(cells, from) == Some(result),
+        Clear(_, to, result) => are_cleared(cells, to) == Some(result),
         Return(_, in_exit, in_caller, result) => {
             returned_level(RANGES, cells, &[], FACTS, in_exit, in_caller) == result
         }
@@ -142,6 +166,7 @@ fn agrees(step: &FactStep) -> bool {
         | Store(cell, _, _, _)
         | Drop(cell, _)
         | Raise(cell, _, _)
+        | Clear(cell, _, _)
         | Return(cell, _, _, _) => cell,
     };
     match cell {
@@ -165,6 +190,8 @@ const STEPS: &[FactStep] = &[
     Store(None, (0xC100, 0xC11F, 3, 0), (3, 4), 0),
     // A timer of 61: the states still hold.
     Store(None, (0xC100, 0xC11F, 3, 1), (0, 61), 1),
+    // A byte of which no fact says anything, in any of the structs.
+    Store(None, (0xC102, 0xC11A, 3, 2), (0, 255), 3),
     // A pointer to any byte of the structs.
     Store(None, (0xC100, 0xC11F, 0, 0), (0, 4), 0),
     // The same value to one address that has a cell now: it is an exception.
@@ -178,6 +205,13 @@ const STEPS: &[FactStep] = &[
     Raise(Some((0xC000, (2, 4))), 2, true),
     Raise(Some((0xC000, (0, 4))), 2, false),
     Raise(None, 2, false),
+    // States and timers of 0 are in bounds, the variable isn't.
+    Clear(None, 2, true),
+    Clear(None, 3, false),
+    // A state that has a cell since, out of bounds and within, and a byte of which no fact says anything.
+    Clear(Some((0xC108, (4, 4))), 2, false),
+    Clear(Some((0xC108, (1, 2))), 2, true),
+    Clear(Some((0xC102, (9, 9))), 2, true),
     // The structs are the exit's, the variable is the caller's.
     Return(None, 2, 3, 3),
     Return(None, 1, 3, 1),

@@ -1,13 +1,13 @@
 //! Fills: what a loop that clears has done so far.
 
 use gb_domain::pairs::{ANY_BOUNDS, Bounds};
-use gb_domain::types::Range;
+use gb_domain::types::{Cell, Range, Val};
 use gb_domain::{LowBits, StridedInterval};
 use gb_ops::op::Pointer;
 use gb_ram_bounds::covering::{byte_at, gives_fills};
 use gb_ram_bounds::fills::{filled, is_in_extent, lowered, raised, written};
 use gb_ram_bounds::returned::{caller_fill_left, is_exit_fill_left};
-use gb_ram_bounds::{AddressSet, ByteCell, Fill, FillEnd, Pointers, Reach};
+use gb_ram_bounds::{AddressSet, Fill, FillEnd, Pointers, Reach};
 use std::process::Abort;
 
 /// The bytes from the first to the second.
@@ -128,7 +128,20 @@ fn store(by_hl: bool, stored: AddressSet, value: FromTo, told: FillParts) -> Fil
     filled(&[], stored, through, from_to(value), fill_of(told))
 }
 
-fn gives(told: FillParts, cells: &[ByteCell], wanted: FillParts) -> bool {
+fn cell_of(address: u16, bytes: FromTo) -> Cell {
+    let (lo, hi) = bytes;
+    Cell {
+        address,
+        val: Val {
+            lo,
+            hi,
+            low_bits: 0,
+            origin: None,
+        },
+    }
+}
+
+fn gives(told: FillParts, cells: &[Cell], wanted: FillParts) -> bool {
     gives_fills(
         &[],
         cells,
@@ -162,11 +175,7 @@ fn agrees(step: &FillStep) -> bool {
         Write(told, result) => is_left(written(Pointer::Hl, &POINTERS, fill_of(told)), result),
         Gives(told, wanted, result) => gives(told, &[], wanted) == result,
         GivesWithCell(told, address, bytes, wanted, result) => {
-            let cell = ByteCell {
-                address,
-                value: from_to(bytes),
-            };
-            gives(told, &[cell], wanted) == result
+            gives(told, &[cell_of(address, bytes)], wanted) == result
         }
         Exit(told, result) => is_exit_fill_left(RANGES, &fill_of(told)) == result,
         Caller(kept, told, result) => is_left(
@@ -269,6 +278,37 @@ const STEPS: &[FillStep] = &[
     Gives(
         (0xC000, 0xC0FF, 0, 9, None),
         (0xC000, 0xC0FF, 0, 0, Some(NONE - 0x1F)),
+        false,
+    ),
+    // What has no end: a part of it, and one from which only less is known.
+    Gives(
+        (0xC000, 0xC0FF, 0, 9, None),
+        (0xC010, 0xC01F, 0, 9, None),
+        true,
+    ),
+    Gives(
+        (0xC000, 0xC0FF, 3, 9, None),
+        (0xC010, 0xC01F, 0, 12, None),
+        true,
+    ),
+    Gives(
+        (0xC000, 0xC0FF, 0, 9, None),
+        (0xC010, 0xC100, 0, 9, None),
+        false,
+    ),
+    // A cell with what the fill says, and another one that ends at the same pointer.
+    GivesWithCell(
+        (0xC000, 0xC0FF, 0, 0, None),
+        0xC040,
+        (0, 0),
+        (0xC000, 0xC0FF, 0, 0, None),
+        true,
+    ),
+    GivesWithCell(
+        (0xC000, 0xC0FF, 0, 0, Some(NONE)),
+        0xC008,
+        (1, 1),
+        (0xC000, 0xC0FF, 0, 0, Some(NONE)),
         false,
     ),
     // In a cell another value is known.

@@ -32,6 +32,24 @@ each_of_next passes (suc n) m a e h =
     let same : n ≡ m = omega arith in
     ap (λ b. b && each_of passes n (a + 1)) h ∙ ap (λ k. each_of passes k (a + 1)) same
 
+-- ---- all of them
+
+pub some_of-no : (passes : ℕ → Bool) (n a : ℕ) → ((x : ℕ) → passes x ≡ false) → some_of passes n a ≡ false
+some_of-no passes zero a h = refl
+some_of-no passes (suc n) a h = neither (passes a) (some_of passes n (a + 1)) (h a) (some_of-no passes n (a + 1) h)
+  where
+    neither : (b c : Bool) → b ≡ false → c ≡ false → (b || c) ≡ false
+    neither b c p q = rw p q
+
+pub each_of-all : (passes : ℕ → Bool) (n a : ℕ) → ((x : ℕ) → a ≤ x → x < a + n → passes x ≡ true) → each_of passes n a ≡ true
+each_of-all passes zero a h = refl
+each_of-all passes (suc n) a h =
+    both (passes a) (each_of passes n (a + 1)) (h a (omega arith) (omega arith))
+    (each_of-all passes n (a + 1) (λ x low high. h x (omega arith) (omega arith)))
+  where
+    both : (b c : Bool) → b ≡ true → c ≡ true → (b && c) ≡ true
+    both b c p q = rw p q
+
 -- ---- any one of them
 
 next_one : (a x : ℕ) → a ≤ x → (a == x) ≡ false → a + 1 ≤ x

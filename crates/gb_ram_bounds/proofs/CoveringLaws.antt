@@ -8,7 +8,7 @@ use Rattle.gb_domain.specs.declared.interval.StridedInterval.{StridedInterval}
 use Rattle.gb_domain.specs.Interval.{any_byte, lies_in}
 use Rattle.gb_domain.specs.Meaning.{In}
 use Rattle.gb_domain.proofs.IntervalLaws.{In-lies_in}
-use Rattle.gb_ram_bounds.specs.declared.cells.ByteCell.{ByteCell}
+use Rattle.gb_domain.specs.declared.types.Cell.{Cell}
 use Rattle.gb_ram_bounds.specs.declared.facts.Fact.{Fact}
 use Rattle.gb_ram_bounds.specs.declared.pointers.Pointers.{Pointers}
 use Rattle.gb_ram_bounds.specs.declared.fills.Reach.{Reach}
@@ -27,7 +27,7 @@ use Rattle.gb_ram_bounds.proofs.FillLaws.{In-bounds, cut_by_fills-In, same_point
 -- ---- the byte at an address
 
 In-byte_at :
-    (facts : List Fact) (cells : List ByteCell) (fills : List Fill) (p : Pointers Bounds) (a : ℕ) (memory : ℕ → ℕ) (x : Pointers ℕ)
+    (facts : List Fact) (cells : List Cell) (fills : List Fill) (p : Pointers Bounds) (a : ℕ) (memory : ℕ → ℕ) (x : Pointers ℕ)
     → HoldsState facts cells fills p memory x → In (byte_at facts cells fills p a) (memory a)
 unfolding byte_at has_cell
 In-byte_at facts cells fills p a memory x h = choose (cell_at cells a) refl
@@ -44,7 +44,7 @@ In-byte_at facts cells fills p a memory x h = choose (cell_at cells a) refl
     choose (Some v) e = h.cells_hold.gives a v e
 
 pub byte_at_sound :
-    (facts : List Fact) (cells : List ByteCell) (fills : List Fill) (p : Pointers Bounds) (a : ℕ) (o : StridedInterval)
+    (facts : List Fact) (cells : List Cell) (fills : List Fill) (p : Pointers Bounds) (a : ℕ) (o : StridedInterval)
     → o ≡ byte_at facts cells fills p a → IsSoundByte facts cells fills p a o
 byte_at_sound facts cells fills p a o e =
     subst (λ r. IsSoundByte facts cells fills p a r) (sym e) (record { gives = λ memory x. In-byte_at facts cells fills p a memory x })
@@ -57,7 +57,7 @@ third true true z h p q = cc
 third false y z h p q = cc
 
 lies-given :
-    (facts : List Fact) (cells : List ByteCell) (fills : List Fill) (p : Pointers Bounds) (kept : List ByteCell) (f : Fact) (a : ℕ)
+    (facts : List Fact) (cells : List Cell) (fills : List Fill) (p : Pointers Bounds) (kept : List Cell) (f : Fact) (a : ℕ)
     → is_given_at facts cells fills p kept f a ≡ true → has_address f a ≡ true → has_cell kept a ≡ false
     → lies_in (byte_at facts cells fills p a) f.value ≡ true
 unfolding is_given_at
@@ -68,7 +68,7 @@ counted : (first last a : ℕ) → first ≤ a → a ≤ last → a < first + (l
 counted first last a low high = omega arith
 
 HoldsFact-given :
-    (facts : List Fact) (cells : List ByteCell) (fills : List Fill) (p : Pointers Bounds) (kept : List ByteCell) (f : Fact)
+    (facts : List Fact) (cells : List Cell) (fills : List Fill) (p : Pointers Bounds) (kept : List Cell) (f : Fact)
     (memory : ℕ → ℕ) (x : Pointers ℕ)
     → gives_fact facts cells fills p kept f ≡ true → HoldsState facts cells fills p memory x → HoldsFact kept memory f
 unfolding gives_fact
@@ -83,7 +83,7 @@ HoldsFact-given facts cells fills p kept f memory x g h =
     }
 
 HoldFacts-given :
-    (facts : List Fact) (cells : List ByteCell) (fills : List Fill) (p : Pointers Bounds) (kept : List ByteCell) (wanted : List Fact)
+    (facts : List Fact) (cells : List Cell) (fills : List Fill) (p : Pointers Bounds) (kept : List Cell) (wanted : List Fact)
     (memory : ℕ → ℕ) (x : Pointers ℕ)
     → list_all (gives_fact facts cells fills p kept) wanted ≡ true → HoldsState facts cells fills p memory x
     → HoldFacts wanted kept memory
@@ -93,7 +93,7 @@ HoldFacts-given facts cells fills p kept (f ∷ wanted) memory x g h =
     (HoldsFact-given facts cells fills p kept f memory x both.0 h, HoldFacts-given facts cells fills p kept wanted memory x both.1 h)
 
 pub gives_facts_sound :
-    (facts : List Fact) (cells : List ByteCell) (fills : List Fill) (p : Pointers Bounds) (kept : List ByteCell) (wanted : List Fact) (o : Bool)
+    (facts : List Fact) (cells : List Cell) (fills : List Fill) (p : Pointers Bounds) (kept : List Cell) (wanted : List Fact) (o : Bool)
     → o ≡ gives_facts facts cells fills p kept wanted → o ≡ true → GivesFacts facts cells fills p kept wanted
 unfolding gives_facts
 gives_facts_sound facts cells fills p kept wanted o e g =
@@ -159,7 +159,7 @@ reaches-as_far (Some e) (Some d) x a f h = reached-as_far e d x a f h
 
 -- a fill that says of an address what f does gives it
 In-said :
-    (f g : Fill) (cells : List ByteCell) (memory : ℕ → ℕ) (x : Pointers ℕ) (a : ℕ)
+    (f g : Fill) (cells : List Cell) (memory : ℕ → ℕ) (x : Pointers ℕ) (a : ℕ)
     → says_at f a g ≡ true → HoldsFill cells memory x g → reaches f.end x a ≡ true → has_cell cells a ≡ false
     → In (bytes_of f) (memory a)
 unfolding says_at
@@ -175,7 +175,7 @@ In-said f g cells memory x a s h reached free =
     In-bounds f.lo f.hi (memory a) (omega arith) (omega arith)
 
 In-said_by_one :
-    (f : Fill) (fills : List Fill) (cells : List ByteCell) (memory : ℕ → ℕ) (x : Pointers ℕ) (a : ℕ)
+    (f : Fill) (fills : List Fill) (cells : List Cell) (memory : ℕ → ℕ) (x : Pointers ℕ) (a : ℕ)
     → list_any (says_at f a) fills ≡ true → HoldFills fills cells memory x → reaches f.end x a ≡ true → has_cell cells a ≡ false
     → In (bytes_of f) (memory a)
 In-said_by_one f [] cells memory x a s h reached free = cc
@@ -200,7 +200,7 @@ is_false true h = cc
 is_false false h = refl
 
 In-filled_at :
-    (facts : List Fact) (cells : List ByteCell) (fills : List Fill) (p : Pointers Bounds) (kept : List ByteCell) (f : Fill)
+    (facts : List Fact) (cells : List Cell) (fills : List Fill) (p : Pointers Bounds) (kept : List Cell) (f : Fill)
     (memory : ℕ → ℕ) (x : Pointers ℕ) (a : ℕ)
     → is_filled_at facts cells fills p kept f a ≡ true → HoldsState facts cells fills p memory x
     → reaches f.end x a ≡ true → has_cell kept a ≡ false → In (bytes_of f) (memory a)
@@ -217,7 +217,7 @@ In-filled_at facts cells fills p kept f memory x a g h reached free =
         In-said_by_one f fills cells memory x a both.1 h.fills_hold reached (is_false (has_cell cells a) both.0)
 
 HoldsFill-given :
-    (facts : List Fact) (cells : List ByteCell) (fills : List Fill) (p : Pointers Bounds) (kept : List ByteCell) (f : Fill)
+    (facts : List Fact) (cells : List Cell) (fills : List Fill) (p : Pointers Bounds) (kept : List Cell) (f : Fill)
     (memory : ℕ → ℕ) (x : Pointers ℕ)
     → gives_fill facts cells fills p kept f ≡ true → HoldsState facts cells fills p memory x → HoldsFill kept memory x f
 unfolding gives_fill
@@ -233,7 +233,7 @@ HoldsFill-given facts cells fills p kept f memory x g h =
     }
 
 HoldFills-given :
-    (facts : List Fact) (cells : List ByteCell) (fills : List Fill) (p : Pointers Bounds) (kept : List ByteCell) (wanted : List Fill)
+    (facts : List Fact) (cells : List Cell) (fills : List Fill) (p : Pointers Bounds) (kept : List Cell) (wanted : List Fill)
     (memory : ℕ → ℕ) (x : Pointers ℕ)
     → list_all (gives_fill facts cells fills p kept) wanted ≡ true → HoldsState facts cells fills p memory x
     → HoldFills wanted kept memory x
@@ -243,7 +243,7 @@ HoldFills-given facts cells fills p kept (f ∷ wanted) memory x g h =
     (HoldsFill-given facts cells fills p kept f memory x both.0 h, HoldFills-given facts cells fills p kept wanted memory x both.1 h)
 
 pub gives_fills_sound :
-    (facts : List Fact) (cells : List ByteCell) (fills : List Fill) (p : Pointers Bounds) (kept : List ByteCell) (wanted : List Fill) (o : Bool)
+    (facts : List Fact) (cells : List Cell) (fills : List Fill) (p : Pointers Bounds) (kept : List Cell) (wanted : List Fill) (o : Bool)
     → o ≡ gives_fills facts cells fills p kept wanted → o ≡ true → GivesFills facts cells fills p kept wanted
 unfolding gives_fills
 gives_fills_sound facts cells fills p kept wanted o e g =

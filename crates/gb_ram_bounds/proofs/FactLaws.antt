@@ -1,21 +1,25 @@
 -- Facts hold after stores, and give a byte's values.
-use Rattle.std.proofs.Common.{◌≡◌, ℕ, suc, ◌+◌, ◌-◌, ◌<◌, ◌≤◌, Bool, true, false, not, ◌&&◌, ◌||◌, ◌==◌, nat_le, cond, List, [], ◌∷◌, length, take, Option, Some, None, refl, sym, ◌∙◌, ap, subst, arith}
+use Rattle.std.proofs.Common.{◌≡◌, ℕ, suc, ◌+◌, ◌-◌, ◌%◌, ◌<◌, ◌≤◌, Bool, true, false, not, ◌&&◌, ◌||◌, ◌==◌, nat_le, cond, List, [], ◌∷◌, length, take, Option, Some, None, refl, sym, ◌∙◌, ap, subst, arith}
 use Rattle.std.proofs.lemmas.Bool.{and_parts, eqb-true}
 use Rattle.std.proofs.lemmas.Bool.Decides.{nat_tests}
+use Rattle.std.proofs.Math.Nat.{mod-mod_of_dvd, dvd_of_mod-eq-zero}
 use Rattle.std.specs.Prelude.{min, max}
 use Rattle.std.specs.List.{list_all}
 use Rattle.gb_domain.specs.declared.interval.StridedInterval.{StridedInterval}
+use Rattle.gb_domain.specs.LowBits.{modulus, are_congruent}
 use Rattle.gb_domain.specs.Interval.{cut, lies_in}
 use Rattle.gb_domain.specs.Meaning.{In, InSome}
+use Rattle.gb_domain.specs.Values.{interval_of}
+use Rattle.gb_domain.proofs.ModulusLaws.{each_modulus}
 use Rattle.gb_domain.proofs.IntervalLaws.{cut_leaves, In-lies_in}
-use Rattle.gb_ram_bounds.specs.declared.cells.ByteCell.{ByteCell}
+use Rattle.gb_domain.specs.declared.types.Cell.{Cell}
 use Rattle.gb_ram_bounds.specs.declared.addresses.AddressSet.{AddressSet}
 use Rattle.gb_ram_bounds.specs.declared.facts.Fact.{Fact}
 use Rattle.gb_ram_bounds.specs.Cells.{cell_at, is_there, has_cell}
 use Rattle.gb_ram_bounds.specs.Addresses.{is_in, is_one}
-use Rattle.gb_ram_bounds.specs.Facts.{has_address, or_same, cut_or_same, cut_by_fact, cut_by_facts, is_met_at, meets, is_broken, unbroken, is_to_cell, level_after, allows, is_given_back, keeps_facts}
+use Rattle.gb_ram_bounds.specs.Facts.{has_address, or_same, cut_or_same, cut_by_fact, cut_by_facts, is_met_at, meets, is_apart, is_broken, unbroken, is_to_cell, level_after, allows, is_given_back, keeps_facts}
 use Rattle.gb_ram_bounds.specs.Meaning.{HoldCells, HoldsFact, HoldFacts, IsStored, HasCellsOf, IsSoundByFacts, IsSoundLevel, AreKept}
-use Rattle.gb_ram_bounds.proofs.AddressLaws.{some_of-at}
+use Rattle.gb_ram_bounds.proofs.AddressLaws.{some_of-at, some_of-no}
 
 -- ---- the byte at an address
 
@@ -30,7 +34,7 @@ cut_or_same-In v w x h g =
     or_same-In v (cut v w) x (left.keeps x (record { first = h; second = g }))
 
 cut_by_fact-In :
-    (f : Fact) (a : ℕ) (v : StridedInterval) (cells : List ByteCell) (memory : ℕ → ℕ)
+    (f : Fact) (a : ℕ) (v : StridedInterval) (cells : List Cell) (memory : ℕ → ℕ)
     → HoldsFact cells memory f → has_cell cells a ≡ false → In v (memory a) → In (cut_by_fact f a v) (memory a)
 unfolding cut_by_fact
 cut_by_fact-In f a v cells memory h free m = choose (has_address f a) refl
@@ -40,7 +44,7 @@ cut_by_fact-In f a v cells memory h free m = choose (has_address f a) refl
     choose false e = m
 
 pub cut_by_facts-In :
-    (facts : List Fact) (a : ℕ) (v : StridedInterval) (cells : List ByteCell) (memory : ℕ → ℕ)
+    (facts : List Fact) (a : ℕ) (v : StridedInterval) (cells : List Cell) (memory : ℕ → ℕ)
     → HoldFacts facts cells memory → has_cell cells a ≡ false → In v (memory a) → In (cut_by_facts facts a v) (memory a)
 cut_by_facts-In [] a v cells memory h free m = m
 cut_by_facts-In (f ∷ facts) a v cells memory h free m =
@@ -76,6 +80,10 @@ is_in-between s a h =
     let q = and_parts _ _ p.0 in
     record { least = at_most s.first a q.0; most = at_most a s.last q.1 }
 
+is_in-low : (s : AddressSet) (a : ℕ) → is_in s a ≡ true → a % modulus s.low.count ≡ s.low.bits % modulus s.low.count
+unfolding is_in are_congruent
+is_in-low s a h = let p = and_parts _ _ h in eqb-true (a % modulus s.low.count) (s.low.bits % modulus s.low.count) p.1
+
 within_both : (a p q r s : ℕ) → p ≤ a → a ≤ q → r ≤ a → a ≤ s → (max p r ≤ a) × (a < max p r + (min q s + 1 - max p r))
 within_both a p q r s h i j k = (omega arith, omega arith)
 
@@ -87,6 +95,54 @@ meets-at f s a h i =
     let w = within_both a f.first f.last s.first s.last p.least p.most q.least q.most in
     let both : (has_address f a && is_in s a) ≡ true = subst (λ b. (b && is_in s a) ≡ true) (sym h) i in
     some_of-at (is_met_at f s) (min f.last s.last + 1 - max f.first s.first) (max f.first s.first) a w.0 w.1 both
+
+-- ---- low bits in common
+
+abbrev AreAlike : ℕ → Type 0
+AreAlike m = (first a : ℕ) → first ≤ a → (a - first) % m ≡ 0 → a % m ≡ first % m
+
+alike : (n : ℕ) → AreAlike (modulus n)
+alike =
+    each_modulus AreAlike (λ first a l e. omega arith) (λ first a l e. omega arith) (λ first a l e. omega arith)
+    (λ first a l e. omega arith) (λ first a l e. omega arith) (λ first a l e. omega arith)
+    (λ first a l e. omega arith) (λ first a l e. omega arith) (λ first a l e. omega arith)
+
+zero-left : (n : ℕ) → 0 % modulus n ≡ 0
+zero-left = each_modulus (λ m. 0 % m ≡ 0) refl refl refl refl refl refl refl refl refl
+
+-- what divides a step divides all that the step divides
+multiple-left : (n x s : ℕ) → x % s ≡ 0 → s % modulus n ≡ 0 → x % modulus n ≡ 0
+multiple-left n x s e d =
+    sym (mod-mod_of_dvd (modulus n) x (dvd_of_mod-eq-zero (modulus n) d)) ∙ ap (λ z. z % modulus n) e ∙ zero-left n
+
+address-alike : (n : ℕ) (f : Fact) (a : ℕ) → has_address f a ≡ true → f.step % modulus n ≡ 0 % modulus n → a % modulus n ≡ f.first % modulus n
+unfolding has_address
+address-alike n f a h d =
+    let p = and_parts _ _ h in
+    let b = has_address-between f a h in
+    alike n f.first a b.least (multiple-left n (a - f.first) f.step (eqb-true ((a - f.first) % f.step) 0 p.1) (d ∙ zero-left n))
+
+not_met : (f : Fact) (s : AddressSet) (a : ℕ) → is_apart f s ≡ true → is_met_at f s a ≡ false
+unfolding is_met_at is_apart are_congruent
+not_met f s a h = choose (has_address f a) refl (is_in s a) refl
+  where
+    differ : (x y : ℕ) → not (x == y) ≡ true → x ≡ y → ⊥
+    differ x y e p = grind (arith, nat_tests)
+
+    choose : (b : Bool) → has_address f a ≡ b → (c : Bool) → is_in s a ≡ c → (b && c) ≡ false
+    choose false e c i = refl
+    choose true e false i = refl
+    choose true e true i =
+        let p = and_parts (f.step % modulus s.low.count == 0 % modulus s.low.count) (not (f.first % modulus s.low.count == s.low.bits % modulus s.low.count)) h in
+        let same = address-alike s.low.count f a e (eqb-true (f.step % modulus s.low.count) (0 % modulus s.low.count) p.0) in
+        absurd (differ (f.first % modulus s.low.count) (s.low.bits % modulus s.low.count) p.1 (sym same ∙ is_in-low s a i))
+
+pub meets_apart : (f : Fact) (s : AddressSet) → is_apart f s ≡ true → meets f s ≡ false
+unfolding meets
+meets_apart f s h =
+    some_of-no (is_met_at f s) (min f.last s.last + 1 - max f.first s.first) (max f.first s.first) (λ a. not_met f s a h)
+
+-- ---- what isn't broken
 
 not_broken : (m l : Bool) → (m && not l) ≡ false → m ≡ true → l ≡ true
 not_broken true true h e = refl
@@ -102,7 +158,7 @@ lies-unbroken s v f a h i j = not_broken (meets f s) (lies_in v f.value) h (meet
 
 -- a fact holds after a store that leaves its values where the fact has the address
 HoldsFact-stored :
-    (before after : List ByteCell) (memory stored : ℕ → ℕ) (s : AddressSet) (v : StridedInterval) (f : Fact)
+    (before after : List Cell) (memory stored : ℕ → ℕ) (s : AddressSet) (v : StridedInterval) (f : Fact)
     → HasCellsOf before after → (w : IsStored s v memory stored) → HoldsFact before memory f
     → (has_address f w.address ≡ true → has_cell after w.address ≡ false → In f.value (stored w.address))
     → HoldsFact after stored f
@@ -122,7 +178,7 @@ HoldsFact-stored before after memory stored s v f c w h there =
         other a b e p = grind (arith, nat_tests)
 
 HoldFacts-unbroken :
-    (facts : List Fact) (before after : List ByteCell) (memory stored : ℕ → ℕ) (s : AddressSet) (v : StridedInterval)
+    (facts : List Fact) (before after : List Cell) (memory stored : ℕ → ℕ) (s : AddressSet) (v : StridedInterval)
     → HasCellsOf before after → IsStored s v memory stored → HoldFacts facts before memory
     → HoldFacts (take (unbroken s v facts) facts) after stored
 HoldFacts-unbroken [] before after memory stored s v c w h = tt
@@ -141,7 +197,7 @@ HoldFacts-unbroken (f ∷ facts) before after memory stored s v c w h =
 
 -- a store to a byte that has a cell now
 HoldFacts-to_cell :
-    (facts : List Fact) (before after : List ByteCell) (memory stored : ℕ → ℕ) (s : AddressSet) (v : StridedInterval)
+    (facts : List Fact) (before after : List Cell) (memory stored : ℕ → ℕ) (s : AddressSet) (v : StridedInterval)
     → HasCellsOf before after → (w : IsStored s v memory stored) → has_cell after w.address ≡ true → HoldFacts facts before memory
     → HoldFacts facts after stored
 HoldFacts-to_cell [] before after memory stored s v c w has h = tt
@@ -167,14 +223,14 @@ one-address s a h i =
     let high : a ≤ s.last = b.most in
     omega arith
 
-pub to_cell-has : (after : List ByteCell) (s : AddressSet) (a : ℕ) → is_to_cell after s ≡ true → is_in s a ≡ true → has_cell after a ≡ true
+pub to_cell-has : (after : List Cell) (s : AddressSet) (a : ℕ) → is_to_cell after s ≡ true → is_in s a ≡ true → has_cell after a ≡ true
 unfolding is_to_cell
 to_cell-has after s a e i =
     let p = and_parts _ _ e in
     subst (λ z. has_cell after z ≡ true) (sym (one-address s a p.0 i)) p.1
 
 HoldFacts-level :
-    (facts : List Fact) (before after : List ByteCell) (memory stored : ℕ → ℕ) (s : AddressSet) (v : StridedInterval)
+    (facts : List Fact) (before after : List Cell) (memory stored : ℕ → ℕ) (s : AddressSet) (v : StridedInterval)
     → HasCellsOf before after → IsStored s v memory stored → HoldFacts facts before memory
     → HoldFacts (take (level_after facts after s v) facts) after stored
 unfolding level_after
@@ -189,7 +245,7 @@ HoldFacts-level facts before after memory stored s v c w h = choose (is_to_cell 
     choose false e = HoldFacts-unbroken facts before after memory stored s v c w h
 
 pub level_after_sound :
-    (facts : List Fact) (after : List ByteCell) (s : AddressSet) (v : StridedInterval) (n : ℕ)
+    (facts : List Fact) (after : List Cell) (s : AddressSet) (v : StridedInterval) (n : ℕ)
     → n ≡ level_after facts after s v → IsSoundLevel facts after s v n
 level_after_sound facts after s v n e =
     subst (λ k. IsSoundLevel facts after s v k) (sym e)
@@ -197,61 +253,62 @@ level_after_sound facts after s v n e =
 
 -- ---- cells that go
 
--- a cell that is found is one of them
-is_given_back-found :
-    (facts : List Fact) (kept cells : List ByteCell) (a : ℕ) (v : StridedInterval)
-    → list_all (is_given_back facts kept) cells ≡ true → cell_at cells a ≡ Some v
-    → is_given_back facts kept (record { address = a; value = v }) ≡ true
-is_given_back-found facts kept [] a v h e = cc
-is_given_back-found facts kept (c ∷ cells) a v h e =
-    let p = and_parts _ _ h in
-    choose (c.address == a) refl p.0 e (is_given_back-found facts kept cells a v p.1)
-  where
-    some_same : (x y : StridedInterval) → Some x ≡ Some y → x ≡ y
-    some_same x y e = cc
+-- the fact has another address, or the value lies in the fact's
+abbrev allows_at : ℕ → StridedInterval → Fact → Bool
+allows_at a v f = not (has_address f a) || lies_in v f.value
 
-    choose :
-        (b : Bool) → (c.address == a) ≡ b → is_given_back facts kept c ≡ true → cond b (Some c.value) (cell_at cells a) ≡ Some v
-        → (cell_at cells a ≡ Some v → is_given_back facts kept (record { address = a; value = v }) ≡ true)
-        → is_given_back facts kept (record { address = a; value = v }) ≡ true
-    choose true same first found rest =
-        let at : c.address ≡ a = eqb-true c.address a same in
-        let value : c.value ≡ v = some_same c.value v found in
-        subst (λ z. is_given_back facts kept (record { address = a; value = z }) ≡ true) value
-        (subst (λ z. is_given_back facts kept (record { address = z; value = c.value }) ≡ true) at first)
-    choose false other first found rest = rest found
-
--- where it isn't kept, each fact allows it
+-- where a cell that is given back isn't kept, each fact allows it
 allowed-given_back :
-    (facts : List Fact) (kept : List ByteCell) (a : ℕ) (v : StridedInterval)
-    → is_given_back facts kept (record { address = a; value = v }) ≡ true → has_cell kept a ≡ false
-    → list_all (allows (record { address = a; value = v })) facts ≡ true
-unfolding is_given_back
-allowed-given_back facts kept a v h free = second (has_cell kept a) (list_all (allows (record { address = a; value = v })) facts) h free
+    (facts : List Fact) (kept : List Cell) (c : Cell)
+    → is_given_back facts kept c ≡ true → has_cell kept c.address ≡ false
+    → list_all (allows_at c.address (interval_of c.val)) facts ≡ true
+unfolding is_given_back allows
+allowed-given_back facts kept c h free = second (has_cell kept c.address) (list_all (allows c) facts) h free
   where
     second : (x y : Bool) → (x || y) ≡ true → x ≡ false → y ≡ true
     second false y h p = h
     second true y h p = cc
 
-lies-allowed :
-    (f : Fact) (a : ℕ) (v : StridedInterval)
-    → allows (record { address = a; value = v }) f ≡ true → has_address f a ≡ true → lies_in v f.value ≡ true
-unfolding allows
+-- what each cell that goes says, each of the facts allows
+abbrev AreAllowed : List Fact → List Cell → List Cell → Type 0
+AreAllowed facts cells kept =
+    (a : ℕ) (v : StridedInterval)
+    → cell_at cells a ≡ Some v → has_cell kept a ≡ false → list_all (allows_at a v) facts ≡ true
+
+-- a cell that is found is one of them
+AreAllowed-given_back :
+    (facts : List Fact) (kept cells : List Cell) → list_all (is_given_back facts kept) cells ≡ true → AreAllowed facts cells kept
+AreAllowed-given_back facts kept [] h a v e free = cc
+AreAllowed-given_back facts kept (c ∷ cells) h a v e free =
+    let p = and_parts _ _ h in
+    choose (c.address == a) refl e
+    (allowed-given_back facts kept c p.0) (AreAllowed-given_back facts kept cells p.1 a v)
+  where
+    some_same : (x y : StridedInterval) → Some x ≡ Some y → x ≡ y
+    some_same x y e = cc
+
+    choose :
+        (b : Bool) → (c.address == a) ≡ b → cond b (Some (interval_of c.val)) (cell_at cells a) ≡ Some v
+        → (has_cell kept c.address ≡ false → list_all (allows_at c.address (interval_of c.val)) facts ≡ true)
+        → (cell_at cells a ≡ Some v → has_cell kept a ≡ false → list_all (allows_at a v) facts ≡ true)
+        → list_all (allows_at a v) facts ≡ true
+    choose true same found first rest =
+        let at : c.address ≡ a = eqb-true c.address a same in
+        let value : interval_of c.val ≡ v = some_same (interval_of c.val) v found in
+        subst (λ w. list_all (allows_at a w) facts ≡ true) value
+        (subst (λ z. has_cell kept z ≡ false → list_all (allows_at z (interval_of c.val)) facts ≡ true) at first free)
+    choose false other found first rest = rest found free
+
+lies-allowed : (f : Fact) (a : ℕ) (v : StridedInterval) → allows_at a v f ≡ true → has_address f a ≡ true → lies_in v f.value ≡ true
 lies-allowed f a v h has = second (has_address f a) (lies_in v f.value) h has
   where
     second : (x y : Bool) → (not x || y) ≡ true → x ≡ true → y ≡ true
     second true y h p = h
     second false y h p = cc
 
--- what each cell that goes says, each of the facts allows
-abbrev AreAllowed : List Fact → List ByteCell → List ByteCell → Type 0
-AreAllowed facts cells kept =
-    (a : ℕ) (v : StridedInterval)
-    → cell_at cells a ≡ Some v → has_cell kept a ≡ false → list_all (allows (record { address = a; value = v })) facts ≡ true
-
 HoldsFact-kept :
-    (f : Fact) (cells kept : List ByteCell) (memory : ℕ → ℕ)
-    → ((a : ℕ) (v : StridedInterval) → cell_at cells a ≡ Some v → has_cell kept a ≡ false → allows (record { address = a; value = v }) f ≡ true)
+    (f : Fact) (cells kept : List Cell) (memory : ℕ → ℕ)
+    → ((a : ℕ) (v : StridedInterval) → cell_at cells a ≡ Some v → has_cell kept a ≡ false → allows_at a v f ≡ true)
     → HoldCells cells memory → HoldsFact cells memory f → HoldsFact kept memory f
 unfolding has_cell
 HoldsFact-kept f cells kept memory k c h = record { gives = λ a has free. choose a has free (cell_at cells a) refl }
@@ -263,7 +320,7 @@ HoldsFact-kept f cells kept memory k c h = record { gives = λ a has free. choos
     choose a has free (Some v) e = In-lies_in v f.value (memory a) (lies-allowed f a v (k a v e free) has) (c.gives a v e)
 
 HoldFacts-kept :
-    (facts : List Fact) (cells kept : List ByteCell) (memory : ℕ → ℕ)
+    (facts : List Fact) (cells kept : List Cell) (memory : ℕ → ℕ)
     → AreAllowed facts cells kept → HoldCells cells memory → HoldFacts facts cells memory → HoldFacts facts kept memory
 HoldFacts-kept [] cells kept memory k c h = tt
 HoldFacts-kept (f ∷ facts) cells kept memory k c h = (
@@ -272,11 +329,10 @@ HoldFacts-kept (f ∷ facts) cells kept memory k c h = (
 )
 
 pub keeps_facts_sound :
-    (facts : List Fact) (cells kept : List ByteCell) (o : Bool) → o ≡ keeps_facts facts cells kept → o ≡ true → AreKept facts cells kept
+    (facts : List Fact) (cells kept : List Cell) (o : Bool) → o ≡ keeps_facts facts cells kept → o ≡ true → AreKept facts cells kept
 unfolding keeps_facts
 keeps_facts_sound facts cells kept o e h =
     record {
       gives = λ memory.
-          HoldFacts-kept facts cells kept memory
-          (λ a v found free. allowed-given_back facts kept a v (is_given_back-found facts kept cells a v (sym e ∙ h) found) free);
+          HoldFacts-kept facts cells kept memory (AreAllowed-given_back facts kept cells (sym e ∙ h));
     }

@@ -9,7 +9,7 @@ use Rattle.gb_domain.specs.LowBits.{modulus}
 use Rattle.gb_domain.specs.Interval.{bounds}
 use Rattle.gb_domain.specs.Meaning.{In}
 use Rattle.gb_domain.proofs.ModulusLaws.{Has-low_bits}
-use Rattle.gb_ram_bounds.specs.declared.cells.ByteCell.{ByteCell}
+use Rattle.gb_domain.specs.declared.types.Cell.{Cell}
 use Rattle.gb_ram_bounds.specs.declared.addresses.AddressSet.{AddressSet}
 use Rattle.gb_ops.specs.declared.op.Pointer.{Pointer}
 use Rattle.gb_ops.specs.declared.op.Pointer.TheVariants.{Bc, De, Hl, HighC}
@@ -96,7 +96,7 @@ reaches-surely (Some e) p x a i h = reached-surely e p x a i h
 -- ---- the byte at an address
 
 cut_by_fill-In :
-    (p : Pointers Bounds) (f : Fill) (a : ℕ) (v : StridedInterval) (cells : List ByteCell) (memory : ℕ → ℕ) (x : Pointers ℕ)
+    (p : Pointers Bounds) (f : Fill) (a : ℕ) (v : StridedInterval) (cells : List Cell) (memory : ℕ → ℕ) (x : Pointers ℕ)
     → PointersIn p x → HoldsFill cells memory x f → has_cell cells a ≡ false → In v (memory a)
     → In (cut_by_fill p f a v) (memory a)
 unfolding cut_by_fill is_in_extent
@@ -111,7 +111,7 @@ cut_by_fill-In p f a v cells memory x i h free m = choose (is_between f a && sur
     choose false e = m
 
 pub cut_by_fills-In :
-    (p : Pointers Bounds) (fills : List Fill) (a : ℕ) (v : StridedInterval) (cells : List ByteCell) (memory : ℕ → ℕ) (x : Pointers ℕ)
+    (p : Pointers Bounds) (fills : List Fill) (a : ℕ) (v : StridedInterval) (cells : List Cell) (memory : ℕ → ℕ) (x : Pointers ℕ)
     → PointersIn p x → HoldFills fills cells memory x → has_cell cells a ≡ false → In v (memory a)
     → In (cut_by_fills p fills a v) (memory a)
 cut_by_fills-In p [] a v cells memory x i h free m = m
@@ -131,7 +131,7 @@ differ a b e p = grind (arith, nat_tests)
 
 -- a fill g holds after a store where what it has elsewhere f had, and it has what was stored
 HoldsFill-store :
-    (before after : List ByteCell) (memory stored : ℕ → ℕ) (x : Pointers ℕ) (s : AddressSet) (v : StridedInterval) (f g : Fill)
+    (before after : List Cell) (memory stored : ℕ → ℕ) (x : Pointers ℕ) (s : AddressSet) (v : StridedInterval) (f g : Fill)
     → HasCellsOf before after → (w : IsStored s v memory stored) → HoldsFill before memory x f
     → ((z : ℕ) → In (bytes_of f) z → In (bytes_of g) z)
     → ((a : ℕ) → is_between g a ≡ true → reaches g.end x a ≡ true → (a ≡ w.address → ⊥) → (is_between f a ≡ true) × (reaches f.end x a ≡ true))
@@ -168,7 +168,7 @@ touched-at s f a h i =
     some_of-at (is_in s) (min f.last s.last + 1 - max f.first s.first) (max f.first s.first) a w.0 w.1 i
 
 HoldsFill-grown_if_touched :
-    (before after : List ByteCell) (memory stored : ℕ → ℕ) (x : Pointers ℕ) (s : AddressSet) (v : StridedInterval) (f : Fill)
+    (before after : List Cell) (memory stored : ℕ → ℕ) (x : Pointers ℕ) (s : AddressSet) (v : StridedInterval) (f : Fill)
     → HasCellsOf before after → IsStored s v memory stored → HoldsFill before memory x f
     → HoldsFill after stored x (grown_if_touched after s v f)
 unfolding grown_if_touched
@@ -229,7 +229,7 @@ unfolding is_reached
 reached-before e p a o h other = before-one_more e.reach p e.offset a o h other
 
 HoldsFill-extended :
-    (before after : List ByteCell) (memory stored : ℕ → ℕ) (x : Pointers ℕ) (s : AddressSet) (v : StridedInterval) (f : Fill) (e : FillEnd)
+    (before after : List Cell) (memory stored : ℕ → ℕ) (x : Pointers ℕ) (s : AddressSet) (v : StridedInterval) (f : Fill) (e : FillEnd)
     → HasCellsOf before after → (w : IsStored s v memory stored) → w.address ≡ at_pointer e.pointer x → e.offset ≡ 32768
     → f.end ≡ Some e → HoldsFill before memory x f
     → HoldsFill after stored x (record (grown v f) { end = Some (record e { offset = one_more e.reach }) })
@@ -242,7 +242,7 @@ HoldsFill-extended before after memory stored x s v f e c w at offset ends h =
     (λ between free. In-grown_new v f (stored w.address) w.value)
 
 HoldsFill-filled :
-    (before after : List ByteCell) (memory stored : ℕ → ℕ) (x : Pointers ℕ) (s : AddressSet) (through : Option Pointer)
+    (before after : List Cell) (memory stored : ℕ → ℕ) (x : Pointers ℕ) (s : AddressSet) (through : Option Pointer)
     (v : StridedInterval) (f : Fill)
     → HasCellsOf before after → (w : IsStored s v memory stored) → GoesThrough through x w.address
     → HoldsFill before memory x f → HoldsFill after stored x (filled after s through v f)
@@ -265,7 +265,7 @@ HoldsFill-filled before after memory stored x s through v f c w g h =
         choose false is = other
 
 pub filled_sound :
-    (after : List ByteCell) (s : AddressSet) (through : Option Pointer) (v : StridedInterval) (f o : Fill)
+    (after : List Cell) (s : AddressSet) (through : Option Pointer) (v : StridedInterval) (f o : Fill)
     → o ≡ filled after s through v f → IsSoundStore after s through v f o
 filled_sound after s through v f o e =
     subst (λ r. IsSoundStore after s through v f r) (sym e)
@@ -295,7 +295,7 @@ extent-reached Above p offset f a near h = above (p + offset) f.first f.last a n
 
 -- what is known with any value of the pointer is known without it
 HoldsFill-extent :
-    (e : FillEnd) (p : Pointers Bounds) (f : Fill) (cells : List ByteCell) (memory : ℕ → ℕ) (x y : Pointers ℕ)
+    (e : FillEnd) (p : Pointers Bounds) (f : Fill) (cells : List Cell) (memory : ℕ → ℕ) (x y : Pointers ℕ)
     → PointersIn p x → f.end ≡ Some e → HoldsFill cells memory x f → is_surely_reached e p (near_end e.reach f) ≡ true
     → HoldsFill cells memory y (cut_to_extent e.reach (nearest e.reach (at_pointer e.pointer p) + e.offset) f)
 unfolding is_surely_reached is_reached
@@ -319,7 +319,7 @@ HoldsFill-extent e p f cells memory x y i ends h near =
         (h.gives a both.0 (subst (λ o. reaches o x a ≡ true) (sym ends) now) free)
 
 pub HoldsSome-fixed :
-    (e : FillEnd) (p : Pointers Bounds) (f : Fill) (cells : List ByteCell) (memory : ℕ → ℕ) (x y : Pointers ℕ)
+    (e : FillEnd) (p : Pointers Bounds) (f : Fill) (cells : List Cell) (memory : ℕ → ℕ) (x y : Pointers ℕ)
     → PointersIn p x → f.end ≡ Some e → HoldsFill cells memory x f → HoldsSome (fixed_at e p f) cells memory y
 unfolding fixed_at
 HoldsSome-fixed e p f cells memory x y i ends h = choose (is_surely_reached e p (near_end e.reach f)) refl
@@ -333,7 +333,7 @@ HoldsSome-fixed e p f cells memory x y i ends h = choose (is_surely_reached e p 
 
 -- with another pointer at its end, or none, the fill is about the same addresses
 pub HoldsFill-elsewhere :
-    (f : Fill) (cells : List ByteCell) (memory : ℕ → ℕ) (x y : Pointers ℕ)
+    (f : Fill) (cells : List Cell) (memory : ℕ → ℕ) (x y : Pointers ℕ)
     → ((a : ℕ) → reaches f.end y a ≡ true → reaches f.end x a ≡ true) → HoldsFill cells memory x f → HoldsFill cells memory y f
 HoldsFill-elsewhere f cells memory x y same h = record { gives = λ a between reached. h.gives a between (same a reached) }
 
@@ -343,7 +343,7 @@ reaches-other :
 reaches-other e q x y a o other h = subst (λ z. is_reached e z a ≡ true) (o.gives e.pointer other) h
 
 HoldsFill-other :
-    (e : FillEnd) (q : Pointer) (f : Fill) (cells : List ByteCell) (memory : ℕ → ℕ) (x y : Pointers ℕ)
+    (e : FillEnd) (q : Pointer) (f : Fill) (cells : List Cell) (memory : ℕ → ℕ) (x y : Pointers ℕ)
     → OthersStay q x y → is_same_pointer q e.pointer ≡ false → f.end ≡ Some e → HoldsFill cells memory x f → HoldsFill cells memory y f
 HoldsFill-other e q f cells memory x y o other ends h =
     HoldsFill-elsewhere f cells memory x y
@@ -352,13 +352,13 @@ HoldsFill-other e q f cells memory x y o other ends h =
     h
 
 pub HoldsFill-none :
-    (f : Fill) (cells : List ByteCell) (memory : ℕ → ℕ) (x y : Pointers ℕ)
+    (f : Fill) (cells : List Cell) (memory : ℕ → ℕ) (x y : Pointers ℕ)
     → f.end ≡ None → HoldsFill cells memory x f → HoldsFill cells memory y f
 HoldsFill-none f cells memory x y ends h =
     HoldsFill-elsewhere f cells memory x y (λ a reached. subst (λ r. reaches r x a ≡ true) (sym ends) refl) h
 
 HoldsSome-written :
-    (q : Pointer) (p : Pointers Bounds) (f : Fill) (cells : List ByteCell) (memory : ℕ → ℕ) (x y : Pointers ℕ)
+    (q : Pointer) (p : Pointers Bounds) (f : Fill) (cells : List Cell) (memory : ℕ → ℕ) (x y : Pointers ℕ)
     → PointersIn p x → OthersStay q x y → HoldsFill cells memory x f → HoldsSome (written q p f) cells memory y
 unfolding written
 HoldsSome-written q p f cells memory x y i o h = by_end f.end refl
@@ -397,7 +397,7 @@ is_on-lowered Above p n offset a h =
 
 -- with another distance the fill is about the same addresses
 HoldsFill-moved :
-    (e : FillEnd) (offset : ℕ) (f : Fill) (cells : List ByteCell) (memory : ℕ → ℕ) (x y : Pointers ℕ)
+    (e : FillEnd) (offset : ℕ) (f : Fill) (cells : List Cell) (memory : ℕ → ℕ) (x y : Pointers ℕ)
     → f.end ≡ Some e
     → ((a : ℕ) → is_reached (record e { offset = offset }) (at_pointer e.pointer y) a ≡ true → is_reached e (at_pointer e.pointer x) a ≡ true)
     → HoldsFill cells memory x f → HoldsFill cells memory y (with_offset e offset f)
@@ -416,7 +416,7 @@ unfolding is_reached
 reached-lowered e p r n a at h = subst (λ z. is_on e.reach z e.offset a ≡ true) (sym at) (is_on-lowered e.reach r n e.offset a h)
 
 HoldsSome-raised :
-    (q : Pointer) (n : ℕ) (p : Pointers Bounds) (f : Fill) (cells : List ByteCell) (memory : ℕ → ℕ) (x y : Pointers ℕ)
+    (q : Pointer) (n : ℕ) (p : Pointers Bounds) (f : Fill) (cells : List Cell) (memory : ℕ → ℕ) (x y : Pointers ℕ)
     → PointersIn p x → OthersStay q x y → at_pointer q y ≡ at_pointer q x + n → HoldsFill cells memory x f
     → HoldsSome (raised q n p f) cells memory y
 unfolding raised
@@ -440,7 +440,7 @@ HoldsSome-raised q n p f cells memory x y i o at h = by_end f.end refl
         choose false other c d = HoldsFill-other e q f cells memory x y o other ends h
 
 HoldsSome-lowered :
-    (q : Pointer) (n : ℕ) (p : Pointers Bounds) (f : Fill) (cells : List ByteCell) (memory : ℕ → ℕ) (x y : Pointers ℕ)
+    (q : Pointer) (n : ℕ) (p : Pointers Bounds) (f : Fill) (cells : List Cell) (memory : ℕ → ℕ) (x y : Pointers ℕ)
     → PointersIn p x → OthersStay q x y → at_pointer q x ≡ at_pointer q y + n → HoldsFill cells memory x f
     → HoldsSome (lowered q n p f) cells memory y
 unfolding lowered

@@ -3,3 +3,4 @@ pub mod CoveringLaws
 pub mod FactLaws
 pub mod FillLaws
 pub mod ReturnedLaws
+pub mod ThroughoutLaws

@@ -6,7 +6,7 @@ use Rattle.std.specs.List.{list_any, list_all}
 use Rattle.gb_domain.specs.declared.types.Range.{Range}
 use Rattle.gb_domain.specs.declared.pairs.Bounds.{Bounds}
 use Rattle.gb_domain.specs.Meaning.{In}
-use Rattle.gb_ram_bounds.specs.declared.cells.ByteCell.{ByteCell}
+use Rattle.gb_domain.specs.declared.types.Cell.{Cell}
 use Rattle.gb_ram_bounds.specs.declared.facts.Fact.{Fact}
 use Rattle.gb_ram_bounds.specs.declared.pointers.Pointers.{Pointers}
 use Rattle.gb_ram_bounds.specs.declared.fills.FillEnd.{FillEnd}
@@ -33,7 +33,7 @@ counted first last a low high = omega arith
 
 -- at an address without a cell the fact's byte is the exit's or the caller's
 In-claimed :
-    (ranges : List Range) (exit caller cells : List ByteCell) (before after : ℕ → ℕ) (in_exit in_caller : Bool) (f : Fact) (a : ℕ)
+    (ranges : List Range) (exit caller cells : List Cell) (before after : ℕ → ℕ) (in_exit in_caller : Bool) (f : Fact) (a : ℕ)
     → IsReturn ranges exit caller cells before after
     → (in_exit ≡ true → HoldsFact exit after f) → (in_caller ≡ true → HoldsFact caller before f)
     → has_address f a ≡ true → has_cell cells a ≡ false
@@ -58,7 +58,7 @@ In-claimed ranges exit caller cells before after in_exit in_caller f a r x c has
     ]
 
 HoldsFact-stays :
-    (ranges : List Range) (exit caller cells : List ByteCell) (before after : ℕ → ℕ) (in_exit in_caller : Bool) (f : Fact)
+    (ranges : List Range) (exit caller cells : List Cell) (before after : ℕ → ℕ) (in_exit in_caller : Bool) (f : Fact)
     → IsReturn ranges exit caller cells before after
     → (in_exit ≡ true → HoldsFact exit after f) → (in_caller ≡ true → HoldsFact caller before f)
     → stays ranges exit cells in_exit in_caller f ≡ true → HoldsFact cells after f
@@ -74,11 +74,11 @@ HoldsFact-stays ranges exit caller cells before after in_exit in_caller f r x c 
           (claimed (has_address f a) (has_cell cells a) (claims (is_in_ranges ranges a) in_exit in_caller (has_cell exit a)) at has free);
     }
 
-first-holds : (n : ℕ) (f : Fact) (facts : List Fact) (cells : List ByteCell) (memory : ℕ → ℕ) → HoldFacts (take n (f ∷ facts)) cells memory → nat_lt 0 n ≡ true → HoldsFact cells memory f
+first-holds : (n : ℕ) (f : Fact) (facts : List Fact) (cells : List Cell) (memory : ℕ → ℕ) → HoldFacts (take n (f ∷ facts)) cells memory → nat_lt 0 n ≡ true → HoldsFact cells memory f
 first-holds zero f facts cells memory h some = cc
 first-holds (suc n) f facts cells memory h some = h.0
 
-others-hold : (n : ℕ) (f : Fact) (facts : List Fact) (cells : List ByteCell) (memory : ℕ → ℕ) → HoldFacts (take n (f ∷ facts)) cells memory → HoldFacts (take (n - 1) facts) cells memory
+others-hold : (n : ℕ) (f : Fact) (facts : List Fact) (cells : List Cell) (memory : ℕ → ℕ) → HoldFacts (take n (f ∷ facts)) cells memory → HoldFacts (take (n - 1) facts) cells memory
 others-hold zero f facts cells memory h = none facts
   where
     none : (xs : List Fact) → HoldFacts (take 0 xs) cells memory
@@ -88,7 +88,7 @@ others-hold (suc n) f facts cells memory h =
     let same : n ≡ suc n - 1 = omega arith in subst (λ k. HoldFacts (take k facts) cells memory) same h.1
 
 HoldFacts-staying :
-    (facts : List Fact) (n m : ℕ) (ranges : List Range) (exit caller cells : List ByteCell) (before after : ℕ → ℕ)
+    (facts : List Fact) (n m : ℕ) (ranges : List Range) (exit caller cells : List Cell) (before after : ℕ → ℕ)
     → IsReturn ranges exit caller cells before after
     → HoldFacts (take n facts) exit after → HoldFacts (take m facts) caller before
     → HoldFacts (take (staying ranges exit cells facts n m) facts) cells after
@@ -109,7 +109,7 @@ HoldFacts-staying (f ∷ facts) n m ranges exit caller cells before after r x c 
     choose false e rest = tt
 
 pub staying_sound :
-    (ranges : List Range) (exit cells : List ByteCell) (facts : List Fact) (n m level : ℕ)
+    (ranges : List Range) (exit cells : List Cell) (facts : List Fact) (n m level : ℕ)
     → level ≡ staying ranges exit cells facts n m → IsSoundReturnedLevel ranges exit cells facts n m level
 staying_sound ranges exit cells facts n m level e =
     subst (λ k. IsSoundReturnedLevel ranges exit cells facts n m k) (sym e)
@@ -141,7 +141,7 @@ inside-ranges (r ∷ ranges) f a h i = elim (or_cases (lies_in_range f r) (list_
     or-second false c e = e
 
 HoldsFill-exit :
-    (ranges : List Range) (f : Fill) (exit caller cells : List ByteCell) (before after : ℕ → ℕ) (y : Pointers ℕ)
+    (ranges : List Range) (f : Fill) (exit caller cells : List Cell) (before after : ℕ → ℕ) (y : Pointers ℕ)
     → lies_in_one ranges f ≡ true → IsReturn ranges exit caller cells before after → HoldsFill exit after y f → HoldsFill cells after y f
 unfolding lies_in_one is_in_ranges
 HoldsFill-exit ranges f exit caller cells before after y inside r h =
@@ -167,7 +167,7 @@ outside-ranges (r ∷ ranges) f a h i =
     neither b c p q = rw p q
 
 HoldsFill-outside :
-    (ranges : List Range) (f : Fill) (exit caller cells : List ByteCell) (before after : ℕ → ℕ) (x : Pointers ℕ)
+    (ranges : List Range) (f : Fill) (exit caller cells : List Cell) (before after : ℕ → ℕ) (x : Pointers ℕ)
     → misses_all ranges f ≡ true → IsReturn ranges exit caller cells before after → HoldsFill caller before x f → HoldsFill cells after x f
 unfolding misses_all is_in_ranges
 HoldsFill-outside ranges f exit caller cells before after x outside r h =
@@ -178,7 +178,7 @@ HoldsFill-outside ranges f exit caller cells before after x outside r h =
     }
 
 HoldsFill-kept :
-    (e : FillEnd) (f : Fill) (cells : List ByteCell) (memory : ℕ → ℕ) (x y : Pointers ℕ)
+    (e : FillEnd) (f : Fill) (cells : List Cell) (memory : ℕ → ℕ) (x y : Pointers ℕ)
     → f.end ≡ Some e → at_pointer e.pointer y ≡ at_pointer e.pointer x → HoldsFill cells memory x f → HoldsFill cells memory y f
 HoldsFill-kept e f cells memory x y ends same h =
     HoldsFill-elsewhere f cells memory x y
@@ -188,7 +188,7 @@ HoldsFill-kept e f cells memory x y ends same h =
     h
 
 HoldsSome-left :
-    (ranges : List Range) (kept : Pointers Bool) (p : Pointers Bounds) (f : Fill) (exit caller cells : List ByteCell) (before after : ℕ → ℕ) (x y : Pointers ℕ)
+    (ranges : List Range) (kept : Pointers Bool) (p : Pointers Bounds) (f : Fill) (exit caller cells : List Cell) (before after : ℕ → ℕ) (x y : Pointers ℕ)
     → IsReturn ranges exit caller cells before after → PointersIn p x → KeepsPointers kept x y
     → HoldsFill caller before x f → HoldsSome (left_of_caller ranges kept p f) cells after y
 unfolding left_of_caller

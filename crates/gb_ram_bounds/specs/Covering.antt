@@ -4,7 +4,7 @@ use Rattle.std.specs.List.{list_all, list_any}
 use Rattle.gb_domain.specs.declared.pairs.Bounds.{Bounds}
 use Rattle.gb_domain.specs.declared.interval.StridedInterval.{StridedInterval}
 use Rattle.gb_domain.specs.Interval.{any_byte, lies_in}
-use Rattle.gb_ram_bounds.specs.declared.cells.ByteCell.{ByteCell}
+use Rattle.gb_domain.specs.declared.types.Cell.{Cell}
 use Rattle.gb_ram_bounds.specs.declared.facts.Fact.{Fact}
 use Rattle.gb_ram_bounds.specs.declared.pointers.Pointers.{Pointers}
 use Rattle.gb_ram_bounds.specs.declared.fills.Reach.{Reach}
@@ -21,21 +21,21 @@ cell_or None v = v
 cell_or (Some w) v = w
 
 -- the cell's value; else any byte, cut in turn to the facts that hold, and to the fills
-unfoldable pub byte_at : List Fact → List ByteCell → List Fill → Pointers Bounds → ℕ → StridedInterval
+unfoldable pub byte_at : List Fact → List Cell → List Fill → Pointers Bounds → ℕ → StridedInterval
 byte_at facts cells fills p a = cell_or (cell_at cells a) (cut_by_fills p fills a (cut_by_facts facts a any_byte))
 
 -- ---- facts that don't hold yet
 
 -- the fact has another address, or there a cell is kept, or the byte's value lies in the fact's
-unfoldable pub is_given_at : List Fact → List ByteCell → List Fill → Pointers Bounds → List ByteCell → Fact → ℕ → Bool
+unfoldable pub is_given_at : List Fact → List Cell → List Fill → Pointers Bounds → List Cell → Fact → ℕ → Bool
 is_given_at facts cells fills p kept f a =
     not (has_address f a) || has_cell kept a || lies_in (byte_at facts cells fills p a) f.value
 
-unfoldable pub gives_fact : List Fact → List ByteCell → List Fill → Pointers Bounds → List ByteCell → Fact → Bool
+unfoldable pub gives_fact : List Fact → List Cell → List Fill → Pointers Bounds → List Cell → Fact → Bool
 gives_fact facts cells fills p kept f = each_between f.first f.last (is_given_at facts cells fills p kept f)
 
 -- with the cells that are kept all these facts hold too
-unfoldable pub gives_facts : List Fact → List ByteCell → List Fill → Pointers Bounds → List ByteCell → List Fact → Bool
+unfoldable pub gives_facts : List Fact → List Cell → List Fill → Pointers Bounds → List Cell → List Fact → Bool
 gives_facts facts cells fills p kept wanted = list_all (gives_fact facts cells fills p kept) wanted
 
 -- ---- fills
@@ -59,7 +59,7 @@ abbrev pub is_said_at : Fill → ℕ → List Fill → Bool
 is_said_at f a fills = list_any (says_at f a) fills
 
 -- the fill isn't about the address, or a cell is kept there, or a fill of the state says it, or the byte's value lies in the fill's
-unfoldable pub is_filled_at : List Fact → List ByteCell → List Fill → Pointers Bounds → List ByteCell → Fill → ℕ → Bool
+unfoldable pub is_filled_at : List Fact → List Cell → List Fill → Pointers Bounds → List Cell → Fill → ℕ → Bool
 is_filled_at facts cells fills p kept f a =
     not (may_reach f.end p a)
     || has_cell kept a
@@ -67,9 +67,9 @@ is_filled_at facts cells fills p kept f a =
     || lies_in (byte_at facts cells fills p a) (bytes_of f)
 
 -- with the cells that are kept the fill holds
-unfoldable pub gives_fill : List Fact → List ByteCell → List Fill → Pointers Bounds → List ByteCell → Fill → Bool
+unfoldable pub gives_fill : List Fact → List Cell → List Fill → Pointers Bounds → List Cell → Fill → Bool
 gives_fill facts cells fills p kept f = each_between f.first f.last (is_filled_at facts cells fills p kept f)
 
 -- with them all these fills hold
-unfoldable pub gives_fills : List Fact → List ByteCell → List Fill → Pointers Bounds → List ByteCell → List Fill → Bool
+unfoldable pub gives_fills : List Fact → List Cell → List Fill → Pointers Bounds → List Cell → List Fill → Bool
 gives_fills facts cells fills p kept wanted = list_all (gives_fill facts cells fills p kept) wanted

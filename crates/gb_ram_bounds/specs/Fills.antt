@@ -3,7 +3,7 @@ use Rattle.std.specs.Prelude.{ℕ, ◌+◌, ◌-◌, Bool, true, false, not, ◌
 use Rattle.gb_domain.specs.declared.pairs.Bounds.{Bounds}
 use Rattle.gb_domain.specs.declared.interval.StridedInterval.{StridedInterval}
 use Rattle.gb_domain.specs.Interval.{bounds}
-use Rattle.gb_ram_bounds.specs.declared.cells.ByteCell.{ByteCell}
+use Rattle.gb_domain.specs.declared.types.Cell.{Cell}
 use Rattle.gb_ram_bounds.specs.declared.addresses.AddressSet.{AddressSet}
 use Rattle.gb_ops.specs.declared.op.Pointer.{Pointer}
 use Rattle.gb_ops.specs.declared.op.Pointer.TheVariants as pointer
@@ -114,7 +114,7 @@ unfoldable pub is_touched : AddressSet → Fill → Bool
 is_touched s f = some_between (max f.first s.first) (min f.last s.last) (is_in s)
 
 -- the store leaves the stretch as it is, or grows the fill
-unfoldable pub grown_if_touched : List ByteCell → AddressSet → StridedInterval → Fill → Fill
+unfoldable pub grown_if_touched : List Cell → AddressSet → StridedInterval → Fill → Fill
 grown_if_touched cells s v f = if not (is_to_cell cells s) && is_touched s f then grown v f else f
 
 abbrev pub extended_if : Bool → FillEnd → StridedInterval → Fill → Fill → Fill
@@ -126,7 +126,7 @@ filled_by None through v f other = other
 filled_by (Some e) through v f other = extended_if (ends_at through e) e v f other
 
 -- the fill after a store; the cells are those after it
-unfoldable pub filled : List ByteCell → AddressSet → Option Pointer → StridedInterval → Fill → Fill
+unfoldable pub filled : List Cell → AddressSet → Option Pointer → StridedInterval → Fill → Fill
 filled cells s through v f = filled_by f.end through v f (grown_if_touched cells s v f)
 
 -- ---- a pointer that is written

@@ -3,5 +3,6 @@ pub mod Addresses
 pub mod Facts
 pub mod Fills
 pub mod Covering
+pub mod Throughout
 pub mod Meaning
 pub mod Returned

@@ -3,7 +3,7 @@ use Rattle.std.specs.Prelude.{◌≡◌, ℕ, suc, ◌-◌, Bool, true, false, n
 use Rattle.std.specs.List.{list_any, list_all}
 use Rattle.gb_domain.specs.declared.types.Range.{Range}
 use Rattle.gb_domain.specs.declared.pairs.Bounds.{Bounds}
-use Rattle.gb_ram_bounds.specs.declared.cells.ByteCell.{ByteCell}
+use Rattle.gb_domain.specs.declared.types.Cell.{Cell}
 use Rattle.gb_ram_bounds.specs.declared.facts.Fact.{Fact}
 use Rattle.gb_ops.specs.declared.op.Pointer.{Pointer}
 use Rattle.gb_ram_bounds.specs.declared.pointers.Pointers.{Pointers}
@@ -46,16 +46,16 @@ claims true in_exit in_caller exit_has = in_exit
 claims false in_exit in_caller exit_has = in_caller || in_exit && not exit_has
 
 -- the fact has another address, or there is a cell, or the exit or the caller says it there
-unfoldable pub stays_at : List Range → List ByteCell → List ByteCell → Bool → Bool → Fact → ℕ → Bool
+unfoldable pub stays_at : List Range → List Cell → List Cell → Bool → Bool → Fact → ℕ → Bool
 stays_at ranges exit cells in_exit in_caller f a =
     not (has_address f a) || has_cell cells a || claims (is_in_ranges ranges a) in_exit in_caller (has_cell exit a)
 
-unfoldable pub stays : List Range → List ByteCell → List ByteCell → Bool → Bool → Fact → Bool
+unfoldable pub stays : List Range → List Cell → List Cell → Bool → Bool → Fact → Bool
 stays ranges exit cells in_exit in_caller f =
     (in_exit || in_caller) && each_between f.first f.last (stays_at ranges exit cells in_exit in_caller f)
 
 -- how many facts there are before the first that doesn't stay: n of them hold at the exit, m in the caller
-abbrev pub staying : List Range → List ByteCell → List ByteCell → List Fact → ℕ → ℕ → ℕ
+abbrev pub staying : List Range → List Cell → List Cell → List Fact → ℕ → ℕ → ℕ
 staying ranges exit cells [] n m = 0
 staying ranges exit cells (f ∷ facts) n m =
     if stays ranges exit cells (nat_lt 0 n) (nat_lt 0 m) f then suc (staying ranges exit cells facts (n - 1) (m - 1)) else 0
@@ -74,22 +74,22 @@ left_of_caller ranges kept p f = if misses_all ranges f then kept_or_fixed f.end
 -- ---- what that promises
 
 -- cells and memory where a routine returns: it wrote inside its ranges alone, and no cell of what counts there is lost
-pub record IsReturn (ranges : List Range) (exit caller cells : List ByteCell) (before after : ℕ → ℕ) : Type 0 where
+pub record IsReturn (ranges : List Range) (exit caller cells : List Cell) (before after : ℕ → ℕ) : Type 0 where
   pub inside : (a : ℕ) → is_in_ranges ranges a ≡ true → has_cell cells a ≡ false → has_cell exit a ≡ false
   pub outside : (a : ℕ) → is_in_ranges ranges a ≡ false → has_cell cells a ≡ false → has_cell caller a ≡ false
   pub memory : (a : ℕ) → is_in_ranges ranges a ≡ false → after a ≡ before a
 
 -- n facts held at the exit, m in the caller: so many hold
-pub record IsSoundReturnedLevel (ranges : List Range) (exit cells : List ByteCell) (facts : List Fact) (n m level : ℕ) : Type 0 where
+pub record IsSoundReturnedLevel (ranges : List Range) (exit cells : List Cell) (facts : List Fact) (n m level : ℕ) : Type 0 where
   pub gives :
-      (caller : List ByteCell) (before after : ℕ → ℕ)
+      (caller : List Cell) (before after : ℕ → ℕ)
       → IsReturn ranges exit caller cells before after
       → HoldFacts (take n facts) exit after → HoldFacts (take m facts) caller before → HoldFacts (take level facts) cells after
 
 -- a fill of the exit holds
 pub record IsSoundExitFill (ranges : List Range) (f : Fill) : Type 0 where
   pub gives :
-      (exit caller cells : List ByteCell) (before after : ℕ → ℕ) (y : Pointers ℕ)
+      (exit caller cells : List Cell) (before after : ℕ → ℕ) (y : Pointers ℕ)
       → IsReturn ranges exit caller cells before after → HoldsFill exit after y f → HoldsFill cells after y f
 
 -- pointers that the routine kept are what they were
@@ -99,6 +99,6 @@ pub record KeepsPointers (kept : Pointers Bool) (x y : Pointers ℕ) : Type 0 wh
 -- what is left of a fill of the caller holds
 pub record IsSoundCallerFill (ranges : List Range) (kept : Pointers Bool) (p : Pointers Bounds) (f : Fill) (o : Option Fill) : Type 0 where
   pub gives :
-      (exit caller cells : List ByteCell) (before after : ℕ → ℕ) (x y : Pointers ℕ)
+      (exit caller cells : List Cell) (before after : ℕ → ℕ) (x y : Pointers ℕ)
       → IsReturn ranges exit caller cells before after → PointersIn p x → KeepsPointers kept x y
       → HoldsFill caller before x f → HoldsSome o cells after y

@@ -4,17 +4,19 @@ ghost use Rattle.std.specs.Prelude.{◌≡◌, true};
 ghost use Rattle.gb_ram_bounds.specs.Covering as Covering;
 ghost use Rattle.gb_ram_bounds.specs.Meaning.{IsSoundByte, GivesFacts, GivesFills};
 
-use crate::cells::{ByteCell, cell_at, has_cell};
+use crate::cells::{cell_at, has_cell};
 use crate::facts::{Fact, cut_by_facts, has_address};
 use crate::fills::{Fill, FillEnd, Reach, cut_by_fills, may_reach};
 use crate::pointers::{Pointers, is_same};
+use crate::throughout::{is_filled_throughout, is_given_throughout};
 use gb_domain::interval::{bounds, lies_in};
+use gb_domain::types::Cell;
 use gb_domain::{Bounds, StridedInterval};
 
 #[tactic(auto, unfolding(crate::specs::Covering::byte_at))]
 fn known_byte(
     facts: &[Fact],
-    cells: &[ByteCell],
+    cells: &[Cell],
     fills: &[Fill],
     pointers: &Pointers<Bounds>,
     address: u16,
@@ -35,7 +37,7 @@ fn known_byte(
 #[tactic(auto, using(crate::proofs::CoveringLaws::byte_at_sound))]
 pub fn byte_at(
     facts: &[Fact],
-    cells: &[ByteCell],
+    cells: &[Cell],
     fills: &[Fill],
     pointers: &Pointers<Bounds>,
     address: u16,
@@ -49,10 +51,10 @@ pub fn byte_at(
 #[tactic(auto, unfolding(crate::specs::Covering::is_given_at))]
 fn is_given_at(
     facts: &[Fact],
-    cells: &[ByteCell],
+    cells: &[Cell],
     fills: &[Fill],
     pointers: &Pointers<Bounds>,
-    kept: &[ByteCell],
+    kept: &[Cell],
     fact: &Fact,
     address: u16,
 ) -> bool
@@ -69,10 +71,10 @@ fn is_given_at(
 #[tactic(auto, using(crate::proofs::AddressLaws::each_of_none, crate::proofs::AddressLaws::each_of_failed, crate::proofs::AddressLaws::each_of_next), unfolding(crate::specs::Covering::gives_fact))]
 fn gives_fact(
     facts: &[Fact],
-    cells: &[ByteCell],
+    cells: &[Cell],
     fills: &[Fill],
     pointers: &Pointers<Bounds>,
-    kept: &[ByteCell],
+    kept: &[Cell],
     fact: &Fact,
 ) -> bool
     ensures { result ≡ Covering.gives_fact facts.now cells.now fills.now pointers.now kept.now fact.now }
@@ -85,29 +87,49 @@ fn gives_fact(
     true
 }
 
+/// Whether a fact holds, as `gives_fact` says. A program that clears its RAM first has a fill of all of it from then on, so that is
+/// asked first.
+#[tactic(auto, using(crate::proofs::ThroughoutLaws::gives_fact_throughout))]
+fn gives_fact_soon(
+    facts: &[Fact],
+    cells: &[Cell],
+    fills: &[Fill],
+    pointers: &Pointers<Bounds>,
+    kept: &[Cell],
+    fact: Fact,
+) -> bool
+    ensures { result ≡ Covering.gives_fact facts.now cells.now fills.now pointers.now kept.now fact }
+{
+    if is_given_throughout(facts, cells, fills, kept, fact) {
+        return true;
+    }
+    gives_fact(facts, cells, fills, pointers, kept, &fact)
+}
+
 #[tactic(auto, unfolding(crate::specs::Covering::gives_facts))]
 fn give_facts(
     facts: &[Fact],
-    cells: &[ByteCell],
+    cells: &[Cell],
     fills: &[Fill],
     pointers: &Pointers<Bounds>,
-    kept: &[ByteCell],
+    kept: &[Cell],
     wanted: &[Fact],
 ) -> bool
     ensures { result ≡ Covering.gives_facts facts.now cells.now fills.now pointers.now kept.now wanted.now }
 {
-    wanted.iter().all(|fact| gives_fact(facts, cells, fills, pointers, kept, fact))
+    wanted.iter().all(|fact| gives_fact_soon(facts, cells, fills, pointers, kept, *fact))
 }
 
 /// Whether facts hold that didn't hold yet, where only the other cells are kept: at each of their addresses without such a cell what
-/// the state knows of the byte lies in the fact. It is asked address by address.
+/// the state knows of the byte lies in the fact. It is asked address by address,
+/// unless one of the state's fills holds all of it.
 #[tactic(auto, using(crate::proofs::CoveringLaws::gives_facts_sound))]
 pub fn gives_facts(
     facts: &[Fact],
-    cells: &[ByteCell],
+    cells: &[Cell],
     fills: &[Fill],
     pointers: &Pointers<Bounds>,
-    kept: &[ByteCell],
+    kept: &[Cell],
     wanted: &[Fact],
 ) -> bool
     ensures exact { result ≡ Covering.gives_facts facts.now cells.now fills.now pointers.now kept.now wanted.now }
@@ -126,7 +148,8 @@ fn reaches_as_far(reach: Reach, other: Reach, offset: u16, other_offset: u16) ->
     }
 }
 
-fn ends_as_far(end: Option<FillEnd>, other: Option<FillEnd>) -> bool
+/// Whether an end that is a pointer reaches all that another one does.
+pub(crate) fn ends_as_far(end: Option<FillEnd>, other: Option<FillEnd>) -> bool
     ensures { result ≡ Covering.ends_as_far end other }
 {
     match (end, other) {
@@ -158,10 +181,10 @@ fn is_said_at(wanted: &Fill, address: u16, fills: &[Fill]) -> bool
 #[tactic(auto, unfolding(crate::specs::Covering::is_filled_at))]
 fn is_filled_at(
     facts: &[Fact],
-    cells: &[ByteCell],
+    cells: &[Cell],
     fills: &[Fill],
     pointers: &Pointers<Bounds>,
-    kept: &[ByteCell],
+    kept: &[Cell],
     fill: &Fill,
     address: u16,
 ) -> bool
@@ -179,10 +202,10 @@ fn is_filled_at(
 #[tactic(auto, using(crate::proofs::AddressLaws::each_of_none, crate::proofs::AddressLaws::each_of_failed, crate::proofs::AddressLaws::each_of_next), unfolding(crate::specs::Covering::gives_fill))]
 fn gives_fill(
     facts: &[Fact],
-    cells: &[ByteCell],
+    cells: &[Cell],
     fills: &[Fill],
     pointers: &Pointers<Bounds>,
-    kept: &[ByteCell],
+    kept: &[Cell],
     fill: &Fill,
 ) -> bool
     ensures { result ≡ Covering.gives_fill facts.now cells.now fills.now pointers.now kept.now fill.now }
@@ -195,29 +218,49 @@ fn gives_fill(
     true
 }
 
+/// Whether a fill holds, as `gives_fill` says. A loop that clears comes round with the fill that it had, so the ends are asked first:
+/// a stretch may have thousands of addresses.
+#[tactic(auto, using(crate::proofs::ThroughoutLaws::gives_fill_throughout))]
+fn gives_fill_soon(
+    facts: &[Fact],
+    cells: &[Cell],
+    fills: &[Fill],
+    pointers: &Pointers<Bounds>,
+    kept: &[Cell],
+    fill: Fill,
+) -> bool
+    ensures { result ≡ Covering.gives_fill facts.now cells.now fills.now pointers.now kept.now fill }
+{
+    if is_filled_throughout(facts, cells, fills, kept, &fill) {
+        return true;
+    }
+    gives_fill(facts, cells, fills, pointers, kept, &fill)
+}
+
 #[tactic(auto, unfolding(crate::specs::Covering::gives_fills))]
 fn give_fills(
     facts: &[Fact],
-    cells: &[ByteCell],
+    cells: &[Cell],
     fills: &[Fill],
     pointers: &Pointers<Bounds>,
-    kept: &[ByteCell],
+    kept: &[Cell],
     wanted: &[Fill],
 ) -> bool
     ensures { result ≡ Covering.gives_fills facts.now cells.now fills.now pointers.now kept.now wanted.now }
 {
-    wanted.iter().all(|fill| gives_fill(facts, cells, fills, pointers, kept, fill))
+    wanted.iter().all(|fill| gives_fill_soon(facts, cells, fills, pointers, kept, *fill))
 }
 
 /// Whether fills hold where only the other cells are kept: at each of their addresses without such a cell what the state knows of the
-/// byte lies in the fill's bounds, or one of its own fills that ends at the same pointer says so. It is asked address by address.
+/// byte lies in the fill's bounds, or one of its own fills that ends at the same pointer says so. It is asked address by address,
+/// unless one of them says or holds all of it.
 #[tactic(auto, using(crate::proofs::CoveringLaws::gives_fills_sound))]
 pub fn gives_fills(
     facts: &[Fact],
-    cells: &[ByteCell],
+    cells: &[Cell],
     fills: &[Fill],
     pointers: &Pointers<Bounds>,
-    kept: &[ByteCell],
+    kept: &[Cell],
     wanted: &[Fill],
 ) -> bool
     ensures exact { result ≡ Covering.gives_fills facts.now cells.now fills.now pointers.now kept.now wanted.now }

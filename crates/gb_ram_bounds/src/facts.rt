@@ -5,9 +5,12 @@ ghost use Rattle.gb_ram_bounds.specs.Facts as Facts;
 ghost use Rattle.gb_ram_bounds.specs.Meaning.{IsSoundByFacts, IsSoundLevel, AreKept};
 
 use crate::addresses::{AddressSet, is_in, is_one};
-use crate::cells::{ByteCell, has_cell};
+use crate::cells::has_cell;
 use gb_domain::StridedInterval;
 use gb_domain::interval::{cut, lies_in};
+use gb_domain::low_bits::are_congruent;
+use gb_domain::types::Cell;
+use gb_domain::values::interval_of;
 
 /// The bytes at `first`, `first` + `step` and so on to `last` have one of these values each, cells apart.
 #[derive(Clone, Copy)]
@@ -92,11 +95,32 @@ fn meets(fact: &Fact, stored: AddressSet) -> bool
     false
 }
 
+/// Whether all of a fact's addresses have low bits in common, and these have others.
+#[tactic(auto, unfolding(crate::specs::Facts::is_apart))]
+fn is_apart(fact: &Fact, stored: AddressSet) -> bool
+    ensures { result ≡ Facts.is_apart fact.now stored }
+{
+    are_congruent(stored.low.count, fact.step.into(), 0)
+        && !are_congruent(stored.low.count, fact.first, stored.low.bits.into())
+}
+
+/// Whether some address is both, as `meets` says. A store to another field of some struct of an array meets none of the fact's
+/// addresses, so that is asked first: else all of them would be gone through.
+#[tactic(auto, using(crate::proofs::FactLaws::meets_apart))]
+fn meets_soon(fact: &Fact, stored: AddressSet) -> bool
+    ensures { result ≡ Facts.meets fact.now stored }
+{
+    if is_apart(fact, stored) {
+        return false;
+    }
+    meets(fact, stored)
+}
+
 #[tactic(auto, unfolding(crate::specs::Facts::is_broken))]
 fn is_broken(stored: AddressSet, value: StridedInterval, fact: &Fact) -> bool
     ensures { result ≡ Facts.is_broken stored value fact.now }
 {
-    !lies_in(value, fact.value) && meets(fact, stored)
+    !lies_in(value, fact.value) && meets_soon(fact, stored)
 }
 
 fn unbroken(stored: AddressSet, value: StridedInterval, facts: &[Fact]) -> usize
@@ -112,14 +136,14 @@ fn unbroken(stored: AddressSet, value: StridedInterval, facts: &[Fact]) -> usize
 
 /// Whether a store is to one address, which has a cell now.
 #[tactic(auto, unfolding(crate::specs::Facts::is_to_cell))]
-pub(crate) fn is_to_cell(cells: &[ByteCell], stored: AddressSet) -> bool
+pub(crate) fn is_to_cell(cells: &[Cell], stored: AddressSet) -> bool
     ensures { result ≡ Facts.is_to_cell cells.now stored }
 {
     is_one(stored) && has_cell(cells, stored.first)
 }
 
 #[tactic(auto, unfolding(crate::specs::Facts::level_after))]
-fn level(facts: &[Fact], cells: &[ByteCell], stored: AddressSet, value: StridedInterval) -> usize
+fn level(facts: &[Fact], cells: &[Cell], stored: AddressSet, value: StridedInterval) -> usize
     ensures { result ≡ Facts.level_after facts.now cells.now stored value }
 {
     if is_to_cell(cells, stored) {
@@ -134,7 +158,7 @@ fn level(facts: &[Fact], cells: &[ByteCell], stored: AddressSet, value: StridedI
 #[tactic(auto, using(crate::proofs::FactLaws::level_after_sound))]
 pub fn level_after(
     facts: &[Fact],
-    cells: &[ByteCell],
+    cells: &[Cell],
     stored: AddressSet,
     value: StridedInterval,
 ) -> usize
@@ -145,27 +169,27 @@ pub fn level_after(
 }
 
 #[tactic(auto, unfolding(crate::specs::Facts::allows))]
-fn allows(cell: &ByteCell, fact: &Fact) -> bool
+fn allows(cell: &Cell, fact: &Fact) -> bool
     ensures { result ≡ Facts.allows cell.now fact.now }
 {
-    !has_address(fact, cell.address) || lies_in(cell.value, fact.value)
+    !has_address(fact, cell.address) || lies_in(interval_of(cell.val), fact.value)
 }
 
-fn all_allow(facts: &[Fact], cell: &ByteCell) -> bool
+fn all_allow(facts: &[Fact], cell: &Cell) -> bool
     ensures { result ≡ Facts.all_allow facts.now cell.now }
 {
     facts.iter().all(|fact| allows(cell, fact))
 }
 
 #[tactic(auto, unfolding(crate::specs::Facts::is_given_back))]
-fn is_given_back(facts: &[Fact], kept: &[ByteCell], cell: &ByteCell) -> bool
+fn is_given_back(facts: &[Fact], kept: &[Cell], cell: &Cell) -> bool
     ensures { result ≡ Facts.is_given_back facts.now kept.now cell.now }
 {
     has_cell(kept, cell.address) || all_allow(facts, cell)
 }
 
 #[tactic(auto, unfolding(crate::specs::Facts::keeps_facts))]
-fn are_given_back(facts: &[Fact], cells: &[ByteCell], kept: &[ByteCell]) -> bool
+fn are_given_back(facts: &[Fact], cells: &[Cell], kept: &[Cell]) -> bool
     ensures { result ≡ Facts.keeps_facts facts.now cells.now kept.now }
 {
     cells.iter().all(|cell| is_given_back(facts, kept, cell))
@@ -174,7 +198,7 @@ fn are_given_back(facts: &[Fact], cells: &[ByteCell], kept: &[ByteCell]) -> bool
 /// Whether facts that hold still hold where only the other cells are kept: each cell that goes lies in the facts that have its
 /// address.
 #[tactic(auto, using(crate::proofs::FactLaws::keeps_facts_sound))]
-pub fn keeps_facts(facts: &[Fact], cells: &[ByteCell], kept: &[ByteCell]) -> bool
+pub fn keeps_facts(facts: &[Fact], cells: &[Cell], kept: &[Cell]) -> bool
     ensures exact { result ≡ Facts.keeps_facts facts.now cells.now kept.now }
     ensures sound { result ≡ true → AreKept facts.now cells.now kept.now }
 {

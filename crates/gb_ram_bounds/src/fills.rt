@@ -5,10 +5,10 @@ ghost use Rattle.gb_ram_bounds.specs.Fills as Fills;
 ghost use Rattle.gb_ram_bounds.specs.Meaning.{IsSoundByFills, IsSoundStore, IsSoundWrite, IsSoundRise, IsSoundFall};
 
 use crate::addresses::{AddressSet, is_in};
-use crate::cells::ByteCell;
 use crate::facts::{cut_or_same, is_to_cell};
 use crate::pointers::{Pointers, is_same};
 use gb_domain::interval::bounds;
+use gb_domain::types::Cell;
 use gb_domain::{Bounds, StridedInterval};
 use gb_ops::op::Pointer;
 
@@ -202,12 +202,7 @@ fn is_touched(stored: AddressSet, fill: &Fill) -> bool
 }
 
 #[tactic(auto, unfolding(crate::specs::Fills::grown_if_touched))]
-fn grown_if_touched(
-    cells: &[ByteCell],
-    stored: AddressSet,
-    value: StridedInterval,
-    fill: Fill,
-) -> Fill
+fn grown_if_touched(cells: &[Cell], stored: AddressSet, value: StridedInterval, fill: Fill) -> Fill
     ensures { result ≡ Fills.grown_if_touched cells.now stored value fill }
 {
     if !is_to_cell(cells, stored) && is_touched(stored, &fill) {
@@ -219,7 +214,7 @@ fn grown_if_touched(
 
 #[tactic(auto, unfolding(crate::specs::Fills::filled))]
 fn after_store(
-    cells: &[ByteCell],
+    cells: &[Cell],
     stored: AddressSet,
     through: Option<Pointer>,
     value: StridedInterval,
@@ -243,7 +238,7 @@ fn after_store(
 /// goes one address further; another one grows where the store may reach it, but not in a cell. The cells are those after the store.
 #[tactic(auto, using(crate::proofs::FillLaws::filled_sound))]
 pub fn filled(
-    cells: &[ByteCell],
+    cells: &[Cell],
     stored: AddressSet,
     through: Option<Pointer>,
     value: StridedInterval,

@@ -7,7 +7,7 @@
 //! grows fills; a pointer that moves shifts the ends of fills, and one that is written otherwise fixes them; a byte that is read
 //! lies in what facts and fills say; where a routine returns, what its exit says counts inside its ranges, and the caller's outside.
 //!
-//! Read `cells` and `addresses`, then `facts`, `pointers` and `fills`, then `covering`, and last `returned`. `Meaning` of the definitions says which
+//! Read `cells` and `addresses`, then `facts`, `pointers` and `fills`, then `covering` with `throughout`, and last `returned`. `Meaning` of the definitions says which
 //! memories are meant.
 #![tactic(auto)]
 
@@ -18,9 +18,9 @@ pub mod facts;
 pub mod fills;
 pub mod pointers;
 pub mod returned;
+mod throughout;
 
 pub use addresses::AddressSet;
-pub use cells::ByteCell;
 pub use facts::Fact;
 pub use fills::{Fill, FillEnd, Reach};
 pub use pointers::Pointers;

@@ -3,12 +3,12 @@
 ghost use Rattle.std.specs.Prelude.{◌≡◌, true};
 ghost use Rattle.gb_ram_bounds.specs.Returned as Returned;
 
-use crate::cells::{ByteCell, has_cell};
+use crate::cells::has_cell;
 use crate::facts::{Fact, has_address};
 use crate::fills::{Fill, fixed_at};
 use crate::pointers::Pointers;
 use gb_domain::Bounds;
-use gb_domain::types::Range;
+use gb_domain::types::{Cell, Range};
 
 /// Whether an address lies in one of the ranges.
 #[tactic(auto, unfolding(crate::specs::Returned::is_in_ranges))]
@@ -33,8 +33,8 @@ fn claims(is_inside: bool, in_exit: bool, in_caller: bool, exit_has: bool) -> bo
 #[tactic(auto, unfolding(crate::specs::Returned::stays_at))]
 fn stays_at(
     ranges: &[Range],
-    exit: &[ByteCell],
-    cells: &[ByteCell],
+    exit: &[Cell],
+    cells: &[Cell],
     in_exit: bool,
     in_caller: bool,
     fact: &Fact,
@@ -55,8 +55,8 @@ fn stays_at(
 #[tactic(auto, using(crate::proofs::AddressLaws::each_of_none, crate::proofs::AddressLaws::each_of_failed, crate::proofs::AddressLaws::each_of_next), unfolding(crate::specs::Returned::stays))]
 fn stays(
     ranges: &[Range],
-    exit: &[ByteCell],
-    cells: &[ByteCell],
+    exit: &[Cell],
+    cells: &[Cell],
     in_exit: bool,
     in_caller: bool,
     fact: &Fact,
@@ -76,8 +76,8 @@ fn stays(
 
 fn staying(
     ranges: &[Range],
-    exit: &[ByteCell],
-    cells: &[ByteCell],
+    exit: &[Cell],
+    cells: &[Cell],
     facts: &[Fact],
     in_exit: usize,
     in_caller: usize,
@@ -100,8 +100,8 @@ fn staying(
 #[tactic(auto, using(crate::proofs::ReturnedLaws::staying_sound))]
 pub fn returned_level(
     ranges: &[Range],
-    exit: &[ByteCell],
-    cells: &[ByteCell],
+    exit: &[Cell],
+    cells: &[Cell],
     facts: &[Fact],
     in_exit: usize,
     in_caller: usize,
