@@ -3,7 +3,8 @@
 use crate::plan::{Edit, Plan, number_of, unless_empty};
 use crate::sources::{copied, high_registers, loaded, loaded_by, sources, stacked, without};
 use crate::spots::{
-    SWITCHED, has_entry, high_of, is_known, op_at, open_at, pointed_at, pointed_by, value_of,
+    SWITCHED, has_entry, high_of, is_known, op_at, open_at, pointed_at, pointed_by, points_to_rom,
+    value_of,
 };
 use crate::ways::Ways;
 use gb_fixpoint::code_point::CodePoint;
@@ -59,6 +60,12 @@ pub(crate) struct Origins {
     pub loads: BTreeSet<CellLoad>,
     pub entries: BTreeSet<Entering>,
     pub banked: BTreeSet<Spot>,
+    /// Where a byte is loaded from several addresses in RAM, as from an array.
+    pub ranged: BTreeSet<Spot>,
+    /// The tracked cells from which they come.
+    pub cells: BTreeSet<u16>,
+    /// Whether a table in ROM is read on the way.
+    pub is_by_table: bool,
 }
 
 /// A search back from registers to the cells that they were loaded from: over joins, calls, and PUSH with POP.
@@ -77,6 +84,8 @@ struct CellSearch {
     ranged: BTreeSet<Spot>,
     /// The bytes of RAM that were found and aren't tracked.
     untracked: BTreeSet<u16>,
+    /// Whether a table in ROM is read.
+    is_by_table: bool,
     seen: BTreeSet<(Spot, u64)>,
     left: Vec<Question>,
     ways: BTreeMap<usize, Ways>,
@@ -238,6 +247,20 @@ impl CellSearch {
         Ok(())
     }
 
+    /// What a load by a pointer says of where a value comes from: from a bank that isn't known, from one of several bytes, or from ROM.
+    fn note_load(&mut self, run: &Run<'_>, spot: Spot, pointer: Pointer) -> Result<(), AllocError> {
+        if reads_unknown_bank(run, spot, pointer) {
+            self.banked.insert(spot)?;
+        }
+        if reads_several_bytes(run, spot, pointer) {
+            self.ranged.insert(spot)?;
+        }
+        if points_to_rom(run, spot, pointer) {
+            self.is_by_table = true;
+        }
+        Ok(())
+    }
+
     /// The question goes to before an instruction.
     fn step_back(
         &mut self,
@@ -248,18 +271,12 @@ impl CellSearch {
         let Some(op) = op_at(run, spot) else {
             return Ok(());
         };
-        if let Some(pointer) = loaded_by(op, wanted)
-            && reads_unknown_bank(run, spot, pointer)
-        {
-            self.banked.insert(spot)?;
-        }
-        if let Some(pointer) = loaded_by(op, wanted)
-            && reads_several_bytes(run, spot, pointer)
-        {
-            self.ranged.insert(spot)?;
+        let pointer = loaded_by(op, wanted);
+        if let Some(pointer) = pointer {
+            self.note_load(run, spot, pointer)?;
         }
         // A byte of ROM at a known address is known itself, so that what is computed comes from elsewhere.
-        if let Some(cell) = loaded_by(op, wanted).and_then(|pointer| pointed_at(run, spot, pointer))
+        if let Some(cell) = pointer.and_then(|pointer| cell_at_spot(run, spot, pointer))
             && (self.by == Sources::Copies || ROM < cell)
         {
             return self.meet_pointed(run, spot, cell, op, wanted);
@@ -307,6 +324,26 @@ impl CellSearch {
     }
 }
 
+/// The address that a pointer holds at the first node of a spot; where that is a key cell already, as the first one of an array
+/// whose rounds are told apart, the first that is none yet.
+fn cell_at_spot(run: &Run<'_>, spot: Spot, pointer: Pointer) -> Option<u16> {
+    let first = pointed_at(run, spot, pointer)?;
+    let configuration = &run.configuration;
+    if !configuration.key_cells.contains(&first) {
+        return Some(first);
+    }
+    for number in run.nodes_at(spot) {
+        if let Some(node) = run.nodes.get(*number)
+            && let Some(cell) = pointed_by(node, pointer)
+            && configuration.tracked.contains(&cell)
+            && !configuration.key_cells.contains(&cell)
+        {
+            return Some(cell);
+        }
+    }
+    Some(first)
+}
+
 /// Whether a pointer at a spot may point into the switched bank while that isn't known.
 fn reads_unknown_bank(run: &Run<'_>, spot: Spot, pointer: Pointer) -> bool {
     run.nodes_at(spot).iter().any(|number| match run.nodes.get(*number) {
@@ -337,21 +374,28 @@ fn reads_several_bytes(run: &Run<'_>, spot: Spot, pointer: Pointer) -> bool {
     are_several
 }
 
+/// The addresses that a pointer may hold at a node, by its bytes.
+pub(crate) fn span_at(node: &RunNode, pointer: Pointer) -> Span {
+    let (high, low) = (high_of(node, pointer), value_of(node, pointer.low()));
+    Span {
+        first: u16::from_be_bytes([high.lo, low.lo]),
+        last: u16::from_be_bytes([high.hi, low.hi]),
+    }
+}
+
 /// The addresses that the nodes at a spot load from through a pair.
 pub fn loaded_span(run: &Run<'_>, spot: Spot) -> Option<Span> {
     let pointer = loaded_by(op_at(run, spot)?, &RegisterSet::all())?;
     let mut all: Option<Span> = None;
     for number in run.nodes_at(spot) {
         if let Some(node) = run.nodes.get(*number) {
-            let (high, low) = (high_of(node, pointer), value_of(node, pointer.low()));
-            let first = u16::from_be_bytes([high.lo, low.lo]);
-            let last = u16::from_be_bytes([high.hi, low.hi]);
+            let here = span_at(node, pointer);
             all = match all {
                 Some(span) => Some(Span {
-                    first: span.first.min(first),
-                    last: span.last.max(last),
+                    first: span.first.min(here.first),
+                    last: span.last.max(here.last),
                 }),
-                None => Some(Span { first, last }),
+                None => Some(here),
             };
         }
     }
@@ -388,16 +432,42 @@ pub(crate) fn origins_of(
     spot: Spot,
     wanted: &RegisterSet,
 ) -> Result<Origins, AllocError> {
+    origins_by(alloc, run, spot, wanted, Sources::Unknown)
+}
+
+/// Where registers at a spot come from, those that are known too.
+pub(crate) fn all_origins_of(
+    alloc: Global,
+    run: &Run<'_>,
+    spot: Spot,
+    wanted: &RegisterSet,
+) -> Result<Origins, AllocError> {
+    origins_by(alloc, run, spot, wanted, Sources::All)
+}
+
+fn origins_by(
+    alloc: Global,
+    run: &Run<'_>,
+    spot: Spot,
+    wanted: &RegisterSet,
+    by: Sources,
+) -> Result<Origins, AllocError> {
     let CellSearch {
         loads,
         entries,
         banked,
+        ranged,
+        cells,
+        is_by_table,
         ..
-    } = searched(alloc, run, spot, wanted, Sources::Unknown)?;
+    } = searched(alloc, run, spot, wanted, by)?;
     Ok(Origins {
         loads,
         entries,
         banked,
+        ranged,
+        cells,
+        is_by_table,
     })
 }
 
@@ -417,6 +487,7 @@ fn searched(
         banked: BTreeSet::new(alloc),
         ranged: BTreeSet::new(alloc),
         untracked: BTreeSet::new(alloc),
+        is_by_table: false,
         seen: BTreeSet::new(alloc),
         left: Vec::new(alloc),
         ways: BTreeMap::new(alloc),

@@ -72,6 +72,7 @@ pub(crate) fn plan_stored(
             is_jump: false,
             is_kept_in_ram: true,
             is_bound_wanted: false,
+            is_array_sought: false,
         };
         if let Some(plan) = plan_near(alloc, run, store.spot, &trouble)? {
             return Ok(Some(plan));

@@ -2,10 +2,11 @@
 //!
 //! How data flows through the procedures of a run: `sources` (what instructions make registers from), `spots` (what a
 //! run knows at an address) and `ways` (a procedure's graph and its loops). Over them `plan_for` answers a plan for a
-//! run's failure, if anything may help: read `plans`, then `slices`, `loops`, `cells` and `kept`. Nothing here is
+//! run's failure, if anything may help: read `plans`, then `slices`, `loops`, `cells`, `arrays` and `kept`. Nothing here is
 //! trusted: a plan that doesn't help costs time alone.
 #![tactic(auto)]
 
+mod arrays;
 mod below;
 mod carries;
 mod cells;
@@ -21,6 +22,7 @@ mod spots;
 mod waiting;
 mod ways;
 
+pub use arrays::array_behind;
 pub use below::learn_touched;
 pub use cells::{PointerSource, loaded_span, pointer_source, untracked_behind};
 pub use gb_fixpoint::EditedPlaces;

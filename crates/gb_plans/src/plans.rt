@@ -1,5 +1,6 @@
 //! What to refine after a failure.
 
+use crate::arrays::{plan_array, plan_filled};
 use crate::cells::{key_all_cells, key_cells};
 use crate::kept::{part_exits, plan_kept, plan_stored, plan_written};
 use crate::loops::refine_loops;
@@ -31,6 +32,8 @@ pub(crate) struct FailurePoint {
     pub(crate) is_kept_in_ram: bool,
     /// The access has to be allowed at each address of the pointer: then it needn't be known, but bounded.
     pub(crate) is_bound_wanted: bool,
+    /// The failure is JP HL's, and here: the array is sought from which its index comes, over calls too.
+    pub(crate) is_array_sought: bool,
 }
 
 impl FailurePoint {
@@ -62,7 +65,7 @@ fn all_registers() -> RegisterSet {
 }
 
 /// The calls of a procedure are told apart by registers, where that is new. Main and handlers have no calls.
-fn part(
+pub(crate) fn part(
     alloc: Global,
     run: &Run<'_>,
     number: usize,
@@ -81,7 +84,7 @@ fn part(
 }
 
 /// Whether each call of a procedure knows a register, and the calls have a few values in it.
-fn is_known_by_calls(
+pub(crate) fn is_known_by_calls(
     alloc: Global,
     run: &Run<'_>,
     procedure: &RunProcedure,
@@ -249,10 +252,14 @@ fn slice_to_page(
 enum Near {
     /// The procedure is parted by what its calls know.
     Calls,
+    /// The array in RAM from which a jump's index is loaded.
+    Array,
     /// A slice through a loop that loses what is known.
     Through,
     /// A slice with few values.
     Slice,
+    /// The loop that filled the byte of RAM from which a jump's index comes.
+    Filled,
     /// What a jump comes from.
     Jump,
     Loops,
@@ -264,10 +271,12 @@ enum Near {
     Call,
 }
 
-const NEAR: [Near; 8] = [
+const NEAR: [Near; 10] = [
     Near::Calls,
+    Near::Array,
     Near::Through,
     Near::Slice,
+    Near::Filled,
     Near::Jump,
     Near::Loops,
     Near::Page,
@@ -297,7 +306,9 @@ fn try_near(
         Near::Slice => slice_to(alloc, run, ways, spot, trouble, (FEW_VALUES, by)),
         Near::Jump if trouble.is_jump => plan_jump(alloc, run, ways, spot, trouble),
         Near::Loops => refine_loops(alloc, run, ways, spot, !trouble.is_kept_in_ram),
-        Near::Jump => Ok(None),
+        Near::Array if trouble.is_array_sought => plan_array(alloc, run, spot, &trouble.wanted),
+        Near::Filled if trouble.is_array_sought => plan_filled(alloc, run, spot, &trouble.wanted),
+        Near::Jump | Near::Array | Near::Filled => Ok(None),
         Near::Through | Near::Call | Near::Page | Near::WideSlice if trouble.is_jump => Ok(None),
         Near::Through => slice_through_loop(alloc, run, ways, spot, &trouble.wanted),
         Near::Call => {
@@ -376,7 +387,11 @@ fn plan_in(
 }
 
 /// The calls of a procedure that isn't a handler.
-fn callers_of(alloc: Global, run: &Run<'_>, number: usize) -> Result<Vec<Spot>, AllocError> {
+pub(crate) fn callers_of(
+    alloc: Global,
+    run: &Run<'_>,
+    number: usize,
+) -> Result<Vec<Spot>, AllocError> {
     let mut callers = Vec::new(alloc);
     let Some(procedure) = run.procedures.get(number) else {
         return Ok(callers);
@@ -411,6 +426,7 @@ fn plan_at(
         // What a caller has may still be compared where it is called.
         let here = FailurePoint {
             is_bound_wanted: trouble.is_bound_wanted && depth == 0,
+            is_array_sought: trouble.is_array_sought && depth == 0,
             ..*trouble
         };
         if let Some(plan) = plan_in(alloc, run, spot, &here)? {
@@ -498,6 +514,7 @@ fn plan_bank(alloc: Global, run: &Run<'_>, node: usize) -> Result<Option<Plan>, 
         is_jump: false,
         is_kept_in_ram: false,
         is_bound_wanted: false,
+        is_array_sought: false,
     };
     for spot in run.switches.iter() {
         if let Some(plan) = plan_at(alloc, run, *spot, &trouble)? {
@@ -587,6 +604,7 @@ fn plan_pointer(
             failure.cause,
             Cause::Store { .. } | Cause::CartridgeRam { .. }
         ),
+        is_array_sought: failure.cause == Cause::JumpHl,
     };
     if let Some(plan) = plan_kept(alloc, run, spot, &wanted, is_kept_in_ram)? {
         return Ok(Some(plan));
@@ -732,6 +750,7 @@ pub fn plan_for(
                     is_jump: false,
                     is_kept_in_ram: false,
                     is_bound_wanted: false,
+                    is_array_sought: false,
                 };
                 plan_at(alloc, run, spot, &trouble)
             }

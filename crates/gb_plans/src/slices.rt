@@ -34,6 +34,8 @@ pub(crate) enum SliceBy {
     Table,
     /// These, and those that are added to an address.
     Index,
+    /// All of one register alone: of two there are too many for a jump.
+    Single,
     /// All, and as early as one register alone isn't known: what is told apart behind a comparison isn't bounded by it.
     First,
     /// All, before a loop that loses what is known.
@@ -120,11 +122,11 @@ impl Walk {
     }
 
     /// Two registers are open: one may be split here, and the other one later.
-    fn note_two(&mut self, run: &Run<'_>, open: &RegisterSet) {
+    fn note_two(&mut self, run: &Run<'_>, open: &RegisterSet, by: SliceBy) {
         let Some((register, width)) = narrower(run, self.spot(), open) else {
             return;
         };
-        if width > PAIRS || Walk::is_split(run, place_of(run, self.spot()), register) {
+        if width > most_pairs(by) || Walk::is_split(run, place_of(run, self.spot()), register) {
             return;
         }
         let is_better = match self.two {
@@ -155,7 +157,7 @@ impl Walk {
             return sought.by == SliceBy::First && !self.wanted.is_empty();
         }
         let is_wanted = match sought.by {
-            SliceBy::Any | SliceBy::First | SliceBy::Bounds => true,
+            SliceBy::Any | SliceBy::Single | SliceBy::First | SliceBy::Bounds => true,
             SliceBy::Loop => self.is_through,
             SliceBy::Table => self.is_behind_table,
             SliceBy::Index => self.is_behind_table || self.is_behind_sum,
@@ -163,9 +165,7 @@ impl Walk {
         let may_split = is_wanted && !has_entry(run, spot);
         match count(&open) {
             1 if may_split => self.note_one(run, &open, self.most(sought), sought.by),
-            2 if may_split && sought.by != SliceBy::First && sought.by != SliceBy::Loop => {
-                self.note_two(run, &open)
-            }
+            2 if may_split => self.note_two(run, &open, sought.by),
             _ => {}
         }
         true
@@ -411,6 +411,15 @@ impl Walk {
         } else {
             Ok(None)
         }
+    }
+}
+
+/// The most pairs of values of two registers, of which one is split: a table that is jumped by has no more than few.
+fn most_pairs(by: SliceBy) -> u32 {
+    match by {
+        SliceBy::Any | SliceBy::Bounds => PAIRS,
+        SliceBy::Table | SliceBy::Index => FEW_VALUES,
+        SliceBy::First | SliceBy::Loop | SliceBy::Single => 0,
     }
 }
 

@@ -119,11 +119,15 @@ pub fn loaded_by(op: Op, wanted: &RegisterSet) -> Option<Pointer> {
 }
 
 /// The registers before an instruction of which the wanted ones are copies behind it; a pointer that is counted up or down
-/// is its own copy. What is computed is no copy. None where they come from RAM, from the stack or from a call.
+/// is its own copy, and so is a byte in which bits are set: that bounds it as little. What else is computed is no copy. None where they
+/// come from RAM, from the stack or from a call.
 pub fn copied(op: Op, wanted: &RegisterSet) -> Option<RegisterSet> {
     match op {
         Op::AddHl(_) => Some(less(wanted, &hl())),
-        Op::IncrementPair(_) | Op::DecrementPair(_) | Op::StoreA(_) => Some(*wanted),
+        Op::IncrementPair(_)
+        | Op::DecrementPair(_)
+        | Op::StoreA(_)
+        | Op::AluImmediate(AluOp::Or, _) => Some(*wanted),
         Op::Alu(..) | Op::AluImmediate(..) | Op::RotateA(_) => Some(without(wanted, Register::A)),
         _ if loaded_by(op, wanted).is_some() => None,
         _ => sources(op, wanted),

@@ -7,7 +7,7 @@ use crate::rounds::{
 use crate::written::{is_accepted, written};
 use gb_ops::machine::Region;
 use gb_page::{Crowd, Finding, InstructionFinding};
-use gb_plans::{Plan, inline_plan, last_plan, plan_for, targets_to_follow};
+use gb_plans::{Plan, array_behind, inline_plan, last_plan, plan_for, targets_to_follow};
 use gb_prune::limits::{DEAR_STEPS, EDITS, EDITS_OF_KEPT, OBSTACLES, STEPS_BACK};
 use gb_prune::{
     Cause, CodePoint, Failure, PADDING, Rules, Run, RunEnd, TargetPlace, Wish, find_needs,
@@ -160,6 +160,9 @@ impl<'a> Refinement<'a> {
         let Some(place) = run.place_of(failure.node) else {
             return Ok(Lesson::End(self.standing(run, None)?));
         };
+        if let Some(lesson) = self.learn_array(run, failure)? {
+            return Ok(lesson);
+        }
         if self.leads_nowhere(run, failure) {
             return Ok(Lesson::Change(Change::TakeBack));
         }
@@ -172,6 +175,29 @@ impl<'a> Refinement<'a> {
         }
     }
 
+    /// A failure in what is no code: the jump that led there by an array, if its bytes can be told apart.
+    fn learn_array(&self, run: &Run<'_>, failure: &Failure) -> Result<Option<Lesson>, AllocError> {
+        let Some((jump, plan)) = array_behind(self.alloc, run, failure)? else {
+            return Ok(None);
+        };
+        let Some(place) = run.place_of(jump.node) else {
+            return Ok(None);
+        };
+        let reason = jump.cause.reason().number();
+        if self.edits_at(place, reason) >= EDITS {
+            return Ok(None);
+        }
+        match told(self.alloc, run, &jump, &self.cells.left_out)? {
+            Some(finding) => Ok(Some(Lesson::Change(Change::Mend(Mending {
+                place,
+                reason,
+                plan,
+                finding,
+            })))),
+            None => Ok(None),
+        }
+    }
+
     /// A failure that there is something to tell of.
     fn learn_mending(
         &self,
@@ -180,6 +206,9 @@ impl<'a> Refinement<'a> {
         place: TargetPlace,
         finding: InstructionFinding,
     ) -> Result<Lesson, AllocError> {
+        if comes_from_many(&finding) {
+            return self.give_up(run, failure, place);
+        }
         let is_kept = !finding.kept_in.is_empty() || self.is_kept_in_ram(place);
         match self.plan_or_inline(run, failure, place, is_kept)? {
             Some(plan) => Ok(Lesson::Change(Change::Mend(Mending {
@@ -420,6 +449,18 @@ impl<'a> Refinement<'a> {
         } else {
             Ok(Lesson::Change(Change::Track(news)))
         }
+    }
+}
+
+/// Whether a pointer's byte is loaded from more bytes of RAM than are ever known, as from a queue: no value of it would be refused
+/// otherwise than all.
+fn comes_from_many(finding: &InstructionFinding) -> bool {
+    match finding.load {
+        Some(load) => {
+            let more = usize::from(load.from.last.saturating_sub(load.from.first));
+            more >= Rules::Extended.cell_room()
+        }
+        None => false,
     }
 }
 

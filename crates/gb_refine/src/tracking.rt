@@ -13,6 +13,8 @@ pub(crate) struct Cells {
     pub(crate) untracked: BTreeSet<u16>,
     /// Those of them for which there was no room, and that no run had.
     pub(crate) left_out: BTreeSet<u16>,
+    /// Those that got room later: if they lose it again, they don't come back, since others would have to go for them each time.
+    back: BTreeSet<u16>,
     /// Cells that the last run tracked and of which no node knew anything.
     idle: BTreeSet<u16>,
     /// Cells that instructions name.
@@ -36,6 +38,7 @@ impl Cells {
         Cells {
             untracked: BTreeSet::new(alloc),
             left_out: BTreeSet::new(alloc),
+            back: BTreeSet::new(alloc),
             idle: BTreeSet::new(alloc),
             named: BTreeSet::new(alloc),
             fetched: BTreeSet::new(alloc),
@@ -57,8 +60,12 @@ impl Cells {
 
     /// Cells for which there was no room, as many as there are tracked ones of which nothing is known.
     pub(crate) fn add_waiting(&self, cells: &mut Vec<u16>) -> Result<(), AllocError> {
-        for cell in self.left_out.iter().take(self.idle.len()) {
-            cells.push(*cell)?;
+        let mut room = self.idle.len();
+        for cell in &self.left_out {
+            if room > 0 && !self.back.contains(cell) {
+                cells.push(*cell)?;
+                room = room.saturating_sub(1);
+            }
         }
         Ok(())
     }
@@ -142,7 +149,10 @@ impl Cells {
         for cell in more {
             if is_ram(*cell) && !meets(configuration.region, *cell) {
                 self.untracked.remove(cell);
-                self.left_out.remove(cell);
+                if self.left_out.contains(cell) {
+                    self.left_out.remove(cell);
+                    self.back.insert(*cell)?;
+                }
                 configuration.tracked.insert(*cell)?;
             } else {
                 self.untracked.insert(*cell)?;
