@@ -194,6 +194,20 @@ fn fmt_banks<W: fmt::Write>(lo: u16, hi: u16, f: &mut fmt::Formatter<W>) -> fmt:
     }
 }
 
+/// Prints a register that is kept after this text, and answers what separates it from the next one.
+fn fmt_kept_part<W: fmt::Write>(
+    is_kept: bool,
+    before: &'static str,
+    name: &str,
+    f: &mut fmt::Formatter<W>,
+) -> Result<&'static str, fmt::Error> {
+    if !is_kept {
+        return Ok(before);
+    }
+    write!(f, "{before}{name}")?;
+    Ok(", ")
+}
+
 /// Which of the controller's registers are kept, by name where it's some of them.
 fn fmt_kept<W: fmt::Write>(kept: KeptBanks, f: &mut fmt::Formatter<W>) -> fmt::Result {
     if kept.are_all() {
@@ -202,21 +216,12 @@ fn fmt_kept<W: fmt::Write>(kept: KeptBanks, f: &mut fmt::Formatter<W>) -> fmt::R
     if !kept.is_some() {
         return write!(f, "not kept");
     }
-    let parts = [
-        (kept.bank, StatePart::Bank.name()),
-        (kept.high_bank, "bank bit 8"),
-        (kept.second, StatePart::Second.name()),
-        (kept.gate, StatePart::Gate.name()),
-        (kept.mode, StatePart::Mode.name()),
-    ];
-    write!(f, "kept in part")?;
-    let mut before = ": ";
-    for (is_kept, name) in &parts {
-        if *is_kept {
-            write!(f, "{before}{name}")?;
-            before = ", ";
-        }
-    }
+    write!(f, "kept in part: ")?;
+    let before = fmt_kept_part(kept.bank, "", StatePart::Bank.name(), f)?;
+    let before = fmt_kept_part(kept.high_bank, before, "bank bit 8", f)?;
+    let before = fmt_kept_part(kept.second, before, StatePart::Second.name(), f)?;
+    let before = fmt_kept_part(kept.gate, before, StatePart::Gate.name(), f)?;
+    fmt_kept_part(kept.mode, before, StatePart::Mode.name(), f)?;
     Ok(())
 }
 
