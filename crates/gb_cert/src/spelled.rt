@@ -26,7 +26,8 @@ pub(crate) fn word(word: u16) -> [u8; 2]
     [(word % 256) as u8, (word / 256) as u8]
 }
 
-/// An origin's number: 0 where there is none, and 255 where versions 1 to 3 have no number for it.
+/// An origin's number in a certificate: 0 for none. Versions 1 to 3 have no number for a kept byte or the mark; those get 255, which no
+/// reader accepts.
 fn origin_number(origin: Option<Origin>) -> u8
     ensures { result ≡ spelled.origin_number origin }
 {

@@ -18,7 +18,7 @@ use gb_ops::op::{Op, Operand, Pointer};
 use std::alloc::{AllocError, Global};
 use std::collections::BTreeSet;
 
-/// How many bytes a loop fills at most whose rounds are told apart for one of them.
+/// The most bytes that a loop may fill if a state is kept for each of its rounds.
 const FILLED: u16 = 512;
 
 /// The registers that matter where a procedure begins, and aren't known there.
@@ -75,7 +75,7 @@ fn slice_before(
     slice(alloc, run, &ways, spot, &sought)
 }
 
-/// What is told apart at a call, so that registers are known there: a value in the code before it, or the rounds of a loop around it.
+/// What gets states of its own before a call, so that registers are known there: each value of a register, or each round of a loop.
 fn plan_call(
     alloc: Global,
     run: &Run<'_>,
@@ -109,7 +109,7 @@ fn plan_tables(
     Ok(None)
 }
 
-/// What is told apart at the calls from which registers come, the innermost procedure first.
+/// The plan at the calls that some registers come from, the innermost procedure first.
 fn plan_calls(alloc: Global, run: &Run<'_>, origins: &Origins) -> Result<Option<Plan>, AllocError> {
     let count = run.procedures.len();
     for behind in 0..count {
@@ -159,7 +159,7 @@ fn plan_loads(alloc: Global, run: &Run<'_>, origins: &Origins) -> Result<Option<
     Ok(None)
 }
 
-/// The addresses among which an instruction at a node stores a known byte, where these are few enough to be told apart.
+/// The addresses that an instruction at a node may store a known byte to, if there are at most as many as are tracked one by one.
 fn filled_by(run: &Run<'_>, node: &RunNode) -> Option<Span> {
     let op = op_at(run, node.spot())?;
     let pointer = op.pointer()?;
@@ -187,8 +187,8 @@ fn fills(run: &Run<'_>, node: &RunNode, cells: &BTreeSet<u16>) -> bool {
     })
 }
 
-/// A jump goes by a table, and its index is loaded from RAM: the bytes of the array are told apart from which it comes, at the load or
-/// at the calls that lead there.
+/// For a jump by a table whose index is loaded from an array in RAM: each byte of that array gets states of its own, at the load or at
+/// the calls that lead there.
 pub(crate) fn plan_array(
     alloc: Global,
     run: &Run<'_>,
@@ -217,8 +217,8 @@ pub(crate) fn plan_array(
     }
 }
 
-/// A jump goes by a table, and nothing is known of the byte of RAM from which its index comes, since a loop filled it with others, as
-/// the one that clears variables at the start: the rounds of that loop are told apart.
+/// For a jump by a table whose index comes from a byte of RAM that a loop filled together with others, as the loop that clears variables
+/// at the start: each round of that loop gets states of its own.
 pub(crate) fn plan_filled(
     alloc: Global,
     run: &Run<'_>,
