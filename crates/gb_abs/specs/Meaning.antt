@@ -19,16 +19,18 @@ use Rattle.gb_domain.specs.declared.types.Ctl.{Ctl}
 use Rattle.gb_domain.specs.declared.types.KeptBanks.{KeptBanks}
 use Rattle.gb_domain.specs.declared.types.Core.{Core}
 use Rattle.gb_domain.specs.Types.{AbsState}
+use Rattle.gb_domain.specs.Summaries.{Program}
 use Rattle.gb_domain.specs.Values.{has_low_bits}
 use Rattle.gb_vals.specs.Meaning.{may_be}
 use Rattle.gb_abs.specs.Storage.{peek}
 
--- A procedure as it runs: the machine as it was entered, the addresses that it names to be kept, and the address at which it puts
--- its stack aside.
+-- A procedure as it runs: the machine as it was entered, the addresses that it names to be kept, the address at which it puts
+-- its stack aside, and the program that it is part of.
 pub record Activation : Type 0 where
   pub entered : MState
   pub kept : List ℕ
   pub mark : ℕ
+  pub program : Program
 
 -- what an origin held in the state in which a procedure was entered; the return word is on top of the stack there
 abbrev pub origin_value : Origin → Activation → ℕ

@@ -1,6 +1,6 @@
 //! Bytes of the stack, taken off and put on, and what is held of them where SP is set, in abstract states.
 
-ghost use Rattle.std.specs.Prelude.{◌≡◌, ◌+◌, ◌≤◌, ◌++◌, nat_lt, length, take, replicate, Some, None, IfSome, if◌then◌else◌};
+ghost use Rattle.std.specs.Prelude.{◌≡◌, true, ◌+◌, ◌-◌, ◌≤◌, ◌++◌, nat_lt, length, take, replicate, Some, None, IfSome, if◌then◌else◌};
 ghost use Rattle.arrayvec.specs.ArrayVec.{array_vec_len};
 ghost use Rattle.gb_domain.specs.Limits.{item_room};
 ghost use Rattle.gb_vals.specs.Vals.{any_val};
@@ -88,25 +88,41 @@ fn oldest(items: &[Val], count: usize) -> &[Val]
     }
 }
 
-#[tactic(auto, using(crate::proofs::ByteLaws::resized_items), unfolding(crate::specs::Bytes::resized))]
+/// The state with its stack set, and other items.
+fn set_with_items(state: &Abs, items: ArrayVec<Val, 255>) -> Abs
+    ensures { result ≡ record state.now { core = record state.now.core { stack_set = true }; items = items.items } }
+{
+    let mut after = with_items(state, items);
+    after.set_core(Core {
+        stack_set: true,
+        ..*state.core()
+    });
+    after
+}
+
+/// The stack items cut or filled to a count: the oldest ones stay, and missing ones are bytes of any value.
+#[tactic(auto, using(crate::proofs::ByteLaws::resized_items))]
+fn items_to(count: usize, held: &[Val]) -> ArrayVec<Val, 255>
+    requires { count ≤ 255 }
+    ensures { result.items ≡ take count held.now ++ replicate (count - length held.now) any_val }
+{
+    let held = oldest(held, count);
+    let mut items = ArrayVec::new();
+    if items.try_extend_from_slice(held).is_err() {
+        unreachable!();
+    }
+    append_any(&mut items, (count - held.len()) as u8);
+    items
+}
+
+#[tactic(auto, unfolding(crate::specs::Bytes::resized))]
 fn set_to(rules: Rules, state: &Abs, count: usize) -> Option<Abs>
     ensures { result ≡ (if nat_lt (item_room rules) count then None else Some (resized count state.now)) }
 {
     if count > rules.item_room() {
         return None;
     }
-    let held = oldest(state.items(), count);
-    let mut items = ArrayVec::new();
-    if items.try_extend_from_slice(held).is_err() {
-        unreachable!();
-    }
-    append_any(&mut items, (count - held.len()) as u8);
-    let mut after = with_items(state, items);
-    after.set_core(Core {
-        stack_set: true,
-        ..*state.core()
-    });
-    Some(after)
+    Some(set_with_items(state, items_to(count, state.items())))
 }
 
 /// SP is set to as many bytes below the base of the procedure's stack: of those that the state holds the oldest stay, and where

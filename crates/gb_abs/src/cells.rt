@@ -19,7 +19,13 @@ fn with_cells(state: &Abs, cells: ArrayVec<Cell, 64>) -> Abs
     if items.try_extend_from_slice(state.items()).is_err() {
         unreachable!();
     }
-    Abs::of_parts(*state.core(), items, cells, *state.relations())
+    Abs::of_all_parts(
+        *state.core(),
+        items,
+        cells,
+        *state.relations(),
+        state.summary().copied(),
+    )
 }
 
 /// Appends the cells below an address. There must be room.

@@ -147,7 +147,8 @@ pub fn covers_core(s: &Core, t: &Core) -> bool
         && implied(t.stack_set, s.stack_set)
 }
 
-fn covers_items(s: &[Val], t: &[Val]) -> bool
+/// Whether t has as many items as s, and each covers that of s at the same place.
+pub fn covers_items(s: &[Val], t: &[Val]) -> bool
     ensures { result ≡ covers_items s.now t.now }
 {
     let Some((first, rest)) = s.split_first() else {

@@ -23,7 +23,13 @@ pub(crate) fn with_items(state: &Abs, items: ArrayVec<Val, 255>) -> Abs
     if cells.try_extend_from_slice(state.cells()).is_err() {
         unreachable!();
     }
-    Abs::of_parts(*state.core(), items, cells, *state.relations())
+    Abs::of_all_parts(
+        *state.core(),
+        items,
+        cells,
+        *state.relations(),
+        state.summary().copied(),
+    )
 }
 
 /// The state with the word's bytes behind the others, if there is room for them.

@@ -26,7 +26,8 @@ pub use writes::{AbsEffect, AbsWrite};
 pub use gb_abs::bytes::{append_bytes, resize};
 pub use gb_abs::cells::with_cell;
 pub use gb_abs::covering::{
-    cell_at, covers_controller, covers_ime, covers_lists, covers_origin, covers_parts,
+    cell_at, covers_controller, covers_core, covers_ime, covers_items, covers_lists, covers_origin,
+    covers_val,
 };
 pub use gb_abs::located::{sp_bounds, sp_halves};
 pub use gb_abs::operations::{end, pass, settle};

@@ -7,6 +7,7 @@ use Rattle.gb_domain.specs.declared.rules.Rules.TheVariants.{Extended}
 use Rattle.gb_domain.specs.declared.setting.Setting.{Setting}
 use Rattle.gb_domain.specs.declared.types.Val.{Val}
 use Rattle.gb_domain.specs.Settings.{known_base, IsBase}
+use Rattle.gb_domain.specs.Summaries.{Program}
 use Rattle.gb_domain.specs.Types.{AbsState, ProcedureParts, Node}
 use Rattle.gb_domain.specs.Certificate.{Certificate}
 use Rattle.gb_product.specs.Covering.{covers}
@@ -26,19 +27,19 @@ said_base q b h = choose (q.base == 0) refl h
 -- ---- what is found
 
 -- one of these procedures begins so, the first of which has the number i
-record IsFrom (cert : Certificate) (z : Setting) (a : ℕ) (s : AbsState) (i : ℕ) (ps : List ProcedureParts) (q : ℕ) : Type 0 where
+record IsFrom (program : Program) (cert : Certificate) (z : Setting) (a : ℕ) (s : AbsState) (i : ℕ) (ps : List ProcedureParts) (q : ℕ) : Type 0 where
   behind : ℕ
   number : q ≡ i + behind
   procedure : ProcedureParts
   is_procedure : slice_get ps behind ≡ Some procedure
-  begins : is_entry cert z a s procedure ≡ true
+  begins : is_entry program cert z a s procedure ≡ true
 
 IsFrom-found :
-    (cert : Certificate) (z : Setting) (a : ℕ) (s : AbsState) (i : ℕ) (ps : List ProcedureParts) (q : ℕ) → entry_from cert z a s i ps ≡ Some q → IsFrom cert z a s i ps q
-IsFrom-found cert z a s i [] q h = absurd (cc)
-IsFrom-found cert z a s i (p ∷ ps) q h = choose (is_entry cert z a s p) refl h (IsFrom-found cert z a s (i + 1) ps q)
+    (program : Program) (cert : Certificate) (z : Setting) (a : ℕ) (s : AbsState) (i : ℕ) (ps : List ProcedureParts) (q : ℕ) → entry_from program cert z a s i ps ≡ Some q → IsFrom program cert z a s i ps q
+IsFrom-found program cert z a s i [] q h = absurd (cc)
+IsFrom-found program cert z a s i (p ∷ ps) q h = choose (is_entry program cert z a s p) refl h (IsFrom-found program cert z a s (i + 1) ps q)
   where
-    later : IsFrom cert z a s (i + 1) ps q → IsFrom cert z a s i (p ∷ ps) q
+    later : IsFrom program cert z a s (i + 1) ps q → IsFrom program cert z a s i (p ∷ ps) q
     later f =
         record {
           behind = suc f.behind;
@@ -49,8 +50,8 @@ IsFrom-found cert z a s i (p ∷ ps) q h = choose (is_entry cert z a s p) refl h
         }
 
     choose :
-        (b : Bool) → is_entry cert z a s p ≡ b → or_later b i (entry_from cert z a s (i + 1) ps) ≡ Some q
-        → (entry_from cert z a s (i + 1) ps ≡ Some q → IsFrom cert z a s (i + 1) ps q) → IsFrom cert z a s i (p ∷ ps) q
+        (b : Bool) → is_entry program cert z a s p ≡ b → or_later b i (entry_from program cert z a s (i + 1) ps) ≡ Some q
+        → (entry_from program cert z a s (i + 1) ps ≡ Some q → IsFrom program cert z a s (i + 1) ps q) → IsFrom program cert z a s i (p ∷ ps) q
     choose true e is rest =
         record {
           behind = 0;
@@ -62,46 +63,46 @@ IsFrom-found cert z a s i (p ∷ ps) q h = choose (is_entry cert z a s p) refl h
     choose false e is rest = later (rest is)
 
 -- what is known of a callee: it isn't main, and its entry node has the address and stands for what it begins with
-pub record IsCallee (cert : Certificate) (z : Setting) (a : ℕ) (s : AbsState) (q : ℕ) : Type 0 where
+pub record IsCallee (program : Program) (cert : Certificate) (z : Setting) (a : ℕ) (s : AbsState) (q : ℕ) : Type 0 where
   pub not_main : 0 < q
   pub procedure : ProcedureParts
   pub is_procedure : slice_get cert.procedures q ≡ Some procedure
-  pub begins : is_entry cert z a s procedure ≡ true
+  pub begins : is_entry program cert z a s procedure ≡ true
 
 -- the callee that is found is one
-pub IsCallee-found : (cert : Certificate) (z : Setting) (a : ℕ) (s : AbsState) (q : ℕ) → callee_of cert z a s ≡ Some q → IsCallee cert z a s q
+pub IsCallee-found : (program : Program) (cert : Certificate) (z : Setting) (a : ℕ) (s : AbsState) (q : ℕ) → callee_of program cert z a s ≡ Some q → IsCallee program cert z a s q
 unfolding callee_of
-IsCallee-found cert z a s q h =
+IsCallee-found program cert z a s q h =
     let f = behind cert.procedures h in
     record { not_main = f.0; procedure = f.1; is_procedure = f.2; begins = f.3 }
   where
     behind :
-        (ps : List ProcedureParts) → entry_behind_main cert z a s ps ≡ Some q
-        → (0 < q) × (p : ProcedureParts) × (slice_get ps q ≡ Some p) × (is_entry cert z a s p ≡ true)
+        (ps : List ProcedureParts) → entry_behind_main program cert z a s ps ≡ Some q
+        → (0 < q) × (p : ProcedureParts) × (slice_get ps q ≡ Some p) × (is_entry program cert z a s p ≡ true)
     behind [] e = absurd (cc)
     behind (main ∷ ps) e =
-        let f = IsFrom-found cert z a s 1 ps q e in
+        let f = IsFrom-found program cert z a s 1 ps q e in
         let at : q ≡ suc f.behind = (let n = f.number in omega arith) in
         (omega arith, f.procedure, subst (λ n. slice_get (main ∷ ps) n ≡ Some f.procedure) (sym at) f.is_procedure, f.begins)
 
 -- the node at which a procedure begins
-pub record IsEntryNode (cert : Certificate) (z : Setting) (a : ℕ) (s : AbsState) (p : ProcedureParts) : Type 0 where
+pub record IsEntryNode (program : Program) (cert : Certificate) (z : Setting) (a : ℕ) (s : AbsState) (p : ProcedureParts) : Type 0 where
   pub node : Node
   pub is_node : slice_get cert.nodes p.entry ≡ Some node
   pub address : node.address ≡ a
   pub fitting : fits z p.base (length node.state.items) (length s.items) ≡ true
-  pub covering : covers (entered_by z.rules (length node.state.items) s) node.state ≡ true
+  pub covering : covers program (entered_by z.rules (length node.state.items) s) node.state ≡ true
 
-pub IsEntryNode-entry : (cert : Certificate) (z : Setting) (a : ℕ) (s : AbsState) (p : ProcedureParts) → is_entry cert z a s p ≡ true → IsEntryNode cert z a s p
+pub IsEntryNode-entry : (program : Program) (cert : Certificate) (z : Setting) (a : ℕ) (s : AbsState) (p : ProcedureParts) → is_entry program cert z a s p ≡ true → IsEntryNode program cert z a s p
 unfolding is_entry may_begin
-IsEntryNode-entry cert z a s p h = choose (slice_get cert.nodes p.entry) refl h
+IsEntryNode-entry program cert z a s p h = choose (slice_get cert.nodes p.entry) refl h
   where
-    choose : (o : Option Node) → slice_get cert.nodes p.entry ≡ o → is_entry_node z a s p.base o ≡ true → IsEntryNode cert z a s p
+    choose : (o : Option Node) → slice_get cert.nodes p.entry ≡ o → is_entry_node program z a s p.base o ≡ true → IsEntryNode program cert z a s p
     choose None e is = absurd (cc)
     choose (Some n) e is =
         let k = length n.state.items in
-        let parts = and_parts (n.address == a) (fits z p.base k (length s.items) && covers (entered_by z.rules k s) n.state) is in
-        let begins = and_parts (fits z p.base k (length s.items)) (covers (entered_by z.rules k s) n.state) parts.1 in
+        let parts = and_parts (n.address == a) (fits z p.base k (length s.items) && covers program (entered_by z.rules k s) n.state) is in
+        let begins = and_parts (fits z p.base k (length s.items)) (covers program (entered_by z.rules k s) n.state) parts.1 in
         record { node = n; is_node = e; address = eqb-true n.address a parts.0; fitting = begins.0; covering = begins.1 }
 
 -- ---- what a callee takes over
@@ -144,20 +145,20 @@ next (y ∷ ys) (suc i) x h = let e : suc i + 1 ≡ suc (i + 1) = omega arith in
 
 -- one procedure more
 callee-next :
-    (cert : Certificate) (z : Setting) (a : ℕ) (s : AbsState) (i : ℕ) (p : ProcedureParts) → slice_get cert.procedures i ≡ Some p
-    → entry_from cert z a s i (drop i cert.procedures) ≡ or_later (is_entry cert z a s p) i (entry_from cert z a s (i + 1) (drop (i + 1) cert.procedures))
-callee-next cert z a s i p at = rw (next cert.procedures i p at) refl
+    (program : Program) (cert : Certificate) (z : Setting) (a : ℕ) (s : AbsState) (i : ℕ) (p : ProcedureParts) → slice_get cert.procedures i ≡ Some p
+    → entry_from program cert z a s i (drop i cert.procedures) ≡ or_later (is_entry program cert z a s p) i (entry_from program cert z a s (i + 1) (drop (i + 1) cert.procedures))
+callee-next program cert z a s i p at = rw (next cert.procedures i p at) refl
 
 -- which begins so, and is the callee
 pub callee-taken :
-    (cert : Certificate) (z : Setting) (a : ℕ) (s : AbsState) (i : ℕ) (p : ProcedureParts) → slice_get cert.procedures i ≡ Some p → is_entry cert z a s p ≡ true
-    → entry_from cert z a s i (drop i cert.procedures) ≡ Some i
-callee-taken cert z a s i p at e =
-    callee-next cert z a s i p at ∙ ap (λ b. or_later b i (entry_from cert z a s (i + 1) (drop (i + 1) cert.procedures))) e
+    (program : Program) (cert : Certificate) (z : Setting) (a : ℕ) (s : AbsState) (i : ℕ) (p : ProcedureParts) → slice_get cert.procedures i ≡ Some p → is_entry program cert z a s p ≡ true
+    → entry_from program cert z a s i (drop i cert.procedures) ≡ Some i
+callee-taken program cert z a s i p at e =
+    callee-next program cert z a s i p at ∙ ap (λ b. or_later b i (entry_from program cert z a s (i + 1) (drop (i + 1) cert.procedures))) e
 
 -- or doesn't
 pub callee-passed :
-    (cert : Certificate) (z : Setting) (a : ℕ) (s : AbsState) (i : ℕ) (p : ProcedureParts) → slice_get cert.procedures i ≡ Some p → is_entry cert z a s p ≡ false
-    → entry_from cert z a s i (drop i cert.procedures) ≡ entry_from cert z a s (i + 1) (drop (i + 1) cert.procedures)
-callee-passed cert z a s i p at e =
-    callee-next cert z a s i p at ∙ ap (λ b. or_later b i (entry_from cert z a s (i + 1) (drop (i + 1) cert.procedures))) e
+    (program : Program) (cert : Certificate) (z : Setting) (a : ℕ) (s : AbsState) (i : ℕ) (p : ProcedureParts) → slice_get cert.procedures i ≡ Some p → is_entry program cert z a s p ≡ false
+    → entry_from program cert z a s i (drop i cert.procedures) ≡ entry_from program cert z a s (i + 1) (drop (i + 1) cert.procedures)
+callee-passed program cert z a s i p at e =
+    callee-next program cert z a s i p at ∙ ap (λ b. or_later b i (entry_from program cert z a s (i + 1) (drop (i + 1) cert.procedures))) e

@@ -1,10 +1,11 @@
 -- Cells that get their places by address: what holds of each of them, and that of many the first come out alike.
 use Rattle.std.proofs.Common.{◌≡◌, ℕ, zero, suc, ◌+◌, ◌≤◌, ◌<◌, Bool, true, false, nat_lt, cond, List, [], ◌∷◌, ◌++◌, length, map, take, drop, insert, get_or, refl, sym, ◌∙◌, ap, arith}
-use Rattle.std.proofs.lemmas.List.{take-take, take_all, at_drop_more}
+use Rattle.std.proofs.lemmas.List.{length-map, take-take, take_all, at_drop_more}
 use Rattle.std.specs.List.{AllByRecursion, filter}
 use Rattle.gb_domain.specs.declared.types.Cell.{Cell}
 use Rattle.gb_product.specs.Below.gb_abs.Origins.{cell_without_origin}
-use Rattle.gb_calls.specs.Resuming.{inserted, merged}
+use Rattle.gb_domain.specs.declared.types.Range.{Range}
+use Rattle.gb_calls.specs.Resuming.{is_in_ranges, is_out_of_ranges, inserted, merged, all_cells_back}
 
 -- ---- what holds of each
 
@@ -134,3 +135,28 @@ take_fewer n xs h = taken n 64 xs h
     taken (suc n) zero xs h = absurd (omega arith)
     taken (suc n) (suc m) [] h = refl
     taken (suc n) (suc m) (x ∷ xs) h = ap (λ ys. x ∷ ys) (taken n m xs (omega arith))
+
+-- ---- how many there are
+
+length-inserted : (c : Cell) (cells : List Cell) → length (inserted c cells) ≡ suc (length cells)
+length-inserted c [] = refl
+length-inserted c (d ∷ ds) = choose (nat_lt c.address d.address) (length-inserted c ds)
+  where
+    choose : (b : Bool) → length (inserted c ds) ≡ suc (length ds) → length (cond b (c ∷ d ∷ ds) (d ∷ inserted c ds)) ≡ suc (suc (length ds))
+    choose true e = refl
+    choose false e = ap suc e
+
+length-merged : (cs others : List Cell) → length (merged cs others) ≡ length cs + length others
+length-merged [] others = omega arith
+length-merged (c ∷ cs) others =
+    let rest = length-merged cs (inserted c others) in
+    let more = length-inserted c others in
+    omega arith
+
+pub all_counted :
+    (ranges : List Range) (caller exit : List Cell)
+    → length (all_cells_back ranges caller exit) ≡ length (filter (is_out_of_ranges ranges) caller) + length (filter (is_in_ranges ranges) exit)
+all_counted ranges caller exit =
+    let all = length-merged (map cell_without_origin (filter (is_in_ranges ranges) exit)) (filter (is_out_of_ranges ranges) caller) in
+    let same = length-map (filter (is_in_ranges ranges) exit) cell_without_origin in
+    omega arith

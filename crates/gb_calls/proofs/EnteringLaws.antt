@@ -1,5 +1,5 @@
 -- What a procedure begins with holds of the machine, as the procedure was entered in it.
-use Rattle.std.proofs.Common.{◌≡◌, ℕ, ◌<◌, refl, sym, subst, arith}
+use Rattle.std.proofs.Common.{◌≡◌, ℕ, ◌<◌, map, refl, sym, subst, arith}
 use Rattle.gb_ops.specs.declared.op.Register.{Register}
 use Rattle.gb_ops.specs.declared.op.Register.TheVariants.{A, B, C, D, E, H, L}
 use Rattle.gb_ops.specs.declared.registers.Registers.{Registers}
@@ -11,13 +11,18 @@ use Rattle.gb_domain.specs.declared.types.Origin.TheVariants as origin
 use Rattle.gb_domain.specs.declared.types.Val.{Val}
 use Rattle.gb_domain.specs.declared.types.Core.{Core}
 use Rattle.gb_domain.specs.Types.{AbsState, origin_of_register}
+use Rattle.gb_product.specs.Below.gb_abs.Storage.{peek}
 use Rattle.gb_product.specs.Below.gb_abs.Meaning.{Activation, Holds, MeansCore}
-use Rattle.gb_product.specs.Below.gb_abs.Origins.{own}
+use Rattle.gb_product.specs.Below.gb_abs.Origins.{own, cell_without_origin}
+use Rattle.gb_product.specs.Below.gb_summaries.Meaning.{HoldSummary}
+use Rattle.gb_product.proofs.SummaryLaws.{HoldSummary-with_cells}
 use Rattle.gb_product.proofs.Below.gb_abs_laws.OriginLaws.{origin_value-of_register, Holds-own, AreCells-without_origins}
+use Rattle.gb_product.proofs.Below.gb_summaries_laws.MeaningLaws.{nothing_holds}
 use Rattle.gb_product.specs.Meaning.{Means}
 use Rattle.gb_calls.specs.Calls.{own_registers, entered_core, entered_by}
 use Rattle.gb_calls.specs.Sound.{without_word, IsCalled, Begins, callee_base, IsSoundEntering}
 use Rattle.gb_calls.specs.TakenOver.{base_below}
+use Rattle.gb_calls.proofs.CellsBackLaws.{HasCellsOf-uncopied}
 use Rattle.gb_calls.proofs.TakenOverLaws.{taken_over-items, taken_over-pointer}
 
 -- ---- states
@@ -91,14 +96,15 @@ Means-entered k s entry base begun m lt =
         cells = AreCells-without_origins s.cells entry begun begun.entered.storage m.parts.cells;
       };
       related = m.related;
+      summary = nothing_holds begun.program _ begun.entered.processor (peek begun.entered.storage) begun.entered.storage.banks;
     }
 
 -- a procedure that takes over items of its caller's, its return word among them, begins with what is said
 pub Means-taken_over :
     (k : ℕ) (s : AbsState) (entry : Activation) (base : ℕ) (begun : Activation)
-    → IsCalled k s entry base begun.entered → Means (entered_by Extended k s) begun (base_below k s.items base) begun.entered
+    → begun.program ≡ entry.program → IsCalled k s entry base begun.entered → Means (entered_by Extended k s) begun (base_below k s.items base) begun.entered
 unfolding entered_by
-Means-taken_over k s entry base begun h =
+Means-taken_over k s entry base begun e h =
     record {
       parts = record {
         core = MeansCore-entered s.core entry begun h.caller.parts.core;
@@ -109,19 +115,22 @@ Means-taken_over k s entry base begun h =
         cells = AreCells-without_origins s.cells entry begun begun.entered.storage h.caller.parts.cells;
       };
       related = h.caller.related;
+      summary = subst (λ p. HoldSummary p (map cell_without_origin s.cells) s.summary begun.entered.processor (peek begun.entered.storage) begun.entered.storage.banks) (sym e)
+          (HoldSummary-with_cells entry.program s.cells (map cell_without_origin s.cells) s.summary begun.entered.processor (peek begun.entered.storage) begun.entered.storage.banks
+          (HasCellsOf-uncopied s.cells) h.caller.summary);
     }
 
 -- by either rules
 Means-begun :
     (rules : Rules) (k : ℕ) (s : AbsState) (entry : Activation) (base : ℕ) (begun : Activation)
-    → Begins rules k s entry base begun.entered
+    → begun.program ≡ entry.program → Begins rules k s entry base begun.entered
     → Means (entered_by rules k s) begun (callee_base rules k s.items base begun.entered) begun.entered
-Means-begun Simple k s entry base begun h = Means-entered k s entry base begun h.0 h.1
-Means-begun Extended k s entry base begun h = Means-taken_over k s entry base begun h
+Means-begun Simple k s entry base begun e h = Means-entered k s entry base begun h.0 h.1
+Means-begun Extended k s entry base begun e h = Means-taken_over k s entry base begun e h
 
 pub enter_sound : (rules : Rules) (k : ℕ) (s o : AbsState) → o ≡ entered_by rules k s → IsSoundEntering rules k s o
 enter_sound rules k s o e =
     record {
-      gives = λ entry base begun h.
-          subst (λ (w : AbsState). Means w begun (callee_base rules k s.items base begun.entered) begun.entered) (sym e) (Means-begun rules k s entry base begun h);
+      gives = λ entry base begun same h.
+          subst (λ (w : AbsState). Means w begun (callee_base rules k s.items base begun.entered) begun.entered) (sym e) (Means-begun rules k s entry base begun same h);
     }

@@ -10,8 +10,11 @@ use Rattle.gb_cert.specs.Below.gb_states.Checked.{listed_items}
 use Rattle.gb_cert.specs.Below.gb_states.Spelling as spelled
 use Rattle.gb_cert.proofs.Below.gb_states_laws.ListedLaws.{no_items, items_front}
 use Rattle.gb_cert.proofs.CheckedLaws.{cells_long}
-use Rattle.gb_product.specs.Below.gb_abs.Covering.{covers_val, covers_items, covers_cells}
+use Rattle.gb_domain.specs.Summaries.{SummaryParts, Program}
+use Rattle.gb_product.specs.Below.gb_abs.Covering.{covers_val, covers_items}
 use Rattle.gb_product.specs.Below.gb_abs.Origins.{without_origin}
+use Rattle.gb_product.specs.Below.gb_pairs.declared.values.Values.{Values}
+use Rattle.gb_product.specs.Covering.{covers_cells}
 use Rattle.gb_calls.specs.TakenOver.{returning}
 
 -- of three items and more the first is no copy
@@ -70,12 +73,14 @@ and_true true = refl
 and_true false = refl
 
 -- where no cells are claimed, items alone are asked for
-pub listed_alone : (us vs ws : List Val) (cs ds : List Cell) (items cells : List ℕ) (r : Bool) → us ≡ vs → listed_items items ≡ ws → cells ≡ flat_map spelled.cell ds
-    → (length cells == 0) ≡ true → r ≡ covers_items us (listed_items items) → r ≡ (covers_items vs ws && covers_cells cs ds)
+pub listed_alone :
+    (program : Program) (v : Values) (said : SummaryParts) (us vs ws : List Val) (cs ds : List Cell) (items cells : List ℕ) (r : Bool)
+    → us ≡ vs → listed_items items ≡ ws → cells ≡ flat_map spelled.cell ds
+    → (length cells == 0) ≡ true → r ≡ covers_items us (listed_items items) → r ≡ (covers_items vs ws && covers_cells program v cs said ds)
 unfolding covers_cells
-listed_alone us vs ws cs [] items cells r same is are none e =
+listed_alone program v said us vs ws cs [] items cells r same is are none e =
     e ∙ (ap (λ (xs : List Val). covers_items xs (listed_items items)) same ∙ (ap (covers_items vs) is ∙ and_true (covers_items vs ws)))
-listed_alone us vs ws cs (d ∷ ds) items cells r same is are none e =
+listed_alone program v said us vs ws cs (d ∷ ds) items cells r same is are none e =
     let long = cells_long (d ∷ ds) cells are in
     let zero : length cells ≡ 0 = eqb-true (length cells) 0 none in
     absurd (omega arith)

@@ -1,8 +1,11 @@
 pub mod ItemLaws
 pub mod EnteringLaws
+pub mod CoveringLaws
 pub mod CalleeLaws
 pub mod RangeLaws
 pub mod CellLaws
+pub mod CellsBackLaws
+pub mod SummaryBackLaws
 pub mod ResumingLaws
 pub mod TakenOverLaws
 pub mod Below

@@ -36,6 +36,8 @@ use Rattle.gb_domain.specs.Types.{AbsState, origin_of_register}
 use Rattle.gb_domain.specs.Limits.{cell_room, item_room}
 use Rattle.gb_domain.specs.Places.{no_byte}
 use Rattle.gb_domain.specs.Rules.{IsCore}
+use Rattle.gb_domain.specs.Summaries.{Program}
+use Rattle.gb_ops.specs.declared.machine.Kind.{Kind}
 use Rattle.gb_product.specs.Below.gb_pairs.declared.values.Values.{Values}
 use Rattle.gb_product.specs.Below.gb_pairs.Meaning.{AreBytes, Holds as HoldsValues}
 use Rattle.gb_product.specs.Below.gb_pairs.Reduced.{reduced}
@@ -43,6 +45,10 @@ use Rattle.gb_product.specs.Below.gb_pairs.Sound.{HoldsIn, IsCut}
 use Rattle.gb_product.proofs.Below.gb_pairs_laws.CutLaws.{reduced_cuts}
 use Rattle.gb_product.proofs.Below.gb_pairs_laws.ReducedLaws.{reduced_sound}
 use Rattle.gb_product.specs.Below.gb_relations.Places.{is_free}
+use Rattle.gb_product.specs.Below.gb_summaries.Returning.{GivesBack}
+use Rattle.gb_calls.specs.Resuming.{given_by}
+use Rattle.gb_calls.proofs.CellsBackLaws.{same_ranges}
+use Rattle.gb_calls.proofs.SummaryBackLaws.{same_window, HoldSummary-back}
 use Rattle.gb_product.specs.Below.gb_relations.declared.returned.Kept.{Kept}
 use Rattle.gb_product.specs.Below.gb_relations.Returned as Returned
 use Rattle.gb_product.specs.Below.gb_relations.Returned.{is_pair_kept, is_other_kept, link_if_kept, link_returned, facts_returned, returned}
@@ -59,6 +65,7 @@ use Rattle.gb_product.specs.Below.gb_abs.Covering.{covers_origin}
 use Rattle.gb_product.specs.Below.gb_abs.Cells.{IsPlaced, ArePlaced}
 use Rattle.gb_product.specs.Below.gb_abs.Meaning.{Activation, origin_value, Holds, HoldsFlags, KeepsBanks, HoldsController, MeansCore}
 use Rattle.gb_product.specs.Below.gb_vals.Meaning.{may_be}
+use Rattle.gb_product.proofs.Below.gb_summaries_laws.MeaningLaws.{nothing_holds}
 use Rattle.gb_product.specs.Meaning.{Means}
 use Rattle.gb_product.specs.Below.gb_abs.Storage.{peek, is_ram}
 use Rattle.gb_product.proofs.Below.gb_abs_laws.CellLaws.{AllByRecursion-where}
@@ -345,16 +352,39 @@ Means-resumed_alone region ranges s exit entry base called x h =
         zero = tt;
         pairs = HoldPairs-nothing x.processor.registers (registers_are_bytes exit.core called x h.exit_core h.exits.parts.core);
       };
+      summary = nothing_holds entry.program _ x.processor (peek x.storage) x.storage.banks;
     }
 
 -- ---- by the rules of version 3
 
+HoldsValues-caller : (s : AbsState) (entry : Activation) (base : ℕ) (x : MState) → Means s entry base x → HoldsValues (values_of s.core.registers s.relations.pairs) x.processor.registers
+HoldsValues-caller s entry base x m =
+    record {
+      registers = λ r. record { least = (m.parts.core.registers r).least; most = (m.parts.core.registers r).most; low = (m.parts.core.registers r).low };
+      pairs = m.related.pairs;
+    }
+
+-- what the exit gives back of what is said of the whole program is what it was
+GivesBack-exit :
+    (k : Kind) (z : Setting) (region : Region) (ranges : List Range) (base : ℕ) (exit : AbsState) (called : Activation) (x : MState)
+    → keeps z ≡ true → ((b : ℕ) → IsKept z region ranges base b → peek x.storage b ≡ peek called.entered.storage b) → MeansCore exit.core called x
+    → GivesBack k region ranges (given_by exit.core) [] called.entered.processor x.processor (peek called.entered.storage) (peek x.storage) called.entered.storage.banks x.storage.banks
+GivesBack-exit k z region ranges base exit called x does kept h =
+    record {
+      registers = λ r is. own-value (origin_of_register r) (get r exit.core.registers) called (get r x.processor.registers)
+          (sym (register_own exit.core.registers r) ∙ is) (h.registers r)
+          ∙ origin_value-of_register r called;
+      windows = λ which is. same_window k which exit.core.ctl.kept called.entered.storage.banks x.storage.banks h.controller.kept is;
+      outside = λ a free out. kept a (IsKept-address z region ranges base a does (same_ranges ranges a ∙ out) free);
+      given = λ a is. absurd (cc);
+    }
+
 -- the waiting items stand, the exit's behind them
 pub Means-rejoined :
-    (k : ℕ) (region : Region) (ranges : List Range) (s exit : AbsState) (entry : Activation) (base : ℕ) (called : Activation) (x : MState)
-    → HandsBack k region ranges s exit entry base called x → Means (rejoined k ranges s exit) entry base x
+    (program : Program) (k : ℕ) (region : Region) (ranges : List Range) (s exit : AbsState) (entry : Activation) (base : ℕ) (called : Activation) (x : MState)
+    → HandsBack program k region ranges s exit entry base called x → Means (rejoined program k ranges s exit) entry base x
 unfolding rejoined
-Means-rejoined k region ranges s exit entry base called x h =
+Means-rejoined program k region ranges s exit entry base called x h =
     let first = h.room.first in
     let last = h.room.last in
     let caller = h.begins.caller in
@@ -375,6 +405,9 @@ Means-rejoined k region ranges s exit entry base called x h =
           called.entered.processor.registers x.processor.registers (peek called.entered.storage) (peek x.storage) called.entered.processor.flags x.processor.flags
           (Returned-kept h.callee region ranges under s exit called x h.keeps h.kept h.placed.byte h.exits.parts.core)
           caller.related h.exits.related;
+      summary = HoldSummary-back program region ranges s exit entry called x h.caller_program h.callee_program h.facts h.placed.summary h.exit_free
+          (HoldsValues-caller s entry base called.entered caller)
+          (GivesBack-exit program.kind h.callee region ranges under exit called x h.keeps h.kept h.exits.parts.core) caller.summary h.exits.summary;
     }
 
 -- what registers and pairs leave each other
@@ -406,6 +439,7 @@ Means-with_values s v entry base x cuts holds m =
         cells = m.parts.cells;
       };
       related = record { byte = m.related.byte; zero = m.related.zero; pairs = holds.pairs };
+      summary = m.summary;
     }
 
 -- cut, they mean the same; where nothing is left, none is meant
@@ -430,30 +464,30 @@ Means-reduced s entry base x sound bytes m =
     choose (Some w) cuts h = Means-with_values s w entry base x cuts h m
 
 Means-rejoined_reduced :
-    (k : ℕ) (region : Region) (ranges : List Range) (s exit : AbsState) (entry : Activation) (base : ℕ) (called : Activation) (x : MState)
-    → ReducesSoundly (rejoined k ranges s exit) → HandsBack k region ranges s exit entry base called x
-    → MeansIf (reduced_state (rejoined k ranges s exit)) entry base x
-Means-rejoined_reduced k region ranges s exit entry base called x sound h =
-    Means-reduced (rejoined k ranges s exit) entry base x sound
+    (program : Program) (k : ℕ) (region : Region) (ranges : List Range) (s exit : AbsState) (entry : Activation) (base : ℕ) (called : Activation) (x : MState)
+    → ReducesSoundly (rejoined program k ranges s exit) → HandsBack program k region ranges s exit entry base called x
+    → MeansIf (reduced_state (rejoined program k ranges s exit)) entry base x
+Means-rejoined_reduced program k region ranges s exit entry base called x sound h =
+    Means-reduced (rejoined program k ranges s exit) entry base x sound
     (registers_are_bytes exit.core called x h.exit_core h.exits.parts.core)
-    (Means-rejoined k region ranges s exit entry base called x h)
+    (Means-rejoined program k region ranges s exit entry base called x h)
 
 -- ---- what was computed
 
 -- with more items than a state holds
 pub too_deep :
-    (k : ℕ) (ranges : List Range) (s exit : AbsState) (kept : Kept) (core : Core) (relations : Relations) (v : Values)
+    (program : Program) (k : ℕ) (ranges : List Range) (s exit : AbsState) (kept : Kept) (core : Core) (relations : Relations) (v : Values)
     → kept ≡ kept_by ranges s.relations.byte exit.core → core ≡ core_back s.core exit.core → relations ≡ returned kept s.relations exit.relations
     → Some v ≡ reduced (values_of core.registers relations.pairs)
-    → 255 < length (given_back_items k s.items exit.items) → IsTooDeep (reduced_state (rejoined k ranges s exit))
+    → 255 < length (given_back_items k s.items exit.items) → IsTooDeep (reduced_state (rejoined program k ranges s exit))
 unfolding rejoined reduced_state item_room
-too_deep k ranges s exit kept core relations v is is_core are e many =
+too_deep program k ranges s exit kept core relations v is is_core are e many =
     let same : relations ≡ returned (kept_by ranges s.relations.byte exit.core) s.relations exit.relations =
     are ∙ ap (λ (o : Kept). returned o s.relations exit.relations) is in
     let cut : Some v ≡ reduced (values_of (core_back s.core exit.core).registers (returned (kept_by ranges s.relations.byte exit.core) s.relations exit.relations).pairs) =
     e ∙ (ap (λ (c : Core). reduced (values_of c.registers relations.pairs)) is_core
     ∙ ap (λ (r : Relations). reduced (values_of (core_back s.core exit.core).registers r.pairs)) same) in
-    record { state = with_values (rejoined k ranges s exit) v; is = ap (with_values_if (rejoined k ranges s exit)) (sym cut); deep = many }
+    record { state = with_values (rejoined program k ranges s exit) v; is = ap (with_values_if (rejoined program k ranges s exit)) (sym cut); deep = many }
 
 computed : (r : Resumed) (s : Option AbsState) (entry : Activation) (base : ℕ) (x : MState) → IsResumed r s → MeansIf s entry base x → MeansResumed r entry base x
 computed Nothing s entry base x e m = subst (λ (o : Option AbsState). MeansIf o entry base x) e m
@@ -461,19 +495,19 @@ computed (States t) s entry base x e m = subst (λ (o : Option AbsState). MeansI
 computed TooDeep s entry base x e m = tt
 
 pub resumed_alone_sound :
-    (k : ℕ) (ranges : List Range) (s exit o : AbsState) → o ≡ resumed_alone ranges s exit → IsSoundResuming Simple k ranges s exit (States o)
-resumed_alone_sound k ranges s exit o e =
+    (program : Program) (k : ℕ) (ranges : List Range) (s exit o : AbsState) → o ≡ resumed_alone ranges s exit → IsSoundResuming program Simple k ranges s exit (States o)
+resumed_alone_sound program k ranges s exit o e =
     record {
       gives = λ region entry base called x h. subst (λ (w : AbsState). Means w entry base x) (sym e) (Means-resumed_alone region ranges s exit entry base called x h);
     }
 
 pub rejoined_sound :
-    (k : ℕ) (ranges : List Range) (s exit : AbsState) (r : Resumed)
-    → IsResumed r (reduced_state (rejoined k ranges s exit)) → ReducesSoundly (rejoined k ranges s exit) → IsSoundResuming Extended k ranges s exit r
-rejoined_sound k ranges s exit r e sound =
+    (program : Program) (k : ℕ) (ranges : List Range) (s exit : AbsState) (r : Resumed)
+    → IsResumed r (reduced_state (rejoined program k ranges s exit)) → ReducesSoundly (rejoined program k ranges s exit) → IsSoundResuming program Extended k ranges s exit r
+rejoined_sound program k ranges s exit r e sound =
     record {
-      gives = λ region entry base called x h. computed r (reduced_state (rejoined k ranges s exit)) entry base x e
-          (Means-rejoined_reduced k region ranges s exit entry base called x sound h);
+      gives = λ region entry base called x h. computed r (reduced_state (rejoined program k ranges s exit)) entry base x e
+          (Means-rejoined_reduced program k region ranges s exit entry base called x sound h);
     }
 
 -- ---- by either rules, of states that a certificate may have
@@ -508,18 +542,18 @@ ArePairs-returned k s t h i = record { each = λ p. each p }
     each pair.Hl = IsPairFacts-returned pair.Hl k s.pairs.hl t.pairs.hl (h.each pair.Hl) (i.each pair.Hl)
 
 ReducesSoundly-rejoined :
-    (k : ℕ) (ranges : List Range) (s exit : AbsState) → ArePairs s.relations.pairs → ArePairs exit.relations.pairs → ReducesSoundly (rejoined k ranges s exit)
+    (program : Program) (k : ℕ) (ranges : List Range) (s exit : AbsState) → ArePairs s.relations.pairs → ArePairs exit.relations.pairs → ReducesSoundly (rejoined program k ranges s exit)
 unfolding rejoined
-ReducesSoundly-rejoined k ranges s exit h i =
-    reduced_sound (values_of (rejoined k ranges s exit).core.registers (rejoined k ranges s exit).relations.pairs) _ refl
+ReducesSoundly-rejoined program k ranges s exit h i =
+    reduced_sound (values_of (rejoined program k ranges s exit).core.registers (rejoined program k ranges s exit).relations.pairs) _ refl
     (ArePairs-returned (kept_by ranges s.relations.byte exit.core) s.relations exit.relations h i)
 
 -- the callee has come back: there is something that its caller goes on with, and it holds
 pub Means-resumed :
-    (rules : Rules) (k : ℕ) (region : Region) (ranges : List Range) (s exit : AbsState) (entry : Activation) (base : ℕ) (called : Activation) (x : MState)
-    → ArePairs s.relations.pairs → ArePairs exit.relations.pairs → ComesBackBy rules k region ranges s exit entry base called x
-    → MeansIf (resumed rules k ranges s exit) entry base x
+    (program : Program) (rules : Rules) (k : ℕ) (region : Region) (ranges : List Range) (s exit : AbsState) (entry : Activation) (base : ℕ) (called : Activation) (x : MState)
+    → ArePairs s.relations.pairs → ArePairs exit.relations.pairs → ComesBackBy program rules k region ranges s exit entry base called x
+    → MeansIf (resumed program rules k ranges s exit) entry base x
 unfolding resumed
-Means-resumed Simple k region ranges s exit entry base called x p q h = Means-resumed_alone region ranges s exit entry base called x h
-Means-resumed Extended k region ranges s exit entry base called x p q h =
-    Means-rejoined_reduced k region ranges s exit entry base called x (ReducesSoundly-rejoined k ranges s exit p q) h
+Means-resumed program Simple k region ranges s exit entry base called x p q h = Means-resumed_alone region ranges s exit entry base called x h
+Means-resumed program Extended k region ranges s exit entry base called x p q h =
+    Means-rejoined_reduced program k region ranges s exit entry base called x (ReducesSoundly-rejoined program k ranges s exit p q) h

@@ -2,7 +2,6 @@
 use Rattle.std.proofs.Common.{◌≡◌, ℕ, suc, ◌+◌, ◌-◌, ◌≤◌, ◌<◌, true, List, [], ◌∷◌, ◌++◌, length, map, refl, sym, ap, subst, arith, length-drop}
 use Rattle.std.proofs.lemmas.List.{take-append-drop, length-append, length-map, length-take-le}
 use Rattle.gb_ops.specs.Memory.{Storage}
-use Rattle.gb_ops.specs.Play.{MState}
 use Rattle.gb_domain.specs.declared.types.Origin.TheVariants.{ReturnHigh, ReturnLow}
 use Rattle.gb_domain.specs.declared.types.Val.{Val}
 use Rattle.gb_domain.specs.Types.{AbsState}

@@ -10,6 +10,7 @@ use Rattle.gb_domain.specs.declared.rules.Rules.{Rules}
 use Rattle.gb_domain.specs.declared.rules.Rules.TheVariants.{Simple, Extended}
 use Rattle.gb_domain.specs.declared.setting.Setting.{Setting}
 use Rattle.gb_domain.specs.Settings.{known_base}
+use Rattle.gb_domain.specs.Summaries.{Program, SummaryParts, no_summary}
 use Rattle.gb_domain.specs.Types.{AbsState, ProcedureParts, Node, all_or_none}
 use Rattle.gb_domain.specs.Certificate.{Certificate}
 use Rattle.gb_product.specs.Below.gb_abs.Origins.{own, cell_without_origin}
@@ -44,11 +45,21 @@ abbrev pub items_entered : Rules → ℕ → List Val → List Val
 items_entered Simple k items = []
 items_entered Extended k items = taken_over k items
 
+-- what is said of the whole program: by the rules of versions 1 and 2 nothing
+abbrev pub summary_entered : Rules → SummaryParts → SummaryParts
+summary_entered Simple s = no_summary
+summary_entered Extended s = s
+
 -- what a procedure begins with that is called in s: each register, the flags and IE are their own origins, the
--- controller is kept, the cells are no copies, and what is known together stays
+-- controller is kept, the cells are no copies, what is known together stays, and so does what is said of the whole program
 unfoldable pub entered_by : Rules → ℕ → AbsState → AbsState
 entered_by rules k s =
-    record s { core = entered_core s.core; items = items_entered rules k s.items; cells = map cell_without_origin s.cells }
+    record s {
+      core = entered_core s.core;
+      items = items_entered rules k s.items;
+      cells = map cell_without_origin s.cells;
+      summary = summary_entered rules s.summary;
+    }
 
 -- ---- the callee
 
@@ -68,35 +79,36 @@ unfoldable pub fits : Setting → ℕ → ℕ → ℕ → Bool
 fits z base k n = fits_by z.rules (known_base z) base k n
 
 -- a procedure with this base and t at its entry may begin where it is called in s
-unfoldable pub may_begin : Setting → AbsState → ℕ → AbsState → Bool
-may_begin z s base t = fits z base (length t.items) (length s.items) && covers (entered_by z.rules (length t.items) s) t
+unfoldable pub may_begin : Program → Setting → AbsState → ℕ → AbsState → Bool
+may_begin program z s base t =
+    fits z base (length t.items) (length s.items) && covers program (entered_by z.rules (length t.items) s) t
 
 -- the node begins at the address and stands for the states
-abbrev pub is_entry_node : Setting → ℕ → AbsState → ℕ → Option Node → Bool
-is_entry_node z a s base None = false
-is_entry_node z a s base (Some n) = (n.address == a) && may_begin z s base n.state
+abbrev pub is_entry_node : Program → Setting → ℕ → AbsState → ℕ → Option Node → Bool
+is_entry_node program z a s base None = false
+is_entry_node program z a s base (Some n) = (n.address == a) && may_begin program z s base n.state
 
 -- the procedure begins so
-unfoldable pub is_entry : Certificate → Setting → ℕ → AbsState → ProcedureParts → Bool
-is_entry cert z a s p = is_entry_node z a s p.base (slice_get cert.nodes p.entry)
+unfoldable pub is_entry : Program → Certificate → Setting → ℕ → AbsState → ProcedureParts → Bool
+is_entry program cert z a s p = is_entry_node program z a s p.base (slice_get cert.nodes p.entry)
 
 abbrev pub or_later : Bool → ℕ → Option ℕ → Option ℕ
 or_later true i later = Some i
 or_later false i later = later
 
 -- the first of these procedures that begins so; the first of them has the number i
-abbrev pub entry_from : Certificate → Setting → ℕ → AbsState → ℕ → List ProcedureParts → Option ℕ
-entry_from cert z a s i [] = None
-entry_from cert z a s i (p ∷ ps) = or_later (is_entry cert z a s p) i (entry_from cert z a s (i + 1) ps)
+abbrev pub entry_from : Program → Certificate → Setting → ℕ → AbsState → ℕ → List ProcedureParts → Option ℕ
+entry_from program cert z a s i [] = None
+entry_from program cert z a s i (p ∷ ps) = or_later (is_entry program cert z a s p) i (entry_from program cert z a s (i + 1) ps)
 
-abbrev pub entry_behind_main : Certificate → Setting → ℕ → AbsState → List ProcedureParts → Option ℕ
-entry_behind_main cert z a s [] = None
-entry_behind_main cert z a s (main ∷ ps) = entry_from cert z a s 1 ps
+abbrev pub entry_behind_main : Program → Certificate → Setting → ℕ → AbsState → List ProcedureParts → Option ℕ
+entry_behind_main program cert z a s [] = None
+entry_behind_main program cert z a s (main ∷ ps) = entry_from program cert z a s 1 ps
 
 -- the callee of a call in s, which stands in the setting: the first procedure but main whose entry node has the address, and that
 -- may begin there
-unfoldable pub callee_of : Certificate → Setting → ℕ → AbsState → Option ℕ
-callee_of cert z a s = entry_behind_main cert z a s cert.procedures
+unfoldable pub callee_of : Program → Certificate → Setting → ℕ → AbsState → Option ℕ
+callee_of program cert z a s = entry_behind_main program cert z a s cert.procedures
 
 -- ---- ranges
 

@@ -8,11 +8,12 @@ use Rattle.gb_domain.specs.declared.rules.Rules.{Rules}
 use Rattle.gb_domain.specs.declared.rules.Rules.TheVariants.{Simple, Extended}
 use Rattle.gb_domain.specs.declared.setting.Setting.{Setting}
 use Rattle.gb_domain.specs.Limits.{item_room}
+use Rattle.gb_domain.specs.Summaries.{Program}
 use Rattle.gb_domain.specs.Types.{AbsState}
 use Rattle.gb_domain.specs.Certificate.{Certificate}
 use Rattle.gb_product.specs.Below.gb_vals.Bits.{may_have_bit}
 use Rattle.gb_product.specs.Below.gb_vals.Vals.{single}
-use Rattle.gb_product.specs.Below.gb_abs.Operations.{core_end, with_core}
+use Rattle.gb_product.specs.Below.gb_abs.Operations.{core_end}
 use Rattle.gb_product.specs.Below.gb_abs.Stack.{pushed}
 use Rattle.gb_calls.specs.Calls.{callee_of}
 
@@ -25,7 +26,7 @@ dispatched_core s = core_end false 5 (record s { ime = only_off })
 
 -- an interrupt was dispatched: interrupts are off, and five M-cycles have passed
 unfoldable pub dispatched : AbsState → AbsState
-dispatched s = with_core s (dispatched_core s.core)
+dispatched s = record s { core = dispatched_core s.core }
 
 -- the word that stands for an address
 abbrev pub address_word : ℕ → Halves
@@ -46,5 +47,5 @@ abbrev pub may_come : ℕ → Core → Bool
 may_come i s = s.ime.on && may_have_bit s.ie i
 
 -- its handler, from the address a: the callee at its vector
-unfoldable pub handler_of : Certificate → Setting → ℕ → ℕ → AbsState → Option ℕ
-handler_of cert z i a s = callee_of cert z (vector i) (left_by_dispatch z.rules a s)
+unfoldable pub handler_of : Program → Certificate → Setting → ℕ → ℕ → AbsState → Option ℕ
+handler_of program cert z i a s = callee_of program cert z (vector i) (left_by_dispatch z.rules a s)

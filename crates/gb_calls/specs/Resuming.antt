@@ -1,5 +1,5 @@
 -- What a caller goes on with behind a call (own rules: calls).
-use Rattle.std.specs.Prelude.{◌≡◌, ℕ, ◌<◌, Bool, true, false, ◌&&◌, if◌then◌else◌, nat_lt, List, [], ◌∷◌, length, map, take, Option, Some, None}
+use Rattle.std.specs.Prelude.{◌≡◌, ℕ, ◌<◌, Bool, true, false, ◌&&◌, if◌then◌else◌, nat_lt, nat_le, List, [], ◌∷◌, length, map, take, Option, Some, None}
 use Rattle.std.specs.List.{filter, list_any}
 use Rattle.gb_ops.specs.declared.registers.Registers.{Registers}
 use Rattle.gb_domain.specs.declared.types.Origin.{Origin}
@@ -16,6 +16,7 @@ use Rattle.gb_domain.specs.declared.rules.Rules.TheVariants.{Simple, Extended}
 use Rattle.gb_domain.specs.Limits.{cell_room, item_room}
 use Rattle.gb_domain.specs.Places.{no_byte}
 use Rattle.gb_domain.specs.Relations.{no_relations}
+use Rattle.gb_domain.specs.Summaries.{SummaryParts, Program, no_summary}
 use Rattle.gb_domain.specs.Types.{AbsState}
 use Rattle.gb_product.specs.Below.gb_pairs.declared.values.Values.{Values}
 use Rattle.gb_product.specs.Below.gb_pairs.Reduced.{reduced}
@@ -25,6 +26,8 @@ use Rattle.gb_product.specs.Below.gb_relations.Returned.{returned}
 use Rattle.gb_product.specs.Below.gb_relations.Transfer.{values_of}
 use Rattle.gb_product.specs.Below.gb_abs.Origins.{without_origin, is_own, cell_without_origin}
 use Rattle.gb_product.specs.Below.gb_abs.Span.{one}
+use Rattle.gb_product.specs.Below.gb_summaries.declared.returning.GivenBack.{GivenBack}
+use Rattle.gb_product.specs.Below.gb_summaries.Returning.{summary_returned}
 use Rattle.gb_abs_memory.specs.Access.{is_range}
 use Rattle.gb_calls.specs.declared.resuming.Resumed.{Resumed}
 use Rattle.gb_calls.specs.declared.resuming.Resumed.TheVariants.{Nothing, States, TooDeep}
@@ -133,6 +136,7 @@ resumed_alone ranges s x =
       items = s.items;
       cells = cells_back (cell_room Simple) ranges s.cells x.cells;
       relations = record no_relations { byte = byte_back s x };
+      summary = no_summary;
     }
 
 -- ---- by the rules of version 3
@@ -158,14 +162,29 @@ abbrev pub kept_by : List Range → OneByte → Core → Kept
 kept_by ranges b exit =
     record { registers = own_by_register exit.registers; flags = exit.flags.is_own; address = is_address_kept ranges b.address }
 
--- the caller's waiting items and the exit's behind them, and what is known together on either side
-unfoldable pub rejoined : ℕ → List Range → AbsState → AbsState → AbsState
-rejoined k ranges s x =
+-- what a callee with this exit gives back as it was, of what is said of the whole program
+abbrev pub given_by : Core → GivenBack
+given_by exit = record { registers = own_by_register exit.registers; banks = exit.ctl.kept }
+
+-- a state holds all of the cells
+abbrev pub has_room : List Range → List Cell → List Cell → Bool
+has_room ranges caller exit = nat_le (length (all_cells_back ranges caller exit)) 64
+
+-- what is said of the whole program on either side, as far as it holds where the callee returns
+unfoldable pub summary_back : Program → List Range → AbsState → AbsState → SummaryParts
+summary_back program ranges s x =
+    summary_returned program ranges (given_by x.core) [] (values_of s.core.registers s.relations.pairs) s.cells s.summary x.cells x.summary
+    (has_room ranges s.cells x.cells) (cells_back (cell_room Extended) ranges s.cells x.cells)
+
+-- the caller's waiting items and the exit's behind them, what is known together on either side, and what is said of the whole program
+unfoldable pub rejoined : Program → ℕ → List Range → AbsState → AbsState → AbsState
+rejoined program k ranges s x =
     record {
       core = core_back s.core x.core;
       items = given_back_items k s.items x.items;
       cells = cells_back (cell_room Extended) ranges s.cells x.cells;
       relations = returned (kept_by ranges s.relations.byte x.core) s.relations x.relations;
+      summary = summary_back program ranges s x;
     }
 
 abbrev pub with_values : AbsState → Values → AbsState
@@ -181,11 +200,11 @@ reduced_state s = with_values_if s (reduced (values_of s.core.registers s.relati
 
 -- ---- by either
 
--- what the caller goes on with that was in s, where the callee has these ranges, began with k items and left by the exit x; none
--- where nothing is meant
-unfoldable pub resumed : Rules → ℕ → List Range → AbsState → AbsState → Option AbsState
-resumed Simple k ranges s x = Some (resumed_alone ranges s x)
-resumed Extended k ranges s x = reduced_state (rejoined k ranges s x)
+-- what the caller goes on with that was in s, in a program, where the callee has these ranges, began with k items and left by the
+-- exit x; none where nothing is meant
+unfoldable pub resumed : Program → Rules → ℕ → List Range → AbsState → AbsState → Option AbsState
+resumed program Simple k ranges s x = Some (resumed_alone ranges s x)
+resumed program Extended k ranges s x = reduced_state (rejoined program k ranges s x)
 
 -- with more items than any state has
 pub record IsTooDeep (s : Option AbsState) : Type 0 where

@@ -10,6 +10,7 @@ use Rattle.gb_domain.specs.declared.setting.Setting.{Setting}
 use Rattle.gb_domain.specs.declared.types.Range.{Range}
 use Rattle.gb_domain.specs.declared.types.Val.{Val}
 use Rattle.gb_domain.specs.Settings.{IsBase}
+use Rattle.gb_domain.specs.Summaries.{Program}
 use Rattle.gb_domain.specs.Types.{AbsState}
 use Rattle.gb_domain.specs.Areas.{IsRegion, meets}
 use Rattle.gb_domain.specs.Rules.{IsCore}
@@ -18,6 +19,7 @@ use Rattle.gb_product.specs.Below.gb_pairs.Sound.{IsSoundReducing}
 use Rattle.gb_product.specs.Below.gb_relations.Transfer.{values_of}
 use Rattle.gb_product.specs.Below.gb_abs.Cells.{ArePlaced}
 use Rattle.gb_product.specs.Meaning.{Means, IsApart}
+use Rattle.gb_product.specs.Below.gb_summaries.Elsewhere.{AreFreeFacts, IsFree}
 use Rattle.gb_product.specs.Below.gb_abs.Meaning.{Activation}
 use Rattle.gb_product.specs.Below.gb_abs.Stack.{AreInRegion}
 use Rattle.gb_product.specs.Below.gb_abs.Storage.{peek}
@@ -48,12 +50,12 @@ abbrev pub callee_base : Rules → ℕ → List Val → ℕ → MState → ℕ
 callee_base Simple k items base x = x.processor.sp
 callee_base Extended k items base x = base_below k items base
 
--- Of each state in which s was left by a call: the callee, entered in just that state with its return word at SP,
+-- Of each state in which s was left by a call: the callee, entered in just that state with its return word at SP, in the same program,
 -- begins with what is said, whatever it keeps and wherever its mark is.
 pub record IsSoundEntering (rules : Rules) (k : ℕ) (s after : AbsState) : Type 0 where
   pub gives :
       (entry : Activation) (base : ℕ) (begun : Activation)
-      → Begins rules k s entry base begun.entered
+      → begun.program ≡ entry.program → Begins rules k s entry base begun.entered
       → Means after begun (callee_base rules k s.items base begun.entered) begun.entered
 
 -- ---- resuming
@@ -77,7 +79,7 @@ pub record ComesBack (region : Region) (ranges : List Range) (s exit : AbsState)
 
 -- By those of version 3: the callee took over k items of the caller's, the return word among them, and leaves as many as its exit
 -- has. It stands in a setting of its own, in which it keeps what isn't its own to write.
-pub record HandsBack (k : ℕ) (region : Region) (ranges : List Range) (s exit : AbsState) (entry : Activation) (base : ℕ) (called : Activation) (x : MState) : Type 0 where
+pub record HandsBack (program : Program) (k : ℕ) (region : Region) (ranges : List Range) (s exit : AbsState) (entry : Activation) (base : ℕ) (called : Activation) (x : MState) : Type 0 where
   pub is_region : IsRegion region
   pub apart : AllByRecursion (λ r. meets region r.first r.last ≡ false) ranges
   pub placed : IsApart region s
@@ -89,12 +91,16 @@ pub record HandsBack (k : ℕ) (region : Region) (ranges : List Range) (s exit :
   pub exit_set : exit.core.stack_set ≡ true
   pub exit_core : IsCore exit.core
   pub exits : Means exit called (base_below k s.items base) x
+  pub caller_program : entry.program ≡ program
+  pub callee_program : called.program ≡ program
+  pub facts : AreFreeFacts region program.facts
+  pub exit_free : IsFree region exit.summary
   pub kept : (b : ℕ) → IsKept callee region ranges (base_below k s.items base) b → peek x.storage b ≡ peek called.entered.storage b
 
 abbrev pub ComesBackBy :
-    Rules → ℕ → Region → List Range → AbsState → AbsState → Activation → ℕ → Activation → MState → Type 0
-ComesBackBy Simple k region ranges s exit entry base called x = ComesBack region ranges s exit entry base called x
-ComesBackBy Extended k region ranges s exit entry base called x = HandsBack k region ranges s exit entry base called x
+    Program → Rules → ℕ → Region → List Range → AbsState → AbsState → Activation → ℕ → Activation → MState → Type 0
+ComesBackBy program Simple k region ranges s exit entry base called x = ComesBack region ranges s exit entry base called x
+ComesBackBy program Extended k region ranges s exit entry base called x = HandsBack program k region ranges s exit entry base called x
 
 -- x is one of the states, of which there are some
 abbrev pub MeansIf : Option AbsState → Activation → ℕ → MState → Type 0
@@ -112,8 +118,8 @@ abbrev pub ReducesSoundly : AbsState → Type 0
 ReducesSoundly s =
     IsSoundReducing (values_of s.core.registers s.relations.pairs) (reduced (values_of s.core.registers s.relations.pairs))
 
--- whatever the callee did, what is said of the caller's state holds
-pub record IsSoundResuming (rules : Rules) (k : ℕ) (ranges : List Range) (s exit : AbsState) (after : Resumed) : Type 0 where
+-- whatever the callee did in the program, what is said of the caller's state holds
+pub record IsSoundResuming (program : Program) (rules : Rules) (k : ℕ) (ranges : List Range) (s exit : AbsState) (after : Resumed) : Type 0 where
   pub gives :
       (region : Region) (entry : Activation) (base : ℕ) (called : Activation) (x : MState)
-      → ComesBackBy rules k region ranges s exit entry base called x → MeansResumed after entry base x
+      → ComesBackBy program rules k region ranges s exit entry base called x → MeansResumed after entry base x

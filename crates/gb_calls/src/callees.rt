@@ -4,10 +4,11 @@ ghost use Rattle.std.specs.Prelude.{◌≡◌, ◌≤◌};
 ghost use Rattle.gb_product.specs.Covering.{covers};
 ghost use Rattle.gb_calls.specs.Calls as Calls;
 
-use crate::covering::{States, covers_states};
+use crate::covering::covers_states;
 use crate::entering::enter_in;
 use gb_cert::{Cert, ProcedureRef, StateRef};
 use gb_domain::types::{Abs, Rules, Setting};
+use gb_product::{Program, States};
 
 /// Whether a base that is said is so many bytes below the caller's, which then is said too.
 fn is_base_below(caller: Option<u16>, base: u16, below: usize) -> bool
@@ -37,32 +38,41 @@ fn fits(setting: Setting, base: u16, count: usize, held: usize) -> bool
 /// Whether a state at a procedure's entry stands for what one begins with that takes so many items over of these states. That
 /// is put in the place of other states.
 fn covers_entered(
+    program: &Program<'_>,
     rules: Rules,
     count: u8,
     state: &Abs,
     entry: &StateRef<'_>,
     room: &mut Abs,
 ) -> bool
-    ensures { result ≡ covers (Calls.entered_by rules count state.now) entry.now }
+    ensures { result ≡ covers program.now (Calls.entered_by rules count state.now) entry.now }
 {
     enter_in(rules, count, state, room);
-    covers_states(&States::of(room), entry)
+    covers_states(program, &States::of(room), entry)
 }
 
 /// Whether a procedure with this base and this state at its entry may begin where it is called in these states.
 #[tactic(auto, unfolding(crate::specs::Calls::may_begin))]
-fn may_begin(setting: Setting, state: &Abs, base: u16, entry: &StateRef<'_>, room: &mut Abs) -> bool
-    ensures { result ≡ Calls.may_begin setting state.now base entry.now }
+fn may_begin(
+    program: &Program<'_>,
+    setting: Setting,
+    state: &Abs,
+    base: u16,
+    entry: &StateRef<'_>,
+    room: &mut Abs,
+) -> bool
+    ensures { result ≡ Calls.may_begin program.now setting state.now base entry.now }
 {
     let count = entry.item_count();
     fits(setting, base, usize::from(count), state.items().len())
-        && covers_entered(setting.rules, count, state, entry, room)
+        && covers_entered(program, setting.rules, count, state, entry, room)
 }
 
 /// Whether a procedure begins at the address, in a state that stands for these. The state is decoded only where
 /// the address is right.
 #[tactic(auto, unfolding(crate::specs::Calls::is_entry))]
 fn is_entry(
+    program: &Program<'_>,
     cert: &Cert<'_>,
     setting: Setting,
     address: u16,
@@ -70,14 +80,22 @@ fn is_entry(
     procedure: &ProcedureRef<'_>,
     room: &mut Abs,
 ) -> bool
-    ensures { result ≡ Calls.is_entry cert.now setting address state.now procedure.now }
+    ensures { result ≡ Calls.is_entry program.now cert.now setting address state.now procedure.now }
 {
     let entry = procedure.entry();
     if entry >= cert.nodes() {
         return false;
     }
     let node = cert.node(entry);
-    node.address() == address && may_begin(setting, state, procedure.base(), &node.lent(), room)
+    node.address() == address
+        && may_begin(
+            program,
+            setting,
+            state,
+            procedure.base(),
+            &node.lent(),
+            room,
+        )
 }
 
 /// The callee of a call to an address in these states, which stand in the setting: the first procedure but main whose
@@ -86,17 +104,18 @@ fn is_entry(
 /// are given, in whose place states are written.
 #[tactic(auto, unfolding(crate::specs::Calls::callee_of))]
 pub fn callee_in(
+    program: &Program<'_>,
     cert: &Cert<'_>,
     setting: Setting,
     address: u16,
     state: &Abs,
     room: &mut Abs,
 ) -> Option<u8>
-    ensures exact { result ≡ Calls.callee_of cert.now setting address state.now }
+    ensures exact { result ≡ Calls.callee_of program.now cert.now setting address state.now }
 {
     for i in 1..cert.procedures() {
         let procedure = cert.procedure(i);
-        if is_entry(cert, setting, address, state, &procedure, room) {
+        if is_entry(program, cert, setting, address, state, &procedure, room) {
             return Some(i);
         }
     }
@@ -104,9 +123,15 @@ pub fn callee_in(
 }
 
 /// The first procedure that may be called at the address in this state, as `callee_in` finds it, with room of its own.
-pub fn callee(cert: &Cert<'_>, setting: Setting, address: u16, state: &Abs) -> Option<u8>
-    ensures exact { result ≡ Calls.callee_of cert.now setting address state.now }
+pub fn callee(
+    program: &Program<'_>,
+    cert: &Cert<'_>,
+    setting: Setting,
+    address: u16,
+    state: &Abs,
+) -> Option<u8>
+    ensures exact { result ≡ Calls.callee_of program.now cert.now setting address state.now }
 {
     let mut room = Abs::new(*state.core());
-    callee_in(cert, setting, address, state, &mut room)
+    callee_in(program, cert, setting, address, state, &mut room)
 }

@@ -96,3 +96,28 @@ pub(crate) fn cells_back(
     cells.truncate(rules.cell_room());
     cells
 }
+
+/// How many cells lie in the ranges.
+fn count_inside(ranges: &[Range], cells: &[Cell]) -> usize
+    requires { length cells.now ≤ 64 }
+    ensures count { result ≡ length (filter (Resuming.is_in_ranges ranges.now) cells.now) }
+    ensures few { result ≤ 64 }
+{
+    let mut count = 0;
+    for cell in cells {
+        if is_in_ranges(ranges, cell) {
+            count += 1;
+        }
+    }
+    count
+}
+
+/// Whether a state holds all cells after a return: the caller's outside the ranges, and the exit's inside.
+#[tactic(auto, using(crate::proofs::CellLaws::all_counted))]
+pub(crate) fn has_room(ranges: &[Range], caller: &[Cell], exit: &[Cell]) -> bool
+    requires caller { length caller.now ≤ 64 }
+    requires exit { length exit.now ≤ 64 }
+    ensures { result ≡ Resuming.has_room ranges.now caller.now exit.now }
+{
+    outside(ranges, caller).len() + count_inside(ranges, exit) <= CELLS
+}

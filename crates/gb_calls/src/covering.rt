@@ -1,71 +1,88 @@
 //! Whether a state of a certificate stands for others, in its bytes.
 
-ghost use Rattle.std.specs.Prelude.{◌≡◌, ◌<◌, ◌&&◌};
+ghost use Rattle.std.specs.Prelude.{◌≡◌, ◌<◌, ◌&&◌, [], is_none};
 ghost use Rattle.std.specs.List.{flat_map};
 ghost use Rattle.gb_domain.specs.RelationRules.{test_alone};
 ghost use Rattle.gb_cert.specs.Below.gb_states.Spelling as spelled;
-ghost use Rattle.gb_product.specs.Below.gb_abs.Covering.{covers_items, covers_cells};
-ghost use Rattle.gb_product.specs.Covering.{covers, covers_relations};
+ghost use Rattle.gb_product.specs.Below.gb_abs.Covering.{covers_items};
+ghost use Rattle.gb_product.specs.Below.gb_relations.Transfer.{values_of};
+ghost use Rattle.gb_product.specs.Below.gb_summaries.Covering.{covers_summary};
+ghost use Rattle.gb_product.specs.Covering.{covers, covers_cells, covers_relations};
 ghost use Rattle.gb_calls.specs.Parts.{with_parts};
 
-use crate::in_bytes::{covers_core_in, covers_items_in};
+use crate::in_bytes::{are_none, covers_core_in, covers_items_in};
 use gb_cert::{StateRef, test_alone};
 use gb_domain::pairs::Pairs;
-use gb_domain::relations::Relations;
-use gb_domain::types::{Abs, Core};
-use gb_product::covering::covers_relations;
-use gb_product::covers_lists;
-
-/// States with this core, of which this is known together, and the items and cells of others.
-#[derive(Clone, Copy)]
-pub struct States<'a> {
-    pub core: &'a Core,
-    pub relations: &'a Relations,
-    pub lists: &'a Abs,
-}
-
-impl<'a> States<'a> {
-    /// All parts of one state.
-    pub fn of(state: &'a Abs) -> States<'a>
-        ensures core { result.core.now ≡ state.now.core }
-        ensures relations { result.relations.now ≡ state.now.relations }
-        ensures lists { result.lists.now ≡ state.now }
-    {
-        States {
-            core: state.core(),
-            relations: state.relations(),
-            lists: state,
-        }
-    }
-}
+use gb_domain::summary::Summary;
+use gb_product::covering::{covers_relations, covers_said};
+use gb_product::{Program, States, covers_lists};
 
 /// Whether the items and the cells of a state stand for those of others, where it has cells: kept out of line, so that a
 /// state is decoded only then.
 #[inline(never)]
-fn covers_decoded(s: &Abs, claimed: &StateRef<'_>) -> bool
-    ensures { result ≡ (covers_items s.now.items claimed.now.items && covers_cells s.now.cells claimed.now.cells) }
+fn covers_decoded(program: &Program<'_>, states: &States<'_>, claimed: &StateRef<'_>) -> bool
+    ensures { result ≡ (covers_items states.now.lists.now.items claimed.now.items && covers_cells program.now (values_of states.now.core.now.registers states.now.relations.now.pairs) states.now.lists.now.cells states.now.summary.now claimed.now.cells) }
 {
-    covers_lists(s, &claimed.state())
+    covers_lists(program, states, &claimed.state())
 }
 
 /// Whether the items and the cells of a state stand for what these do; the bytes of its cells are given.
-fn covers_listed(s: &Abs, claimed: &StateRef<'_>, cells: &[u8]) -> bool
+fn covers_listed(
+    program: &Program<'_>,
+    states: &States<'_>,
+    claimed: &StateRef<'_>,
+    cells: &[u8],
+) -> bool
     requires { cells.now ≡ flat_map spelled.cell claimed.now.cells }
-    ensures { result ≡ (covers_items s.now.items claimed.now.items && covers_cells s.now.cells claimed.now.cells) }
+    ensures { result ≡ (covers_items states.now.lists.now.items claimed.now.items && covers_cells program.now (values_of states.now.core.now.registers states.now.relations.now.pairs) states.now.lists.now.cells states.now.summary.now claimed.now.cells) }
 {
     if cells.is_empty() {
-        covers_items_in(s.items(), claimed.items())
+        covers_items_in(states.lists.items(), claimed.items())
     } else {
-        covers_decoded(s, claimed)
+        covers_decoded(program, states, claimed)
     }
 }
 
-/// Whether all of a state but the core stands for that of others, where it may hold some.
-fn covers_read(states: &States<'_>, claimed: &StateRef<'_>) -> bool
-    ensures { result ≡ ((covers_items states.now.lists.now.items claimed.now.items && covers_cells states.now.lists.now.cells claimed.now.cells) && covers_relations states.now.core.now.registers states.now.relations.now claimed.now.relations) }
+/// Whether what a state says of the whole program, which isn't nothing, holds of others: kept out of line, so that its cells are
+/// decoded only then.
+#[inline(never)]
+fn covers_some(
+    program: &Program<'_>,
+    states: &States<'_>,
+    claimed: &StateRef<'_>,
+    summary: &Summary,
+) -> bool
+    ensures { result ≡ covers_summary program.now (values_of states.now.core.now.registers states.now.relations.now.pairs) states.now.core.now.ctl states.now.lists.now.cells states.now.summary.now claimed.now.cells summary.now }
+{
+    covers_said(program, states, claimed.state().cells(), summary)
+}
+
+/// Whether nothing is asked that is about the whole program: the stack isn't put aside.
+fn covers_nothing(states: &States<'_>) -> bool
+    ensures { result ≡ is_none states.now.summary.now.aside }
+{
+    states.summary.aside().is_none()
+}
+
+/// Whether what a state says of the whole program holds of others.
+#[tactic(auto, using(crate::proofs::CoveringLaws::covers_silence))]
+fn covers_summary_read(program: &Program<'_>, states: &States<'_>, claimed: &StateRef<'_>) -> bool
+    ensures { result ≡ covers_summary program.now (values_of states.now.core.now.registers states.now.relations.now.pairs) states.now.core.now.ctl states.now.lists.now.cells states.now.summary.now claimed.now.cells claimed.now.summary }
+{
+    let summary = claimed.summary();
+    if summary.is_silent() {
+        covers_nothing(states)
+    } else {
+        covers_some(program, states, claimed, &summary)
+    }
+}
+
+/// Whether all of a state but the core and what it says of the whole program stands for that of others, where it may hold some.
+fn covers_read(program: &Program<'_>, states: &States<'_>, claimed: &StateRef<'_>) -> bool
+    ensures { result ≡ ((covers_items states.now.lists.now.items claimed.now.items && covers_cells program.now (values_of states.now.core.now.registers states.now.relations.now.pairs) states.now.lists.now.cells states.now.summary.now claimed.now.cells) && covers_relations states.now.core.now.registers states.now.relations.now claimed.now.relations) }
 {
     let (relations, cells) = claimed.told();
-    covers_listed(states.lists, claimed, cells)
+    covers_listed(program, states, claimed, cells)
         && covers_relations(&states.core.registers, states.relations, &relations)
 }
 
@@ -89,23 +106,32 @@ fn covers_test(states: &States<'_>, test: Option<u8>) -> bool
     }
 }
 
+/// Whether a state without items, cells and what is said of the whole program stands for others, their cores apart.
+#[inline(always)]
+fn covers_bare(states: &States<'_>, test: Option<u8>) -> bool
+    ensures { result ≡ ((covers_items states.now.lists.now.items [] && covers_relations states.now.core.now.registers states.now.relations.now (test_alone test)) && is_none states.now.summary.now.aside) }
+{
+    are_none(states.lists.items()) && covers_test(states, test) && covers_nothing(states)
+}
+
 /// Whether all of a state but the core stands for that of others.
 #[inline(always)]
-fn covers_rest(states: &States<'_>, claimed: &StateRef<'_>) -> bool
-    ensures { result ≡ ((covers_items states.now.lists.now.items claimed.now.items && covers_cells states.now.lists.now.cells claimed.now.cells) && covers_relations states.now.core.now.registers states.now.relations.now claimed.now.relations) }
+#[tactic(auto, using(crate::proofs::CoveringLaws::covers_bare))]
+fn covers_rest(program: &Program<'_>, states: &States<'_>, claimed: &StateRef<'_>) -> bool
+    ensures { result ≡ (((covers_items states.now.lists.now.items claimed.now.items && covers_cells program.now (values_of states.now.core.now.registers states.now.relations.now.pairs) states.now.lists.now.cells states.now.summary.now claimed.now.cells) && covers_relations states.now.core.now.registers states.now.relations.now claimed.now.relations) && covers_summary program.now (values_of states.now.core.now.registers states.now.relations.now.pairs) states.now.core.now.ctl states.now.lists.now.cells states.now.summary.now claimed.now.cells claimed.now.summary) }
 {
     if claimed.has_lists() {
-        covers_read(states, claimed)
+        covers_read(program, states, claimed) && covers_summary_read(program, states, claimed)
     } else {
-        states.lists.items().is_empty() && covers_test(states, claimed.test())
+        covers_bare(states, claimed.test())
     }
 }
 
-/// Whether a state stands for each machine state that these stand for. Only its core is read where that doesn't, and where
-/// nothing but a core is in it.
-#[tactic(auto, unfolding(gb_product::specs::Covering::covers, crate::specs::Opened::covers_parts))]
-pub fn covers_states(states: &States<'_>, claimed: &StateRef<'_>) -> bool
-    ensures { result ≡ covers (with_parts states.now.core.now states.now.relations.now states.now.lists.now) claimed.now }
+/// Whether in a program a state stands for each machine state that these stand for. Only its core is read where that doesn't, and
+/// where nothing but a core is in it.
+#[tactic(auto, unfolding(gb_product::specs::Covering::covers))]
+pub fn covers_states(program: &Program<'_>, states: &States<'_>, claimed: &StateRef<'_>) -> bool
+    ensures { result ≡ covers program.now (with_parts states.now.core.now states.now.relations.now states.now.summary.now states.now.lists.now) claimed.now }
 {
-    covers_core_in(states.core, claimed.bytes()) && covers_rest(states, claimed)
+    covers_core_in(states.core, claimed.bytes()) && covers_rest(program, states, claimed)
 }

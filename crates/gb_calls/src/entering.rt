@@ -1,6 +1,7 @@
 //! What a procedure begins with.
 
 ghost use Rattle.std.specs.Prelude.{◌≡◌, ◌≤◌, ◌+◌, ◌++◌, length, map};
+ghost use Rattle.gb_domain.specs.Summaries.{no_summary};
 ghost use Rattle.gb_product.specs.Below.gb_abs.Origins as Origins;
 ghost use Rattle.gb_calls.specs.Calls as Calls;
 ghost use Rattle.gb_calls.specs.Sound.{IsSoundEntering};
@@ -94,6 +95,17 @@ fn append_cells(cells: &[Cell], state: &mut Abs)
     }
 }
 
+/// The state says of the whole program what another one does: by the rules of versions 1 and 2 that is nothing, as it does before.
+fn put_summary(rules: Rules, state: &Abs, entered: &mut Abs)
+    requires { entered.old.summary ≡ no_summary }
+    ensures { entered.new ≡ record entered.old { summary = Calls.summary_entered rules state.now.summary } }
+{
+    match rules {
+        Rules::Simple => {}
+        Rules::Extended => entered.set_summary(state.summary().copied()),
+    }
+}
+
 /// The state with which a procedure begins, in the place of another one.
 #[tactic(auto, unfolding(crate::specs::Calls::entered_by))]
 fn put_entered(rules: Rules, count: u8, state: &Abs, entered: &mut Abs)
@@ -103,6 +115,7 @@ fn put_entered(rules: Rules, count: u8, state: &Abs, entered: &mut Abs)
     entered.set_relations(*state.relations());
     append_entered(rules, count, state.items(), entered);
     append_cells(state.cells(), entered);
+    put_summary(rules, state, entered);
 }
 
 /// Does what `enter` does, in the place of other states.

@@ -49,7 +49,8 @@ fn covers_val_of(s: &Val, lo: u8, hi: u8, number: u8) -> bool
     lo <= s.lo && s.hi <= hi && covers_origin(s.origin, origin_of(number))
 }
 
-fn are_none(s: &[Val]) -> bool
+/// Whether there are no items.
+pub(crate) fn are_none(s: &[Val]) -> bool
     ensures { result ≡ Covering.covers_items s.now [] }
 {
     match s {

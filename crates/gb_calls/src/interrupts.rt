@@ -7,7 +7,7 @@ ghost use Rattle.gb_calls.specs.Interrupts as Interrupts;
 use crate::callees::callee;
 use gb_cert::Cert;
 use gb_domain::types::{Abs, Core, Halves, ImeSet, Rules, Setting};
-use gb_product::{end, may_have_bit, push, single};
+use gb_product::{Program, end, may_have_bit, push, single};
 
 /// The M-cycles of a dispatch (Interrupts: interrupt handling).
 const DISPATCH: u8 = 5;
@@ -83,10 +83,23 @@ pub fn may_come(i: u8, core: &Core) -> bool
 /// The handler of interrupt `i`, 0 to 4, which comes at the address: the callee at its vector, in the state in which the
 /// dispatch leaves the procedure (own).
 #[tactic(auto, unfolding(crate::specs::Interrupts::handler_of))]
-pub fn handler(cert: &Cert<'_>, setting: Setting, i: u8, address: u16, state: &Abs) -> Option<u8>
+pub fn handler(
+    program: &Program<'_>,
+    cert: &Cert<'_>,
+    setting: Setting,
+    i: u8,
+    address: u16,
+    state: &Abs,
+) -> Option<u8>
     requires { i < 5 }
-    ensures exact { result ≡ Interrupts.handler_of cert.now setting i address state.now }
+    ensures exact { result ≡ Interrupts.handler_of program.now cert.now setting i address state.now }
 {
     let left = left_by_dispatch(setting.rules, address, state);
-    callee(cert, setting, FIRST_VECTOR + 8 * u16::from(i), &left)
+    callee(
+        program,
+        cert,
+        setting,
+        FIRST_VECTOR + 8 * u16::from(i),
+        &left,
+    )
 }

@@ -22,9 +22,10 @@ pub mod interrupts;
 pub mod ranges;
 pub mod resuming;
 
-pub use covering::States;
 pub use resuming::{Resumed, Return};
 
 // What lies below, for the crates above.
 pub use gb_cert::{Cert, CertFault, Found, NodeRef, ProcedureRef, StateRef, test_alone};
-pub use gb_product::covering::covers_relations;
+pub use gb_domain::summary::{BankShadows, Shadows, Summary};
+pub use gb_product::covering::{covers_relations, covers_said};
+pub use gb_product::{States, byte_of};

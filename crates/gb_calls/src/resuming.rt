@@ -2,17 +2,22 @@
 
 ghost use Rattle.std.specs.Prelude.{◌≡◌, ◌+◌, ◌≤◌, ◌<◌, ◌++◌, true, false, length, map};
 ghost use Rattle.gb_domain.specs.declared.rules.Rules.TheVariants.{Extended};
+ghost use Rattle.gb_domain.specs.Limits.{cell_room};
 ghost use Rattle.gb_product.specs.Below.gb_abs.Origins as Origins;
 ghost use Rattle.gb_calls.specs.Resuming as Resuming;
 ghost use Rattle.gb_calls.specs.Sound.{IsSoundResuming, ReducesSoundly};
 ghost use Rattle.gb_calls.specs.TakenOver as TakenOver;
 
-use crate::cells::{cells_back, is_address_in};
+use crate::cells::{cells_back, has_room, is_address_in};
 use gb_domain::places::OneByte;
 use gb_domain::relations::Relations;
-use gb_domain::types::{Abs, Core, Ctl, KeptBanks, Origin, Range, Rules, Val};
+use gb_domain::summary::Summary;
+use gb_domain::types::{Abs, Cell, Core, Ctl, KeptBanks, Origin, Range, Rules, Val};
 use gb_ops::registers::Registers;
-use gb_product::{Kept, is_own, only_of_a, reduce, returned, without_origin};
+use gb_product::{
+    GivenBack, Kept, Program, Said, Values, is_own, only_of_a, reduce, returned, summary_returned,
+    without_origin,
+};
 
 /// The most items that a state holds by any rules.
 const ITEMS: usize = 255;
@@ -202,6 +207,74 @@ fn kept_by(ranges: &[Range], byte: &OneByte, exit: &Core) -> Kept
     }
 }
 
+/// What a callee with this exit gives back as it was, of what is said of the whole program.
+fn given_by(exit: &Core) -> GivenBack
+    ensures { result ≡ Resuming.given_by exit.now }
+{
+    GivenBack {
+        registers: own_by_register(&exit.registers),
+        banks: exit.ctl.kept,
+    }
+}
+
+/// What is said of the whole program where the callee returns; the cells are those there.
+#[tactic(auto, unfolding(crate::specs::Resuming::summary_back))]
+fn said_back(
+    program: &Program<'_>,
+    ranges: &[Range],
+    state: &Abs,
+    exit: &Abs,
+    cells: &[Cell],
+) -> Summary
+    requires { cells.now ≡ Resuming.cells_back (cell_room Extended) ranges.now state.now.cells exit.now.cells }
+    ensures { result ≡ Resuming.summary_back program.now ranges.now state.now exit.now }
+{
+    let values = Values {
+        registers: state.core().registers,
+        pairs: state.relations().pairs,
+    };
+    let caller = Said {
+        cells: state.cells(),
+        summary: state.summary(),
+    };
+    let last = Said {
+        cells: exit.cells(),
+        summary: exit.summary(),
+    };
+    let has_room = has_room(ranges, caller.cells, last.cells);
+    summary_returned(
+        program.kind,
+        program.facts,
+        ranges,
+        &given_by(exit.core()),
+        &[],
+        &values,
+        &caller,
+        &last,
+        has_room,
+        cells,
+    )
+}
+
+/// The same, at once where nothing is said on either side.
+#[tactic(auto, using(crate::proofs::SummaryBackLaws::silent_back))]
+fn summary_back(
+    program: &Program<'_>,
+    ranges: &[Range],
+    state: &Abs,
+    exit: &Abs,
+    cells: &[Cell],
+) -> Summary
+    requires { cells.now ≡ Resuming.cells_back (cell_room Extended) ranges.now state.now.cells exit.now.cells }
+    ensures { result ≡ Resuming.summary_back program.now ranges.now state.now exit.now }
+{
+    if state.summary().is_silent() && exit.summary().is_silent() {
+        Summary::none()
+    } else {
+        said_back(program, ranges, state, exit, cells)
+    }
+}
+
 /// The state gets a caller's waiting items more, the callee having taken over so many, and those of its exit behind them.
 /// There must be room for them.
 #[tactic(auto, unfolding(crate::specs::TakenOver::given_back_items))]
@@ -228,9 +301,16 @@ fn are_too_many(count: u8, held: &[Val], exit: &[Val]) -> bool
 /// What a caller goes on with, in the place of other states: its waiting items and the exit's behind them, and what is known
 /// together on either side, cut to what registers and pairs leave each other.
 #[tactic(auto, unfolding(crate::specs::Resuming::rejoined, crate::specs::Resuming::reduced_state))]
-fn put_rejoined(count: u8, ranges: &[Range], state: &Abs, exit: &Abs, resumed: &mut Abs) -> Return
-    ensures exact { Resuming.IsResumed (Resuming.resumed_to result resumed.new) (Resuming.reduced_state (Resuming.rejoined count ranges.now state.now exit.now)) }
-    ensures reducing { ReducesSoundly (Resuming.rejoined count ranges.now state.now exit.now) }
+fn put_rejoined(
+    program: &Program<'_>,
+    count: u8,
+    ranges: &[Range],
+    state: &Abs,
+    exit: &Abs,
+    resumed: &mut Abs,
+) -> Return
+    ensures exact { Resuming.IsResumed (Resuming.resumed_to result resumed.new) (Resuming.reduced_state (Resuming.rejoined program.now count ranges.now state.now exit.now)) }
+    ensures reducing { ReducesSoundly (Resuming.rejoined program.now count ranges.now state.now exit.now) }
 {
     let kept = kept_by(ranges, &state.relations().byte, exit.core());
     let mut core = core_back(state.core(), exit.core());
@@ -244,17 +324,26 @@ fn put_rejoined(count: u8, ranges: &[Range], state: &Abs, exit: &Abs, resumed: &
     resumed.set_plain(core);
     resumed.set_relations(relations);
     append_given_back(count, state.items(), exit.items(), resumed);
-    resumed.set_cells(cells_back(Rules::Extended, ranges, state.cells(), exit.cells()));
+    let cells = cells_back(Rules::Extended, ranges, state.cells(), exit.cells());
+    resumed.set_summary(summary_back(program, ranges, state, exit, cells.as_slice()));
+    resumed.set_cells(cells);
     Return::States
 }
 
 /// Rejoins the caller's state with the callee's exit, and follows what the machine does.
 #[tactic(auto, using(crate::proofs::ResumingLaws::rejoined_sound))]
-fn rejoin(count: u8, ranges: &[Range], state: &Abs, exit: &Abs, resumed: &mut Abs) -> Return
-    ensures exact { Resuming.IsResumed (Resuming.resumed_to result resumed.new) (Resuming.reduced_state (Resuming.rejoined count ranges.now state.now exit.now)) }
-    ensures sound { IsSoundResuming Extended count ranges.now state.now exit.now (Resuming.resumed_to result resumed.new) }
+fn rejoin(
+    program: &Program<'_>,
+    count: u8,
+    ranges: &[Range],
+    state: &Abs,
+    exit: &Abs,
+    resumed: &mut Abs,
+) -> Return
+    ensures exact { Resuming.IsResumed (Resuming.resumed_to result resumed.new) (Resuming.reduced_state (Resuming.rejoined program.now count ranges.now state.now exit.now)) }
+    ensures sound { IsSoundResuming program.now Extended count ranges.now state.now exit.now (Resuming.resumed_to result resumed.new) }
 {
-    put_rejoined(count, ranges, state, exit, resumed)
+    put_rejoined(program, count, ranges, state, exit, resumed)
 }
 
 // ---- by either
@@ -262,6 +351,7 @@ fn rejoin(count: u8, ranges: &[Range], state: &Abs, exit: &Abs, resumed: &mut Ab
 /// Does what `resume` does, in the place of other states; `Return` says what they are.
 #[tactic(auto, using(crate::proofs::ResumingLaws::resumed_alone_sound), unfolding(crate::specs::Resuming::resumed))]
 pub fn resume_in(
+    program: &Program<'_>,
     rules: Rules,
     count: u8,
     ranges: &[Range],
@@ -269,26 +359,33 @@ pub fn resume_in(
     exit: &Abs,
     resumed: &mut Abs,
 ) -> Return
-    ensures exact { Resuming.IsResumed (Resuming.resumed_to result resumed.new) (Resuming.resumed rules count ranges.now state.now exit.now) }
-    ensures sound { IsSoundResuming rules count ranges.now state.now exit.now (Resuming.resumed_to result resumed.new) }
+    ensures exact { Resuming.IsResumed (Resuming.resumed_to result resumed.new) (Resuming.resumed program.now rules count ranges.now state.now exit.now) }
+    ensures sound { IsSoundResuming program.now rules count ranges.now state.now exit.now (Resuming.resumed_to result resumed.new) }
 {
     match rules {
         Rules::Simple => {
             put_alone(ranges, state, exit, resumed);
             Return::States
         }
-        Rules::Extended => rejoin(count, ranges, state, exit, resumed),
+        Rules::Extended => rejoin(program, count, ranges, state, exit, resumed),
     }
 }
 
-/// What a caller goes on with that was in these states, where its callee has these ranges, began with so many items and left
+/// What a caller goes on with in a program that was in these states, where its callee has these ranges, began with so many items and left
 /// by this exit (abstract interpretation: calls; own).
-pub fn resume(rules: Rules, count: u8, ranges: &[Range], state: &Abs, exit: &Abs) -> Resumed
-    ensures exact { Resuming.IsResumed result (Resuming.resumed rules count ranges.now state.now exit.now) }
-    ensures sound { IsSoundResuming rules count ranges.now state.now exit.now result }
+pub fn resume(
+    program: &Program<'_>,
+    rules: Rules,
+    count: u8,
+    ranges: &[Range],
+    state: &Abs,
+    exit: &Abs,
+) -> Resumed
+    ensures exact { Resuming.IsResumed result (Resuming.resumed program.now rules count ranges.now state.now exit.now) }
+    ensures sound { IsSoundResuming program.now rules count ranges.now state.now exit.now result }
 {
     let mut resumed = Abs::new(*state.core());
-    match resume_in(rules, count, ranges, state, exit, &mut resumed) {
+    match resume_in(program, rules, count, ranges, state, exit, &mut resumed) {
         Return::Nothing => Resumed::Nothing,
         Return::States => Resumed::States(resumed),
         Return::TooDeep => Resumed::TooDeep,

@@ -1,5 +1,5 @@
 -- Certificates: what is read is spelled so, what is spelled so is read, and there is one spelling.
-use Rattle.std.proofs.Common.{◌≡◌, ℕ, ◌<◌, ◌≤◌, Bool, true, false, ◌&&◌, ◌||◌, ◌==◌, ◌⊎◌, inl, inr, List, [], ◌∷◌, ◌++◌, length, Result, Ok, Err, refl, sym, ◌∙◌, ap, arith, append-nil}
+use Rattle.std.proofs.Common.{◌≡◌, ℕ, ◌<◌, ◌≤◌, Bool, true, false, ◌&&◌, ◌||◌, ◌==◌, ◌⊎◌, inl, inr, List, [], ◌∷◌, ◌++◌, length, Result, Ok, Err, refl, sym, ◌∙◌, ap, subst, arith, append-nil}
 use Rattle.std.specs.List.{flat_map}
 use Rattle.gb_ops.specs.declared.machine.Region.{Region}
 use Rattle.gb_states.specs.Below.gb_fields.declared.fault.CertFault.{CertFault}
@@ -8,6 +8,7 @@ use Rattle.gb_states.specs.Below.gb_fields.declared.head.Head.{Head}
 use Rattle.gb_states.specs.Below.gb_fields.Limits.{procedure_limit, node_limit}
 use Rattle.gb_domain.specs.Types.{ProcedureParts, Node}
 use Rattle.gb_domain.specs.Certificate.{Certificate}
+use Rattle.gb_domain.specs.declared.summary.Fact.{Fact}
 use Rattle.gb_states.specs.Below.gb_fields.Format.{Read, go_on, both, checked, followed, ended, byte}
 use Rattle.gb_domain.specs.declared.rules.Rules.{Rules}
 use Rattle.gb_domain.specs.declared.rules.Rules.TheVariants.{Simple, Extended}
@@ -42,7 +43,7 @@ region-is rules r h = let a = and_both (is_area r.first r.last) (is_whole rules 
 is-region : (rules : Rules) (r : Region) → IsRegionFor rules r → IsRegionPair rules r
 is-region rules r h = (area_small r.first r.last h.area, both_and (is_area r.first r.last) (is_whole rules (size r)) h.area h.whole)
 
-IsFormat-region : (rules : Rules) → IsFormat (region_at rules) (λ r. spelled.word r.first ++ spelled.word r.last) (IsRegionFor rules)
+pub IsFormat-region : (rules : Rules) → IsFormat (region_at rules) (λ r. spelled.word r.first ++ spelled.word r.last) (IsRegionFor rules)
 unfolding region_at from_region
 IsFormat-region rules =
     IsFormat-as (region_at rules) (λ r. spelled.word r.first ++ spelled.word r.last) (IsRegionPair rules) (IsRegionFor rules) (region-is rules) (is-region rules)
@@ -51,10 +52,10 @@ IsFormat-region rules =
 abbrev AreBytes : Letters → Type 0
 AreBytes p = (p.0 < 256) × ((p.1.0 < 256) × ((p.1.1.0 < 256) × (p.1.1.1 < 256)))
 
-abbrev spelled_letters : Letters → List ℕ
+abbrev pub spelled_letters : Letters → List ℕ
 spelled_letters p = p.0 ∷ p.1.0 ∷ p.1.1.0 ∷ p.1.1.1 ∷ []
 
-abbrev letters_of : Rules → Letters
+abbrev pub letters_of : Rules → Letters
 letters_of rules = (0x47, (0x42, (0x42, spelled.letter rules)))
 
 abbrev IsMagic : Letters → Type 0
@@ -86,10 +87,10 @@ letters_good : (rules : Rules) → IsMagic (letters_of rules)
 letters_good Simple = ((omega arith, (omega arith, (omega arith, omega arith))), refl)
 letters_good Extended = ((omega arith, (omega arith, (omega arith, omega arith))), refl)
 
-abbrev spelled_magic : Rules → List ℕ
+abbrev pub spelled_magic : Rules → List ℕ
 spelled_magic rules = spelled_letters (letters_of rules)
 
-IsFormat-magic : IsFormat magic_at spelled_magic (λ rules. Unit {0})
+pub IsFormat-magic : IsFormat magic_at spelled_magic (λ rules. Unit {0})
 unfolding magic_at
 IsFormat-magic =
     IsFormat-as magic_at spelled_magic (λ rules. IsMagic (letters_of rules)) (λ rules. Unit {0}) (λ rules h. tt) (λ rules h. letters_good rules)
@@ -104,7 +105,7 @@ Versions = Rules × ℕ
 abbrev IsVersionPair : Versions → Type 0
 IsVersionPair p = Unit {0} × ((p.1 < 256) × (is_version_of p.0 p.1 ≡ true))
 
-or_either : (a b : Bool) → (a || b) ≡ true → (a ≡ true) ⊎ (b ≡ true)
+pub or_either : (a b : Bool) → (a || b) ≡ true → (a ≡ true) ⊎ (b ≡ true)
 or_either true b h = inl refl
 or_either false b h = inr h
 
@@ -164,7 +165,7 @@ pub record IsHead (h : Head) : Type 0 where
   pub some_node : 0 < h.nodes
   pub few_nodes : h.nodes ≤ node_limit h.version
 
-IsFormat-node_count : (version : ℕ) → IsFormat (node_count_at version) (spelled.node_number version) (λ n. (n ≤ node_limit version) × (0 < n))
+pub IsFormat-node_count : (version : ℕ) → IsFormat (node_count_at version) (spelled.node_number version) (λ n. (n ≤ node_limit version) × (0 < n))
 unfolding node_count_at
 IsFormat-node_count version =
     IsFormat-as (node_count_at version) (spelled.node_number version) (λ n. ((n < node_numbers (version == 1)) × (is_between 0 (node_limit version) n ≡ true)) × (is_any n ≡ true)) (λ n. (n ≤ node_limit version) × (0 < n))
@@ -252,9 +253,9 @@ certificate-there p a = counts p.0.procedures p.0.nodes a.0.1.0.0 a.0.1.1.0
     counts : (i j : ℕ) → length p.1.0 ≡ i → length p.1.1 ≡ j → made (length p.1.0) (length p.1.1) ≡ made i j
     counts i j e f = rw (e, f) refl
 
-certificate-is : (c : Certificate) → AreParts (from_certificate c) → IsCertificate c
+certificate-is : (c : Certificate) → AreParts (from_certificate c) → c.facts ≡ [] → IsCertificate c
 unfolding from_certificate head_of
-certificate-is c a = record {
+certificate-is c a none = record {
   version = a.0.0.version;
   region = record { area = a.0.0.region.area };
   whole = a.0.0.region.whole;
@@ -265,7 +266,12 @@ certificate-is c a = record {
   procedures = a.0.1.0.1;
   nodes = a.0.1.1.1;
   entries = a.1;
+  facts = none;
 }
+
+-- what is read is a certificate
+read-is : (p : Head × Body) → AreParts p → IsCertificate (to_certificate p)
+read-is p a = certificate-is (to_certificate p) (subst AreParts (sym (certificate-there p a)) a) refl
 
 is-certificate : (c : Certificate) → IsCertificate c → AreParts (from_certificate c)
 unfolding from_certificate head_of
@@ -274,14 +280,14 @@ is-certificate c a = ((record { version = a.version; region = record { area = a.
 IsFormat-certificate : IsFormat certificate_at spelled.spelling IsCertificate
 unfolding certificate_at from_certificate head_of from_head spelled.spelling spelled.head
 IsFormat-certificate =
-    IsFormat-as certificate_at spelled.spelling (λ c. AreParts (from_certificate c)) IsCertificate certificate-is is-certificate
-    (IsFormat-mapped to_certificate from_certificate (checked fault.Field have_entries_in (followed head_at behind_head)) (λ p. spelled_head p.0 ++ spelled_body p.0.version p.1) AreParts certificate-there (λ c h. refl)
+    IsFormat-onto to_certificate from_certificate (checked fault.Field have_entries_in (followed head_at behind_head)) (λ p. spelled_head p.0 ++ spelled_body p.0.version p.1) AreParts IsCertificate (λ p a. (certificate-there p a, read-is p a))
+    (λ c h. (is-certificate c h, ap (λ (fs : List Fact). record c { facts = fs }) (sym h.facts)))
     (IsFormat-checked fault.Field have_entries_in (followed head_at behind_head) (λ p. spelled_head p.0 ++ spelled_body p.0.version p.1) (λ p. IsHead p.0 × AreBody p.0 p.1)
-    (IsFormat-followed head_at behind_head spelled_head (λ h. spelled_body h.version) IsHead AreBody IsFormat-head IsFormat-body)))
+    (IsFormat-followed head_at behind_head spelled_head (λ h. spelled_body h.version) IsHead AreBody IsFormat-head IsFormat-body))
 
 -- ---- all of the bytes
 
-whole_is : {X : Type 0} (r : Result (X × List ℕ) CertFault) (x : X) → go_on r ended ≡ Ok x → r ≡ Ok (x, [])
+pub whole_is : {X : Type 0} (r : Result (X × List ℕ) CertFault) (x : X) → go_on r ended ≡ Ok x → r ≡ Ok (x, [])
 whole_is {X} (Ok p) x e = by p.0 p.1 e
   where
     by : (y : X) (rest : List ℕ) → ended y rest ≡ Ok x → (let q : Result (X × List ℕ) CertFault = Ok (y, rest) in q) ≡ Ok (x, [])

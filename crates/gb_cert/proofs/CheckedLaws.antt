@@ -16,6 +16,7 @@ use Rattle.gb_domain.specs.declared.types.Core.{Core}
 use Rattle.gb_domain.specs.declared.types.Cell.{Cell}
 use Rattle.gb_states.specs.declared.role.Role.{Role}
 use Rattle.gb_domain.specs.Types.{AbsState, all_or_none, are_all_kept, state_of}
+use Rattle.gb_domain.specs.Summaries.{SummaryParts, no_summary}
 use Rattle.gb_states.specs.Below.gb_fields.Reading.{word_of, is_one}
 use Rattle.gb_states.specs.Reading.{origin_of, to_may, to_flg}
 use Rattle.gb_states.specs.Spelling as spelled
@@ -25,10 +26,11 @@ use Rattle.gb_domain.specs.declared.rules.Rules.TheVariants.{Simple, Extended}
 use Rattle.gb_domain.specs.declared.relations.Relations.{Relations}
 use Rattle.gb_domain.specs.RelationRules.{has_place, compared, test_alone, IsRelations}
 use Rattle.gb_states.specs.Below.gb_fields.Limits.{unit}
-use Rattle.gb_states.specs.Rules.{is_whole, may_be_known, may_be_of, is_sayable, are_sayable, is_all_or_none, is_core_sayable, is_cell_sayable, is_state_sayable, IsState}
+use Rattle.gb_states.specs.Rules.{is_whole, may_be_known, may_be_of, is_sayable, are_sayable, is_all_or_none, is_core_sayable, is_cell_sayable, is_silent, is_state_sayable, IsState}
 use Rattle.gb_states.specs.RelationSpelling as told
 use Rattle.gb_states.specs.Checked.{flg_in, core_in, test_in, begins_with_zero, begins_with_zeros, are_none, listed_items, listed_cells}
 use Rattle.gb_states.proofs.RelationLaws.{is-alone, nothing-told}
+use Rattle.gb_states.proofs.SummaryLaws.{silent-is}
 use Rattle.gb_states.proofs.FieldLaws.{and_both, same, Flags, number_of, of-flag, origin_of-number, may-number, ime-number, flags-number, kept-again, own-again}
 use Rattle.gb_cert.proofs.Lending.{core-long, vals-long, cell-long, lists-behind}
 
@@ -116,8 +118,16 @@ front-of rules role region bytes s h = h.parts ∙ append_assoc (spelled.core s.
 pub sayable-parts : (rules : Rules) (s : AbsState) → is_state_sayable rules s ≡ true
     → (is_core_sayable rules s.core ≡ true) × ((list_all (is_sayable rules) s.items ≡ true) × (list_all (is_cell_sayable rules) s.cells ≡ true))
 sayable-parts rules s h =
-    let p = and_both (is_core_sayable rules s.core) (list_all (is_sayable rules) s.items && list_all (is_cell_sayable rules) s.cells) h in
-    (p.0, and_both (list_all (is_sayable rules) s.items) (list_all (is_cell_sayable rules) s.cells) p.1)
+    let p = and_both (is_core_sayable rules s.core) (list_all (is_sayable rules) s.items && (list_all (is_cell_sayable rules) s.cells && is_silent s.summary)) h in
+    let q = and_both (list_all (is_sayable rules) s.items) (list_all (is_cell_sayable rules) s.cells && is_silent s.summary) p.1 in
+    (p.0, (q.0, (and_both (list_all (is_cell_sayable rules) s.cells) (is_silent s.summary) q.1).0))
+
+-- A state that can be said says nothing of the whole program.
+pub says-nothing : (rules : Rules) (role : Role) (region : Region) (s : AbsState) → IsState rules role region s → s.summary ≡ no_summary
+says-nothing rules role region s h =
+    let p = and_both (is_core_sayable rules s.core) (list_all (is_sayable rules) s.items && (list_all (is_cell_sayable rules) s.cells && is_silent s.summary)) h.sayable in
+    let q = and_both (list_all (is_sayable rules) s.items) (list_all (is_cell_sayable rules) s.cells && is_silent s.summary) p.1 in
+    silent-is s.summary (and_both (list_all (is_cell_sayable rules) s.cells) (is_silent s.summary) q.1).1
 
 -- the core of a state that stands in bytes
 pub core-stands : (rules : Rules) (role : Role) (region : Region) (bytes : List ℕ) (s : AbsState) → StateStands rules role region bytes s → core_in bytes ≡ s.core
@@ -157,11 +167,13 @@ counted-none : (rules : Rules) (xs : List Val) (told_items behind : List ℕ) �
 counted-none rules [] told_items behind whole h e = (refl, ap (λ (s : List ℕ). rest_none rules (s ++ behind)) (sym (h refl)) ∙ (none-parts rules (0 / unit rules) (told_items ++ behind) e).1)
 counted-none rules (x ∷ xs) told_items behind whole h e = absurd (some-units rules (length xs) whole (none-parts rules (length (x ∷ xs) / unit rules) (told_items ++ behind) e).0)
 
--- What a state without items and cells, and of whose parts nothing but a test of A is known together, is.
+-- What a state without items and cells, of whose parts nothing but a test of A is known together, and which says nothing of the
+-- whole program, is.
 pub record IsPlain (s : AbsState) : Type 0 where
   pub items : s.items ≡ []
   pub cells : s.cells ≡ []
   pub relations : s.relations ≡ test_alone (compared s.relations.byte.test)
+  pub summary : s.summary ≡ no_summary
 
 told-none : (rules : Rules) (region : Region) (r : Relations) (cells : List Cell) (behind : List ℕ) → IsRelations region r → may_be_known rules r ≡ true → rest_none rules (told.relations_by rules r ++ (length cells ∷ behind)) ≡ true
     → (cells ≡ []) × (r ≡ test_alone (compared r.byte.test))
@@ -181,14 +193,14 @@ is-plain rules role region bytes s h zeros =
     let behind : List ℕ = told.relations_by rules s.relations ++ (length s.cells ∷ (flat_map spelled.cell s.cells ++ h.tail)) in
     let items = counted-none rules s.items (flat_map spelled.val s.items) behind h.is_state.whole (λ e. ap (λ (xs : List Val). flat_map spelled.val xs) e) (sym (ap (λ (b : List ℕ). are_none rules b) (lists-behind rules role region bytes s h)) ∙ zeros) in
     let rest = told-none rules region s.relations s.cells (flat_map spelled.cell s.cells ++ h.tail) h.is_state.relations h.is_state.known items.1 in
-    record { items = items.0; cells = rest.0; relations = rest.1 }
+    record { items = items.0; cells = rest.0; relations = rest.1; summary = says-nothing rules role region s h.is_state }
 
 -- a plain state is its core's, with its test
-pub plain_state : (s : AbsState) → s.items ≡ [] → s.cells ≡ [] → s.relations ≡ test_alone (compared s.relations.byte.test) → record (state_of s.core) { relations = test_alone (compared s.relations.byte.test) } ≡ s
-plain_state s e f g = by s.items s.cells (test_alone (compared s.relations.byte.test)) e f (sym g)
+pub plain_state : (s : AbsState) → s.items ≡ [] → s.cells ≡ [] → s.relations ≡ test_alone (compared s.relations.byte.test) → s.summary ≡ no_summary → record (state_of s.core) { relations = test_alone (compared s.relations.byte.test) } ≡ s
+plain_state s e f g none = by s.items s.cells (test_alone (compared s.relations.byte.test)) s.summary e f (sym g) none
   where
-    by : (xs : List Val) (ys : List Cell) (r : Relations) → xs ≡ [] → ys ≡ [] → r ≡ s.relations → record (state_of s.core) { relations = r } ≡ record s { items = xs; cells = ys }
-    by xs ys r e f g = rw (e, f, g) refl
+    by : (xs : List Val) (ys : List Cell) (r : Relations) (m : SummaryParts) → xs ≡ [] → ys ≡ [] → r ≡ s.relations → m ≡ no_summary → record (state_of s.core) { relations = r } ≡ record s { items = xs; cells = ys; summary = m }
+    by xs ys r m e f g h = rw (e, f, g, h) refl
 
 -- ---- lists that are read again
 

@@ -37,7 +37,7 @@ use Rattle.gb_cert.specs.Borrowed.{item_width, read_or, any_core, any_body, body
 use Rattle.gb_states.proofs.Formats.{IsBytes, IsFormat-byte, IsFormat-both, IsFormat-checked, went_on, same_pair}
 use Rattle.gb_states.proofs.FieldLaws.{same, last_small, spelled_flag, IsFormat-word, IsFormat-node_number, IsFormat-yes_no}
 use Rattle.gb_states.proofs.RelationLaws.{compared-small, is-told, IsFormat-relations_by}
-use Rattle.gb_states.proofs.StateLaws.{IsFormat-state, IsFormat-body, body-is, number_small, limit_bound}
+use Rattle.gb_states.proofs.StateLaws.{IsFormat-state, IsFormat-body, body-is, procedure-again, number_small, limit_bound}
 use Rattle.gb_cert.proofs.Placing.{at-each}
 
 pub some-at : {X : Type 0} (xs : List X) (i : ℕ) → i < length xs → (x : X) × (slice_get xs i ≡ Some x)
@@ -45,7 +45,7 @@ some-at [] i h = absurd (omega arith)
 some-at (x ∷ xs) zero h = (x, refl)
 some-at (x ∷ xs) (suc i) h = some-at xs i (omega arith)
 
-chain-each : {S X : Type 0} (good : S → X → Type 0) (next : X → S) (s : S) (xs : List X) (i : ℕ) (x : X) → IsChain good next s xs → slice_get xs i ≡ Some x → (t : S) × good t x
+pub chain-each : {S X : Type 0} (good : S → X → Type 0) (next : X → S) (s : S) (xs : List X) (i : ℕ) (x : X) → IsChain good next s xs → slice_get xs i ≡ Some x → (t : S) × good t x
 chain-each good next s [] i x h e = cc
 chain-each good next s (y ∷ ys) zero x h e = let same : y ≡ x = cc in (s, subst (good s) same h.0)
 chain-each good next s (y ∷ ys) (suc i) x h e = chain-each good next (next y) ys i x h.1 e
@@ -226,6 +226,7 @@ record ProcedureStands (version : ℕ) (is_main : Bool) (region : Region) (bytes
   pub rest : List ℕ
   pub entry : node_number version bytes ≡ Ok (p.entry, rest)
   pub body : BodyStands (rules_of version) is_main region rest p
+  pub again : to_procedure (p.entry, body_of p) ≡ p
 
 -- the first of them alone
 abbrev first_is : Bool → ℕ → Bool
@@ -260,6 +261,7 @@ procedure-stands bytes version region procedures nodes c i p laid e =
       rest = body ++ at.tail;
       entry = ap (node_number c.version) (at.parts ∙ append_assoc (spelled.node_number c.version p.entry) body at.tail) ∙ (IsFormat-node_number c.version).again p.entry (body ++ at.tail) number;
       body = record { tail = at.tail; parts = refl; last = small; is_read = (IsFormat-body (rules_of c.version) (i == 0) c.region small).again (body_of p) at.tail (body-is (rules_of c.version) c.region (length c.nodes) (i == 0) p is) };
+      again = procedure-again (rules_of c.version) c.region (length c.nodes) (i == 0) p is;
     } in
     subst (λ v. ProcedureStands v (i == 0) region (drop (get_or procedures i 0) bytes) p) (sym laid.version_is) (subst (λ r. ProcedureStands c.version (i == 0) r (drop (get_or procedures i 0) bytes) p) (sym laid.region_is) made)
 
@@ -277,7 +279,7 @@ procedure-lent bytes version region procedures nodes c i entry body laid lt righ
     let s = some-at c.procedures i lt in
     let n = procedure-stands bytes version region procedures nodes c i s.0 laid s.1 in
     let p = same_pair s.0.entry entry n.rest body (sym n.entry ∙ right) in
-    let of_rest : procedure_in (rules_of version) (i == 0) s.0.entry region n.rest ≡ s.0 = ap (λ (r : Result (Body × List ℕ) CertFault). to_procedure (s.0.entry, read_or any_body r)) n.body.is_read in
+    let of_rest : procedure_in (rules_of version) (i == 0) s.0.entry region n.rest ≡ s.0 = ap (λ (r : Result (Body × List ℕ) CertFault). to_procedure (s.0.entry, read_or any_body r)) n.body.is_read ∙ n.again in
     let stands : BodyStands (rules_of version) (i == 0) region n.rest (procedure_in (rules_of version) (i == 0) s.0.entry region n.rest) = subst (λ z. BodyStands (rules_of version) (i == 0) region n.rest z) (sym of_rest) n.body in
     let same : slice_get c.procedures i ≡ Some (procedure_in (rules_of version) (i == 0) s.0.entry region n.rest) = s.1 ∙ ap (λ (z : ProcedureParts). Some z) (sym of_rest) in
     subst (λ f. BodyStands (rules_of version) (i == 0) region body (procedure_in (rules_of version) (i == 0) f region body) × (slice_get c.procedures i ≡ Some (procedure_in (rules_of version) (i == 0) f region body))) p.0
@@ -366,6 +368,19 @@ body-skipped rules is_main region bytes p h = ap (λ (r : Result (Body × List �
 left_is : (a b : List ℕ) → (let r : Result (List ℕ) CertFault = Ok a in r) ≡ Ok b → a ≡ b
 left_is a b e = cc
 
+skipped-is : {X : Type 0} (r : Read X) (bytes : List ℕ) (x : X) (rest left : List ℕ) → r bytes ≡ Ok (x, rest) → skipped r bytes ≡ Ok left → rest ≡ left
+skipped-is {X} r bytes x rest left e h = left_is rest left (sym (ap (λ (q : Result (X × List ℕ) CertFault). go_on q (λ x rest. (let o : Result (List ℕ) CertFault = Ok rest in o))) e) ∙ h)
+
+-- the exit behind the other parts of a body
+pub exit-behind : (rules : Rules) (is_main : Bool) (region : Region) (bytes : List ℕ) (p : ProcedureParts) (first second third : List ℕ) (need : ℕ) → BodyStands rules is_main region bytes p → skipped (base_at rules is_main region) bytes ≡ Ok first
+    → need_at rules is_main region first ≡ Ok (need, second) → skipped (ranges_at rules is_main region) second ≡ Ok third → exit_in rules is_main region third ≡ p.exit
+exit-behind rules is_main region bytes p first second third need h base words ranges =
+    let parts = body-parts rules is_main region bytes p h in
+    let a : parts.first ≡ first = skipped-is (base_at rules is_main region) bytes p.base parts.first first parts.base base in
+    let b : parts.second ≡ second = (same_pair p.need need parts.second second (sym (ap (need_at rules is_main region) (sym a) ∙ parts.need) ∙ words)).1 in
+    let c : parts.third ≡ third = skipped-is (ranges_at rules is_main region) second p.ranges parts.third third (ap (ranges_at rules is_main region) (sym b) ∙ parts.ranges) ranges in
+    ap (read_or None) (ap (exit_at rules is_main region) (sym c) ∙ parts.exit)
+
 record Before (rules : Rules) (bytes behind : List ℕ) (p : ProcedureParts) : Type 0 where
   pub short : length behind ≤ length bytes
   pub is : take (length bytes - length behind) bytes ≡ spelled.body rules p
@@ -440,6 +455,7 @@ upgraded c h =
       procedures = subst (λ rules. IsChain (IsProcedure rules c.region (length c.nodes)) is_after true c.procedures) (sym r.0) h.procedures;
       nodes = subst (λ rules. IsChain (IsNode rules c.region (length c.procedures)) key (0, 0) c.nodes) (sym r.0) h.nodes;
       entries = h.entries;
+      facts = h.facts;
     }
 
 -- ---- the order of the nodes

@@ -25,7 +25,7 @@ left-behind bytes left front rest e h = record {
   parts = h.parts ∙ ap (λ (y : List ℕ). h.front ++ y) e ∙ sym (append_assoc h.front front rest);
 }
 
-drop-left : (bytes rest : List ℕ) → IsLeft bytes rest → drop (length bytes - length rest) bytes ≡ rest
+pub drop-left : (bytes rest : List ℕ) → IsLeft bytes rest → drop (length bytes - length rest) bytes ≡ rest
 drop-left bytes rest h =
     let k : length bytes - length rest ≡ length h.front = omega (arith, ap length h.parts, length-append h.front rest) in
     ap (λ (n : ℕ). drop n bytes) k ∙ ap (λ (y : List ℕ). drop (length h.front) y) h.parts ∙ drop-append_seam h.front rest
@@ -48,7 +48,7 @@ flat-more w (y ∷ ys) x after =
     ∙ sym (append_assoc (w y) (flat_map w ys) (w x ++ after))
     ∙ ap (λ (z : List ℕ). z ++ (w x ++ after)) (sym (flat_map-cons w y ys))
 
-at-more : {X : Type 0} (w : X → List ℕ) (bytes left after ps : List ℕ) (xs : List X) (p : ℕ) (x : X) → drop p bytes ≡ left → left ≡ w x ++ after → AreAt w bytes left ps xs → AreAt w bytes after (ps ++ p ∷ []) (xs ++ x ∷ [])
+pub at-more : {X : Type 0} (w : X → List ℕ) (bytes left after ps : List ℕ) (xs : List X) (p : ℕ) (x : X) → drop p bytes ≡ left → left ≡ w x ++ after → AreAt w bytes left ps xs → AreAt w bytes after (ps ++ p ∷ []) (xs ++ x ∷ [])
 at-more w bytes left after [] [] p x d e h = (d ∙ e ∙ sym (flat-more w [] x after), tt)
 at-more w bytes left after (q ∷ qs) (y ∷ ys) p x d e h = (h.0 ∙ ap (λ (z : List ℕ). flat_map w (y ∷ ys) ++ z) e ∙ sym (flat-more w (y ∷ ys) x after), at-more w bytes left after qs ys p x d e h.1)
 at-more w bytes left after [] (y ∷ ys) p x d e h = absurd h
@@ -78,7 +78,7 @@ pub record UnderWay {S X : Type 0} (step : S → Read X) (next : X → S) (w : X
   pub are_at : AreAt w bytes left places items
   pub is_left : IsLeft bytes left
 
-pub way-begins : {S X : Type 0} (step : S → Read X) (next : X → S) (w : X → List ℕ) (bytes : List ℕ) (first : S) (count : ℕ) (start : List ℕ) → IsLeft bytes start → UnderWay step next w bytes first count start first 0 start []
+unfoldable pub way-begins : {S X : Type 0} (step : S → Read X) (next : X → S) (w : X → List ℕ) (bytes : List ℕ) (first : S) (count : ℕ) (start : List ℕ) → IsLeft bytes start → UnderWay step next w bytes first count start first 0 start []
 way-begins {S} {X} step next w bytes first count start h = record { items = []; read = ap (λ (n : ℕ). with_front [] (several step next first n start)) all ∙ by (several step next first count start); are_at = tt; is_left = h }
   where
     all : count - 0 ≡ count
@@ -111,7 +111,7 @@ pub way-ends : {S X : Type 0} (step : S → Read X) (next : X → S) (w : X → 
     → UnderWay step next w bytes first count start s i left places → several step next first count start ≡ Err e
 way-ends step next w bytes first count start s i left places e lt h way = ends step next way.items s count i left e (several step next first count start) lt (mapped_wrong next (step s left) e h) way.read
 
-pub way-done : {S X : Type 0} (step : S → Read X) (next : X → S) (w : X → List ℕ) (bytes : List ℕ) (first : S) (count : ℕ) (start : List ℕ) (s : S) (i : ℕ) (left places : List ℕ) → count ≤ i
+unfoldable pub way-done : {S X : Type 0} (step : S → Read X) (next : X → S) (w : X → List ℕ) (bytes : List ℕ) (first : S) (count : ℕ) (start : List ℕ) (s : S) (i : ℕ) (left places : List ℕ) → count ≤ i
     → UnderWay step next w bytes first count start s i left places → ArePlaced w bytes (several step next first count start) places left
 way-done step next w bytes first count start s i left places le way = record {
   items = way.items;

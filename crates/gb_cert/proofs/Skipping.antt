@@ -1,5 +1,5 @@
 -- Walking over fields is reading them, and forgetting their values.
-use Rattle.std.proofs.Common.{◌≡◌, ℕ, suc, ◌-◌, ◌+◌, ◌≤◌, ◌<◌, Bool, true, false, List, ◌∷◌, Option, Some, Result, Ok, Err, refl, sym, ◌∙◌, subst, arith}
+use Rattle.std.proofs.Common.{◌≡◌, ℕ, suc, ◌-◌, ◌+◌, ◌≤◌, ◌<◌, Bool, true, false, List, ◌∷◌, Option, Some, Result, Ok, Err, refl, sym, ◌∙◌, ap, subst, arith}
 use Rattle.gb_ops.specs.declared.machine.Region.{Region}
 use Rattle.gb_states.specs.Below.gb_fields.declared.fault.CertFault.{CertFault}
 use Rattle.gb_domain.specs.declared.types.Val.{Val}
@@ -14,10 +14,15 @@ use Rattle.gb_states.specs.Below.gb_fields.Format.{Read, go_on, followed, both, 
 use Rattle.gb_cert.specs.Skipping.{skipped, past}
 use Rattle.gb_cert.proofs.Placing.{mapped_wrong}
 use Rattle.gb_states.specs.Rules.{role_of, key}
-use Rattle.gb_states.specs.Below.gb_fields.Reading.{word_between, returns_at, entry_at, base_at, need_at, key_at}
+use Rattle.gb_states.specs.Below.gb_fields.Limits.{unit}
+use Rattle.gb_domain.specs.Limits.{cell_room}
+use Rattle.gb_domain.specs.Rules.{after_cell}
+use Rattle.gb_states.specs.declared.form.Form.TheVariants.{Older}
+use Rattle.gb_states.specs.Forms.{vals_by, cell_by}
+use Rattle.gb_states.specs.Below.gb_fields.Reading.{times, count_within, word_between, returns_at, entry_at, base_at, need_at, key_at}
 use Rattle.gb_states.specs.RelationReading.{relations_by}
 use Rattle.gb_states.proofs.Formats.{went_on, same_pair}
-use Rattle.gb_states.specs.Reading.{Tested, passed, core_at, items_at, cells_at, to_state, state_at, ranges_at, exit_at, needed_at, body_at, to_procedure, procedure_at, to_node, node_at}
+use Rattle.gb_states.specs.Reading.{Tested, passed, core_at, vals_of, item_count_at, items_at, cell_at, cells_at, to_state, state_at, ranges_at, exit_at, needed_at, body_at, to_procedure, procedure_at, to_node, node_at}
 
 pub skipped-mapped : {X Y : Type 0} (f : X → Y) (r : Read X) (bytes : List ℕ) → skipped (mapped f r) bytes ≡ skipped r bytes
 skipped-mapped {X} f r bytes = by (r bytes)
@@ -33,7 +38,7 @@ skipped-both {X} {Y} r t bytes = by (r bytes)
     by (Ok p) = skipped-mapped (λ y. (p.0, y)) t p.1
     by (Err e) = refl
 
-skipped-followed : {X Y : Type 0} (r : Read X) (t : X → Read Y) (bytes : List ℕ) (x : X) (rest : List ℕ) → r bytes ≡ Ok (x, rest) → skipped (followed r t) bytes ≡ skipped (t x) rest
+pub skipped-followed : {X Y : Type 0} (r : Read X) (t : X → Read Y) (bytes : List ℕ) (x : X) (rest : List ℕ) → r bytes ≡ Ok (x, rest) → skipped (followed r t) bytes ≡ skipped (t x) rest
 skipped-followed r t bytes x rest e = rw e (skipped-mapped (λ y. (x, y)) (t x) rest)
 
 -- ---- so many
@@ -63,6 +68,18 @@ skip_done step next s count i bytes total le so_far =
     sym so_far ∙ one
 
 -- ---- the parts of a certificate
+
+pub items_then : (rules : Rules) (role : Role) (stack_set : Bool) (bytes : List ℕ) (n : ℕ) (rest : List ℕ) → item_count_at rules role stack_set bytes ≡ Ok (n, rest) → skipped (items_at rules role stack_set) bytes ≡ skipped (vals_by (Older rules) (times (unit rules) n)) rest
+unfolding items_at
+items_then rules role stack_set bytes n rest e =
+    skipped-mapped (λ p. p.1) (followed (item_count_at rules role stack_set) (λ count. vals_of rules (times (unit rules) count))) bytes
+    ∙ skipped-followed (item_count_at rules role stack_set) (λ count. vals_of rules (times (unit rules) count)) bytes n rest e
+
+pub cells_then : (rules : Rules) (region : Region) (bytes : List ℕ) (limit n : ℕ) (rest : List ℕ) → limit ≡ cell_room rules → count_within limit bytes ≡ Ok (n, rest) → skipped (cells_at rules region) bytes ≡ skipped (several (cell_by (Older rules) region) after_cell 0 n) rest
+unfolding cells_at
+cells_then rules region bytes limit n rest l e =
+    skipped-mapped (λ p. p.1) (followed (count_within (cell_room rules)) (several (cell_at rules region) after_cell 0)) bytes
+    ∙ skipped-followed (count_within (cell_room rules)) (several (cell_at rules region) after_cell 0) bytes n rest (ap (λ (m : ℕ). count_within m bytes) (sym l) ∙ e)
 
 pub core_then :
     (rules : Rules) (role : Role) (region : Region) (bytes : List ℕ) (core : Tested) (rest : List ℕ) → core_at rules role bytes ≡ Ok (core, rest)
@@ -136,6 +153,8 @@ no_entry version region nodes is_main bytes e h = rw h refl
 
 pub ruleset skip_procedure = (entry_then, no_entry)
 
+-- ---- for a walk that tells where it stops
+
 pub bank_then : (rules : Rules) (region : Region) (procedures : ℕ) (before : ℕ × ℕ) (bytes : List ℕ) (k : ℕ × ℕ) (first : List ℕ) (bank : ℕ) (second : List ℕ) → key_at procedures before bytes ≡ Ok (k, first) → word_between 0 511 first ≡ Ok (bank, second)
     → mapped key (node_at rules region procedures before) bytes ≡ past (skipped (state_at rules (role_of k.0) region) second) (λ rest. Ok (k, rest))
 unfolding node_at
@@ -144,13 +163,3 @@ bank_then rules region procedures before bytes k first bank second e f = rw (e, 
     by : (read : Result (AbsState × List ℕ) CertFault) → go_on {X = Node} (go_on {X = (ℕ × ℕ) × (ℕ × AbsState)} (go_on {X = ℕ × AbsState} (go_on read (λ y end. Ok ((bank, y), end))) (λ y end. Ok ((k, y), end))) (λ x rest. Ok (to_node x, rest))) (λ x rest. (let r : Result ((ℕ × ℕ) × List ℕ) CertFault = Ok (key x, rest) in r)) ≡ past (go_on read (λ x rest. (let r : Result (List ℕ) CertFault = Ok rest in r))) (λ rest. Ok (k, rest))
     by (Ok p) = refl
     by (Err e) = refl
-
-pub no_bank : (rules : Rules) (region : Region) (procedures : ℕ) (before : ℕ × ℕ) (bytes : List ℕ) (k : ℕ × ℕ) (first : List ℕ) (e : CertFault) → key_at procedures before bytes ≡ Ok (k, first) → word_between 0 511 first ≡ Err e → mapped key (node_at rules region procedures before) bytes ≡ Err e
-unfolding node_at
-no_bank rules region procedures before bytes k first e h f = rw (h, f) refl
-
-pub no_key : (rules : Rules) (region : Region) (procedures : ℕ) (before : ℕ × ℕ) (bytes : List ℕ) (e : CertFault) → key_at procedures before bytes ≡ Err e → mapped key (node_at rules region procedures before) bytes ≡ Err e
-unfolding node_at
-no_key rules region procedures before bytes e h = rw h refl
-
-pub ruleset skip_node = (bank_then, no_bank, no_key)

@@ -1,3 +1,4 @@
+pub mod AnyPlaces
 pub mod Borrowed
 pub mod Places
 pub mod Skipping

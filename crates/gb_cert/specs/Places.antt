@@ -1,13 +1,11 @@
 -- Where in the bytes of a certificate its parts stand.
-use Rattle.std.specs.Prelude.{◌≡◌, ℕ, ◌+◌, Bool, true, false, ◌&&◌, ◌==◌, if◌then◌else◌, List, [], ◌∷◌, ◌++◌, drop, slice_get, Option, Some, None, Result, Ok, Err}
+use Rattle.std.specs.Prelude.{◌≡◌, ℕ, ◌==◌, if◌then◌else◌, List, [], ◌∷◌, ◌++◌, drop, Result, Ok, Err}
 use Rattle.std.specs.List.{flat_map}
 use Rattle.gb_ops.specs.declared.machine.Region.{Region}
 use Rattle.gb_states.specs.Below.gb_fields.declared.fault.CertFault.{CertFault}
 use Rattle.gb_states.specs.Below.gb_fields.declared.fault.CertFault.TheVariants as fault
-use Rattle.gb_states.specs.Below.gb_fields.Format.{byte}
 use Rattle.gb_domain.specs.Certificate.{Certificate}
 use Rattle.gb_domain.specs.Limits.{rules_of}
-use Rattle.gb_states.specs.Below.gb_fields.Reading.{node_number}
 use Rattle.gb_states.specs.Reading.{read_certificate}
 use Rattle.gb_states.specs.Spelling as spelled
 use Rattle.gb_states.specs.Spelling.{Spells}
@@ -40,30 +38,6 @@ abbrev pub FindsUnlessMemory : {X Y : Type 0} → (X → Type 0) → Result X Ce
 FindsUnlessMemory right (Ok x) read = right x
 FindsUnlessMemory right (Err e) read = (e ≡ fault.Memory → ⊥) → read ≡ Err e
 
--- ---- the entries of procedures, by their places
-
-abbrev pub number_is : ℕ → Result (ℕ × List ℕ) CertFault → Bool
-number_is number (Ok p) = p.0 == number
-number_is number (Err e) = false
-
--- At the place, if there is one, stands a node of the procedure with this number.
-abbrev pub place_is_of : ℕ → List ℕ → Option ℕ → Bool
-place_is_of number bytes None = false
-place_is_of number bytes (Some place) = number_is number (byte (drop place bytes))
-
-abbrev pub entry_is_of : ℕ → List ℕ → List ℕ → Result (ℕ × List ℕ) CertFault → Bool
-entry_is_of number bytes nodes (Ok p) = place_is_of number bytes (slice_get nodes p.0)
-entry_is_of number bytes nodes (Err e) = false
-
--- The procedure with this number, at this place, has its entry at one of its own nodes, which are at their places.
-unfoldable pub has_entry_at : ℕ → ℕ → List ℕ → ℕ → List ℕ → Bool
-has_entry_at version number bytes place nodes = entry_is_of number bytes nodes (node_number version (drop place bytes))
-
--- Each procedure has; the first of them has this number.
-unfoldable pub have_entries_at : ℕ → ℕ → List ℕ → List ℕ → List ℕ → Bool
-have_entries_at version number bytes [] nodes = true
-have_entries_at version number bytes (p ∷ ps) nodes = has_entry_at version number bytes p nodes && have_entries_at version (number + 1) bytes ps nodes
-
 -- ---- certificates
 
 -- a value, where there is one
@@ -73,7 +47,7 @@ ok_or default (Err e) = default
 
 -- nothing
 abbrev pub no_certificate : Certificate
-no_certificate = record { version = 0; procedures = []; nodes = []; region = record { first = 0; last = 0 } }
+no_certificate = record { version = 0; procedures = []; nodes = []; region = record { first = 0; last = 0 }; facts = [] }
 
 -- the certificate that the bytes spell, where they spell one
 abbrev pub certificate_in : List ℕ → Certificate

@@ -1,5 +1,6 @@
 -- Reading that keeps no value.
-use Rattle.std.specs.Prelude.{ℕ, List, Result, Ok, Err}
+use Rattle.std.specs.Prelude.{ℕ, List, length, Option, Result, Ok, Err}
+use Rattle.gb_domain.specs.Types.{AbsState}
 use Rattle.gb_states.specs.Below.gb_fields.declared.fault.CertFault.{CertFault}
 use Rattle.gb_states.specs.Below.gb_fields.Format.{Read, go_on}
 
@@ -11,3 +12,7 @@ skipped r bytes = go_on (r bytes) (λ x rest. Ok rest)
 abbrev pub past : {Y : Type 0} → Result (List ℕ) CertFault → (List ℕ → Result Y CertFault) → Result Y CertFault
 past (Ok rest) f = f rest
 past (Err e) f = Err e
+
+-- how many addresses are named to be kept
+abbrev pub count_named : (List ℕ × ℕ) × Option AbsState → ℕ
+count_named n = length n.0.0

@@ -36,19 +36,21 @@ abbrev pub exit_of : Option (Bor AbsState) → Option AbsState
 exit_of None = None
 exit_of (Some s) = Some s.now
 
+-- it names no address to be kept, and no mark
 abbrev pub procedure_of : ProcedurePlan → ProcedureParts
-procedure_of p = record { entry = p.entry; base = p.base; need = p.need; ranges = p.ranges.now; exit = exit_of p.exit }
+procedure_of p = record { entry = p.entry; base = p.base; need = p.need; ranges = p.ranges.now; kept = []; mark = 0; exit = exit_of p.exit }
 
 abbrev pub node_of : NodePlan → Node
 node_of n = record { procedure = n.procedure; address = n.address; bank = n.bank; state = n.state.now }
 
--- the certificate of these parts
+-- the certificate of these parts, which says no facts
 abbrev pub certificate_of : Version → Region → List ProcedurePlan → List NodePlan → Certificate
 certificate_of version region procedures nodes = record {
   version = number_of version;
   procedures = map procedure_of procedures;
   nodes = map node_of nodes;
   region = region;
+  facts = [];
 }
 
 -- it declares more ranges than there may be
@@ -83,7 +85,7 @@ abbrev pub is_related : Rules → AbsState → Bool
 is_related rules s = not (may_be_known rules s.relations)
 
 -- a value is a copy of the return word's bytes, in versions 1 and 2, or of what a procedure declares, or has low bits that are known;
--- or some of the controller's registers are kept, and not all
+-- or some of the controller's registers are kept, and not all; or something is said of the whole program
 abbrev pub has_unsayable : Rules → AbsState → Bool
 has_unsayable rules s = not (is_state_sayable rules s)
 
@@ -145,7 +147,7 @@ IsProcedureFault nodes procedures fault.Need = list_any is_deep procedures ≡ t
 IsProcedureFault nodes procedures fault.Entry = list_any (has_no_entry nodes) procedures ≡ true
 IsProcedureFault nodes procedures _ = ⊥
 
--- A version can say these parts: no low bits of values are known, and bytes of stack are whole words in versions 1 and 2, where
+-- A version can say these parts: no low bits of values are known, nothing is said of the whole program, and bytes of stack are whole words in versions 1 and 2, where
 -- states also have no more than 16 words and 32 cells, know nothing of several parts together but a test of A, and have no copy of
 -- the return word, and where bases are the usual ones.
 pub record AreSpellable (version : Version) (region : Region) (procedures : List ProcedurePlan) (nodes : List NodePlan) : Type 0 where

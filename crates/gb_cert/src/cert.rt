@@ -10,6 +10,7 @@ ghost use Rattle.gb_states.specs.Spelling.{Spells};
 use crate::node::NodeRef;
 use crate::procedure::ProcedureRef;
 use crate::walk::skip_body;
+use gb_domain::summary::Fact;
 use gb_domain::types::Rules;
 use gb_ops::machine::Region;
 use gb_states::{from_place, front_at, node_number};
@@ -90,6 +91,14 @@ impl<'a> Cert<'a> {
         ensures rules { IsCertificate self.now }
     {
         self.region
+    }
+
+    /// What it says of RAM for the whole program: nothing in versions 1 to 3.
+    pub fn facts(&self) -> &[Fact]
+        ensures { result.now ≡ self.now.facts }
+    {
+        let _region = self.region();
+        &[]
     }
 
     /// A node, by its number.

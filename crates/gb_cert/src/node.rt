@@ -4,6 +4,7 @@ ghost use Rattle.std.specs.Prelude.{◌≡◌, false, []};
 ghost use Rattle.std.specs.List.{flat_map};
 ghost use Rattle.gb_domain.specs.Types.{state_of};
 ghost use Rattle.gb_domain.specs.RelationRules.{compared, test_alone};
+ghost use Rattle.gb_domain.specs.Summaries.{no_summary};
 ghost use Rattle.gb_states.specs.Spelling as spelled;
 
 use crate::state::StateRef;
@@ -107,6 +108,7 @@ impl<'a> NodeRef<'a> {
     pub fn has_lists(&self) -> bool
         ensures lists { result ≡ false → (self.now.state.items ≡ []) × (self.now.state.cells ≡ []) }
         ensures relations { result ≡ false → self.now.state.relations ≡ test_alone (compared self.now.state.relations.byte.test) }
+        ensures summary { result ≡ false → self.now.state.summary ≡ no_summary }
     {
         self.lent().has_lists()
     }

@@ -1,68 +1,115 @@
 //! Certificates from their bytes.
 
-ghost use Rattle.std.specs.Prelude.{◌≡◌, ◌≤◌, ◌<◌, ℕ, List, IfOk, Ok};
+ghost use Rattle.std.specs.Prelude.{◌≡◌, ◌==◌, ◌≤◌, ◌<◌, true, false, ℕ, List, IfOk, Ok};
 ghost use Rattle.gb_domain.specs.Certificate.{Certificate};
-ghost use Rattle.gb_domain.specs.Limits.{rules_of};
 ghost use Rattle.gb_states.specs.Below.gb_fields.Format.{GivesUnlessMemory};
-ghost use Rattle.gb_states.specs.Below.gb_fields.Limits.{node_limit};
-ghost use Rattle.gb_cert.specs.Places.{IsLeft, ArePlaced, FindsUnlessMemory, has_entry_at, have_entries_at};
-ghost use Rattle.gb_states.specs.Reading.{procedures_at, nodes_at, read_certificate};
-ghost use Rattle.gb_states.specs.Spelling as spelled;
+ghost use Rattle.gb_states.specs.Below.gb_fields.Limits.{node_limit, procedure_limit_by};
+ghost use Rattle.gb_states.specs.Below.gb_fields.Reading.{head_in};
+ghost use Rattle.gb_states.specs.Reading as older;
 ghost use Rattle.gb_states.specs.Spelling.{Spells};
+ghost use Rattle.gb_states.specs.WholeRules.{kept_of};
+ghost use Rattle.gb_states.specs.WholeReading.{facts_by, procedures_at, nodes_at, read_certificate, begins_fourth};
+ghost use Rattle.gb_states.specs.WholeSpelling as spelled;
+ghost use Rattle.gb_cert.specs.Places.{IsLeft, ArePlaced, FindsUnlessMemory};
+ghost use Rattle.gb_cert.specs.AnyPlaces.{AreCounted, IsFound};
 
 use crate::cert::Cert;
-use crate::walk::{skip_node, skip_procedure};
-use gb_domain::types::Rules;
-use gb_states::{CertFault, Head, byte, from_place, head_at, node_number};
+use crate::order::entries_fault_at;
+use crate::walk::{skip_node, skip_procedure_by};
+use gb_domain::summary::Fact;
+use gb_ops::machine::Region;
+use gb_states::whole::facts_at;
+use gb_states::{AnyHead, CertFault, any_head_at, any_version_at};
 use std::alloc::Global;
 
 /// The least bytes of a node.
 const LEAST_NODE: usize = 47;
 
-/// Where in the bytes so many procedures begin, and the bytes behind them.
-#[tactic(auto, unfolding(gb_states::specs::Reading::procedures_at))]
+/// What walking over a certificate finds: its version, its region, its facts, how many addresses each procedure names to be
+/// kept, and where each procedure and each node begins.
+#[derive(Drop)]
+pub(crate) struct Walked {
+    pub(crate) version: u8,
+    pub(crate) region: Region,
+    pub(crate) facts: Vec<Fact>,
+    pub(crate) counts: Vec<u8>,
+    pub(crate) procedures: Vec<usize>,
+    pub(crate) nodes: Vec<usize>,
+}
+
+/// The facts, which version 4 has.
+fn read_facts(
+    alloc: Global,
+    version: u8,
+    region: Region,
+    bytes: &[u8],
+) -> Result<(Vec<Fact>, &[u8]), CertFault>
+    ensures { GivesUnlessMemory (λ x. (x.0.items, x.1.now)) result (facts_by (version == 4) region bytes.now) }
+{
+    if version == 4 {
+        facts_at(alloc, region, bytes)
+    } else {
+        Ok((Vec::new(alloc), bytes))
+    }
+}
+
+/// For each procedure of the head: where its bytes begin, and how many cells it keeps. Then the bytes behind the last one.
+#[tactic(auto, unfolding(gb_states::specs::WholeReading::procedures_at))]
 fn place_procedures<'a>(
     alloc: Global,
-    head: Head,
+    head: AnyHead,
+    facts: u16,
     bytes: &'a [u8],
     start: &'a [u8],
-) -> Result<(Vec<usize>, &'a [u8]), CertFault>
+) -> Result<((Vec<usize>, Vec<u8>), &'a [u8]), CertFault>
     requires few { head.nodes ≤ node_limit head.version }
     requires last { head.region.last < 65535 }
     requires left { IsLeft bytes.now start.now }
-    ensures { FindsUnlessMemory (λ x. ArePlaced (spelled.procedure head.version) bytes.now (procedures_at head.version head.region head.nodes head.procedures start.now) x.0.items x.1.now) result (procedures_at head.version head.region head.nodes head.procedures start.now) }
+    ensures { FindsUnlessMemory (λ x. AreCounted (spelled.procedure_by (head.version == 4) head.version) bytes.now (procedures_at (head_in head) facts start.now) x.0.0.items x.0.1.items x.1.now) result (procedures_at (head_in head) facts start.now) }
 {
     let mut places = Vec::with_capacity(alloc, head.procedures as usize)?;
+    let mut counts = Vec::with_capacity(alloc, head.procedures as usize)?;
     let mut is_main = true;
     let mut rest = start;
     for _ in 0..head.procedures {
-        let after = skip_procedure(head.version, head.region, head.nodes, is_main, rest)?;
+        let (kept, after) = skip_procedure_by(
+            head.version,
+            facts,
+            head.region,
+            head.nodes,
+            is_main,
+            rest,
+        )?;
         places.push(bytes.len() - rest.len())?;
+        counts.push(kept)?;
         is_main = false;
         rest = after;
     }
-    Ok((places, rest))
+    Ok(((places, counts), rest))
 }
 
 /// Where in the bytes so many nodes begin, and the bytes behind them.
-#[tactic(auto, unfolding(gb_states::specs::Reading::nodes_at))]
+#[tactic(auto, unfolding(gb_states::specs::WholeReading::nodes_at))]
 fn place_nodes<'a>(
     alloc: Global,
-    head: Head,
+    head: AnyHead,
+    facts: u16,
+    counts: &[u8],
     bytes: &'a [u8],
     start: &'a [u8],
 ) -> Result<(Vec<usize>, &'a [u8]), CertFault>
-    requires { IsLeft bytes.now start.now }
-    ensures { FindsUnlessMemory (λ x. ArePlaced (spelled.node (rules_of head.version)) bytes.now (nodes_at (rules_of head.version) head.region head.procedures head.nodes start.now) x.0.items x.1.now) result (nodes_at (rules_of head.version) head.region head.procedures head.nodes start.now) }
+    requires procedures { head.procedures ≤ procedure_limit_by (head.version == 4) }
+    requires few { (p : ℕ) → (head.version == 4) ≡ true → kept_of counts.now p ≤ 16 }
+    requires left { IsLeft bytes.now start.now }
+    ensures { FindsUnlessMemory (λ x. ArePlaced (spelled.node_by (head.version == 4) head.version) bytes.now (nodes_at (head_in head) facts counts.now start.now) x.0.items x.1.now) result (nodes_at (head_in head) facts counts.now start.now) }
 {
     // No more room than the bytes can have nodes.
     let room = (head.nodes as usize).min(start.len() / LEAST_NODE);
     let mut places = Vec::with_capacity(alloc, room)?;
-    let rules = Rules::of(head.version);
     let mut before = (0, 0);
     let mut rest = start;
     for _ in 0..head.nodes {
-        let (key, after) = skip_node(rules, head.region, head.procedures, before, rest)?;
+        let (key, after) = skip_node(head, facts, counts, before, rest)?;
         places.push(bytes.len() - rest.len())?;
         before = key;
         rest = after;
@@ -70,55 +117,62 @@ fn place_nodes<'a>(
     Ok((places, rest))
 }
 
-/// Whether the procedure with this number, at this place, has its entry at one of its own nodes.
-#[tactic(auto, unfolding(crate::specs::Places::has_entry_at))]
-fn has_entry_at(version: u8, number: usize, bytes: &[u8], place: usize, nodes: &[usize]) -> bool
-    ensures { result ≡ has_entry_at version number bytes.now place nodes.now }
+/// The parts of the certificate that is all of the bytes.
+pub(crate) fn walk(alloc: Global, bytes: &[u8]) -> Result<Walked, CertFault>
+    ensures { FindsUnlessMemory (λ w. IsFound bytes.now w.version w.region w.facts.items w.counts.items w.procedures.items w.nodes.items) result (read_certificate bytes.now) }
 {
-    let Ok((entry, _)) = node_number(version, from_place(bytes, place)) else {
-        return false;
-    };
-    let Some(node) = nodes.get(entry as usize) else {
-        return false;
-    };
-    match byte(from_place(bytes, *node)) {
-        Ok((procedure, _)) => procedure as usize == number,
-        Err(_) => false,
-    }
-}
-
-/// Whether each procedure has its entry at one of its own nodes.
-fn have_entries_at(version: u8, bytes: &[u8], procedures: &[usize], nodes: &[usize]) -> bool
-    ensures { result ≡ have_entries_at version 0 bytes.now procedures.now nodes.now }
-{
-    let mut number = 0;
-    for place in procedures {
-        if !has_entry_at(version, number, bytes, *place, nodes) {
-            return false;
-        }
-        number += 1;
-    }
-    true
-}
-
-/// The certificate that is all of the bytes.
-fn read(alloc: Global, bytes: &[u8]) -> Result<Cert<'_>, CertFault>
-    ensures { GivesUnlessMemory (λ c. c) result (read_certificate bytes.now) }
-{
-    let (head, rest) = head_at(bytes)?;
-    let (procedures, rest) = place_procedures(alloc, head, bytes, rest)?;
-    let (nodes, rest) = place_nodes(alloc, head, bytes, rest)?;
-    if !have_entries_at(head.version, bytes, procedures.as_slice(), nodes.as_slice()) {
-        return Err(CertFault::Field);
+    let (head, rest) = any_head_at(bytes)?;
+    let (facts, rest) = read_facts(alloc, head.version, head.region, rest)?;
+    let fact_count = facts.as_slice().len() as u16;
+    let ((procedures, counts), rest) = place_procedures(alloc, head, fact_count, bytes, rest)?;
+    let (nodes, rest) = place_nodes(alloc, head, fact_count, counts.as_slice(), bytes, rest)?;
+    let fault = entries_fault_at(head.version, bytes, nodes.as_slice(), procedures.as_slice());
+    if let Some(fault) = fault {
+        return Err(fault);
     }
     if !rest.is_empty() {
         return Err(CertFault::LeftOver);
     }
-    Ok(Cert::of_parts(bytes, head.version, head.region, procedures, nodes))
+    Ok(Walked {
+        version: head.version,
+        region: head.region,
+        facts,
+        counts,
+        procedures,
+        nodes,
+    })
+}
+
+/// Whether the bytes begin as those of a certificate of version 4 do.
+pub(crate) fn begins_fourth(bytes: &[u8]) -> bool
+    ensures { result ≡ begins_fourth bytes.now }
+{
+    match any_version_at(bytes) {
+        Ok((version, _)) => version == 4,
+        Err(_) => false,
+    }
+}
+
+/// The certificate of version 1, 2 or 3 that is all of the bytes.
+fn read(alloc: Global, bytes: &[u8]) -> Result<Cert<'_>, CertFault>
+    ensures { GivesUnlessMemory (λ c. c) result (older.read_certificate bytes.now) }
+{
+    // The rules that nodes and procedures keep are those of versions 1 to 3.
+    if begins_fourth(bytes) {
+        return Err(CertFault::Version);
+    }
+    let Walked {
+        version,
+        region,
+        procedures,
+        nodes,
+        ..
+    } = walk(alloc, bytes)?;
+    Ok(Cert::of_parts(bytes, version, region, procedures, nodes))
 }
 
 impl<'a> Cert<'a> {
-    /// The certificate that the bytes spell, or the first fault. It borrows the bytes, and takes
+    /// The certificate of version 1, 2 or 3 that the bytes spell, or the first fault. It borrows the bytes, and takes
     /// a place of 8 bytes for each procedure and each node.
     pub fn parse(alloc: Global, bytes: &'a [u8]) -> Result<Cert<'a>, CertFault>
         // What is read is spelled so.
@@ -126,7 +180,7 @@ impl<'a> Cert<'a> {
         // What is spelled so is read, unless memory runs out.
         ensures only { (cert : Certificate) → Spells bytes.now cert → GivesUnlessMemory (λ c. c) result (Ok cert) }
         // Which fault it is.
-        ensures exact { GivesUnlessMemory (λ c. c) result (read_certificate bytes.now) }
+        ensures exact { GivesUnlessMemory (λ c. c) result (older.read_certificate bytes.now) }
     {
         let cert = read(alloc, bytes)?;
         Ok(cert)

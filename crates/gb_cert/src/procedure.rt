@@ -59,7 +59,7 @@ fn exit_lent<'a>(
 }
 
 /// The base that versions 1 and 2 don't say.
-fn usual_base(is_main: bool, region: Region) -> u16
+pub(crate) fn usual_base(is_main: bool, region: Region) -> u16
     requires { region.last < 65535 }
     ensures { result ≡ usual_base is_main region }
 {

@@ -150,6 +150,7 @@ fn is_state_sayable(rules: Rules, state: &Abs) -> bool
     is_core_sayable(rules, state.core())
         && are_items_sayable(rules, state.items())
         && are_cells_sayable(rules, state.cells())
+        && state.summary().is_silent()
 }
 
 // ---- states

@@ -3,11 +3,13 @@
 ghost use Rattle.std.specs.Prelude.{◌≡◌, ◌≤◌, false, [], length};
 ghost use Rattle.std.specs.List.{flat_map};
 ghost use Rattle.gb_domain.specs.RelationRules.{compared, test_alone};
+ghost use Rattle.gb_domain.specs.Summaries.{no_summary};
 ghost use Rattle.gb_states.specs.Checked as checked;
 ghost use Rattle.gb_states.specs.Spelling as spelled;
 ghost use Rattle.gb_cert.specs.Borrowed.{item_width};
 
 use gb_domain::relations::Relations;
+use gb_domain::summary::Summary;
 use gb_domain::types::{Abs, Core, Rules};
 use gb_ops::machine::Region;
 use gb_states::fields::{are_none, core_in, put_core, test_in};
@@ -110,6 +112,7 @@ impl<'a> StateRef<'a> {
     pub fn has_lists(&self) -> bool
         ensures lists { result ≡ false → (self.now.items ≡ []) × (self.now.cells ≡ []) }
         ensures relations { result ≡ false → self.now.relations ≡ test_alone (compared self.now.relations.byte.test) }
+        ensures summary { result ≡ false → self.now.summary ≡ no_summary }
     {
         !are_none(self.rules, from_place(self.bytes, CORE))
     }
@@ -149,6 +152,8 @@ impl<'a> StateRef<'a> {
     /// What is known of several of its parts together, and the bytes of its memory cells.
     pub fn told(&self) -> (Relations, &'a [u8])
         ensures relations { result.0 ≡ self.now.relations }
+        // A state of versions 1 to 3 has no level, fills or places of the bank.
+        ensures summary { self.now.summary ≡ no_summary }
         ensures cells { result.1.now ≡ flat_map spelled.cell self.now.cells }
         ensures listed { checked.listed_cells result.1.now ≡ self.now.cells }
         ensures few { length self.now.cells ≤ 64 }
@@ -165,6 +170,14 @@ impl<'a> StateRef<'a> {
         ensures { result ≡ self.now.relations }
     {
         self.told().0
+    }
+
+    /// What it says of the whole program: nothing in versions 1 to 3.
+    pub fn summary(&self) -> Summary
+        ensures { result ≡ self.now.summary }
+    {
+        let _told = self.told();
+        Summary::none()
     }
 
     /// The bytes of its memory cells, five each, in order of address.

@@ -1,33 +1,40 @@
 //! Walking over the parts of a certificate, each checked, and none kept.
 
-ghost use Rattle.std.specs.Prelude.{◌≡◌, ◌≤◌};
+ghost use Rattle.std.specs.Prelude.{◌≡◌, ◌==◌, ◌≤◌};
 ghost use Rattle.gb_states.specs.Below.gb_fields.Format.{Gives, both, mapped, several};
 ghost use Rattle.gb_states.specs.Below.gb_fields.Reading.{base_at};
-ghost use Rattle.gb_cert.specs.Skipping.{skipped};
+ghost use Rattle.gb_cert.specs.Skipping.{skipped, count_named};
 ghost use Rattle.gb_domain.specs.Rules.{after_cell};
 ghost use Rattle.gb_states.specs.Rules.{after_range, role_of, key};
 ghost use Rattle.gb_states.specs.RelationReading.{relations_by};
-ghost use Rattle.gb_states.specs.Reading.{vals_of, items_at, cell_at, cells_at, state_at, range_at, ranges_at, exit_at, needed_at, body_at, procedure_at, node_at};
+ghost use Rattle.gb_states.specs.Reading.{items_at, cells_at, state_at, range_at, ranges_at, exit_at, needed_at, body_at, procedure_at};
+ghost use Rattle.gb_states.specs.Forms.{cell_by, vals_by, state_by};
+ghost use Rattle.gb_states.specs.WholeRules.{kept_count, kept_of};
+ghost use Rattle.gb_states.specs.WholeReading as whole;
+ghost use Rattle.gb_states.specs.WholeReading.{told_at, named_at, procedure_by, node_by};
 
 use gb_domain::types::Rules;
 use gb_ops::machine::Region;
-use gb_states::fields::{pass_core, val_at};
+use gb_states::fields::pass_core;
+use gb_states::form::{cell_by, key_by, pass_fourth_core, val_by};
 use gb_states::relations::relations_by;
 use gb_states::role::Role;
-use gb_states::states::{cell_at, item_count_at, range_at};
+use gb_states::states::{item_count_at, range_at};
+use gb_states::whole::kept_addresses_at;
+use gb_states::whole_states::told_at;
 use gb_states::{
-    CertFault, base_at, cell_limit, count_within, entry_at, item_bytes, key_at, need_at,
-    range_room, returns_at, word_between,
+    AnyHead, CertFault, Form, base_at, byte, cell_limit, count_within, entry_at, item_bytes,
+    need_at, range_room, returns_at, word_between,
 };
 
 /// Passes over so many bytes of the stack.
 #[inline(always)]
-fn skip_some_items(rules: Rules, count: u8, bytes: &[u8]) -> Result<&[u8], CertFault>
-    ensures { Gives (λ x. x.now) result (skipped (vals_of rules count) bytes.now) }
+fn skip_some_items(form: Form, count: u8, bytes: &[u8]) -> Result<&[u8], CertFault>
+    ensures { Gives (λ x. x.now) result (skipped (vals_by form count) bytes.now) }
 {
     let mut rest = bytes;
     for _ in 0..count {
-        let (_item, after) = val_at(rules, rest)?;
+        let (_item, after) = val_by(form, rest)?;
         rest = after;
     }
     Ok(rest)
@@ -39,23 +46,18 @@ fn skip_items(rules: Rules, role: Role, stack_set: bool, bytes: &[u8]) -> Result
     ensures { Gives (λ x. x.now) result (skipped (items_at rules role stack_set) bytes.now) }
 {
     let (count, rest) = item_count_at(rules, role, stack_set, bytes)?;
-    skip_some_items(rules, item_bytes(rules, count), rest)
+    skip_some_items(Form::Older(rules), item_bytes(rules, count), rest)
 }
 
 /// Passes over as many cells as the count says.
 #[inline(always)]
-fn skip_some_cells(
-    rules: Rules,
-    region: Region,
-    count: u8,
-    bytes: &[u8],
-) -> Result<&[u8], CertFault>
-    ensures { Gives (λ x. x.now) result (skipped (several (cell_at rules region) after_cell 0 count) bytes.now) }
+fn skip_some_cells(form: Form, region: Region, count: u8, bytes: &[u8]) -> Result<&[u8], CertFault>
+    ensures { Gives (λ x. x.now) result (skipped (several (cell_by form region) after_cell 0 count) bytes.now) }
 {
     let mut least = 0;
     let mut rest = bytes;
     for _ in 0..count {
-        let (cell, after) = cell_at(rules, region, least, rest)?;
+        let (cell, after) = cell_by(form, region, least, rest)?;
         least = cell.address as u32 + 1;
         rest = after;
     }
@@ -68,7 +70,7 @@ fn skip_cells(rules: Rules, region: Region, bytes: &[u8]) -> Result<&[u8], CertF
     ensures { Gives (λ x. x.now) result (skipped (cells_at rules region) bytes.now) }
 {
     let (count, rest) = count_within(cell_limit(rules), bytes)?;
-    skip_some_cells(rules, region, count, rest)
+    skip_some_cells(Form::Older(rules), region, count, rest)
 }
 
 /// Passes over what is known of several parts together, and over the cells.
@@ -202,18 +204,177 @@ pub fn skip_procedure(
     skip_body(Rules::of(version), is_main, region, rest)
 }
 
-/// The key of a node of one of so many procedures, behind a node with another key.
-pub fn skip_node(
-    rules: Rules,
-    region: Region,
-    procedures: u8,
-    before: (u8, u16),
+// ---- version 4
+
+#[tactic(auto, unfolding(gb_states::specs::WholeReading::items_at))]
+fn skip_fourth_items(
+    kept: u8,
+    role: Role,
+    stack_set: bool,
     bytes: &[u8],
-) -> Result<((u8, u16), &[u8]), CertFault>
-    ensures { Gives (λ x. (x.0, x.1.now)) result (mapped key (node_at rules region procedures before) bytes.now) }
+) -> Result<&[u8], CertFault>
+    ensures { Gives (λ x. x.now) result (skipped (whole.items_at kept role stack_set) bytes.now) }
 {
-    let (key, rest) = key_at(procedures, before, bytes)?;
+    let (count, rest) = item_count_at(Rules::Extended, role, stack_set, bytes)?;
+    skip_some_items(Form::Fourth(0, kept), count, rest)
+}
+
+#[tactic(auto, unfolding(gb_states::specs::WholeReading::cells_at))]
+fn skip_fourth_cells(kept: u8, region: Region, bytes: &[u8]) -> Result<&[u8], CertFault>
+    ensures { Gives (λ x. x.now) result (skipped (whole.cells_at kept region) bytes.now) }
+{
+    let (count, rest) = count_within(cell_limit(Rules::Extended), bytes)?;
+    skip_some_cells(Form::Fourth(0, kept), region, count, rest)
+}
+
+/// Passes over what is known of several parts together and said of the whole program, and over the cells.
+fn skip_fourth_told(
+    facts: u16,
+    kept: u8,
+    region: Region,
+    aside: (bool, Option<u8>),
+    bytes: &[u8],
+) -> Result<&[u8], CertFault>
+    ensures { Gives (λ x. x.now) result (skipped (both (told_at facts region aside.0 aside.1) (whole.cells_at kept region)) bytes.now) }
+{
+    let (_told, rest) = told_at(facts, region, aside.0, aside.1, bytes)?;
+    skip_fourth_cells(kept, region, rest)
+}
+
+#[tactic(auto, using(crate::proofs::FourthSkipping::skip_state))]
+fn skip_fourth_state(
+    facts: u16,
+    kept: u8,
+    role: Role,
+    region: Region,
+    bytes: &[u8],
+) -> Result<&[u8], CertFault>
+    ensures { Gives (λ x. x.now) result (skipped (whole.state_at facts kept role region) bytes.now) }
+{
+    let ((stack_set, aside), rest) = pass_fourth_core(kept, role, bytes)?;
+    let rest = skip_fourth_items(kept, role, stack_set, rest)?;
+    skip_fourth_told(facts, kept, region, aside, rest)
+}
+
+/// Passes over a state of any version.
+fn skip_state_by(form: Form, role: Role, region: Region, bytes: &[u8]) -> Result<&[u8], CertFault>
+    ensures { Gives (λ x. x.now) result (skipped (state_by form role region) bytes.now) }
+{
+    match form {
+        Form::Older(rules) => skip_state(rules, role, region, bytes),
+        Form::Fourth(facts, kept) => skip_fourth_state(facts, kept, role, region, bytes),
+    }
+}
+
+#[tactic(auto, using(crate::proofs::FourthSkipping::skip_exit))]
+fn skip_fourth_exit(
+    facts: u16,
+    kept: u8,
+    is_main: bool,
+    region: Region,
+    bytes: &[u8],
+) -> Result<&[u8], CertFault>
+    ensures { Gives (λ x. x.now) result (skipped (whole.exit_at facts kept is_main region) bytes.now) }
+{
+    let (returns, rest) = returns_at(is_main, bytes)?;
+    if returns {
+        skip_fourth_state(facts, kept, Role::Exit, region, rest)
+    } else {
+        Ok(rest)
+    }
+}
+
+/// Passes over the addresses to be kept, the mark and the exit: how many addresses there are.
+#[tactic(auto, using(crate::proofs::FourthSkipping::skip_named))]
+fn skip_named(
+    facts: u16,
+    is_main: bool,
+    region: Region,
+    bytes: &[u8],
+) -> Result<(u8, &[u8]), CertFault>
+    ensures { Gives (λ x. (x.0, x.1.now)) result (mapped count_named (named_at facts is_main region) bytes.now) }
+{
+    let (kept, rest) = kept_addresses_at(is_main, region, bytes)?;
+    let (_mark, rest) = byte(rest)?;
+    let count = kept.len() as u8;
+    let after = skip_fourth_exit(facts, count, is_main, region, rest)?;
+    Ok((count, after))
+}
+
+/// Passes over a procedure of version 4: how many addresses it names to be kept.
+#[tactic(auto, using(crate::proofs::FourthSkipping::skip_procedure))]
+fn skip_fourth_procedure(
+    facts: u16,
+    region: Region,
+    nodes: u32,
+    is_main: bool,
+    bytes: &[u8],
+) -> Result<(u8, &[u8]), CertFault>
+    ensures { Gives (λ x. (x.0, x.1.now)) result (mapped kept_count (whole.procedure_at facts region nodes is_main) bytes.now) }
+{
+    let (_entry, rest) = entry_at(4, nodes, bytes)?;
+    let (_base, rest) = base_at(is_main, region, rest)?;
+    let (_need, rest) = need_at(Rules::Extended, is_main, region, rest)?;
+    let rest = skip_ranges(Rules::Extended, is_main, region, rest)?;
+    skip_named(facts, is_main, region, rest)
+}
+
+// ---- any version
+
+/// A procedure that begins at one of so many nodes, in a certificate of so many facts: how many addresses it names to be kept.
+#[tactic(auto, using(crate::proofs::FourthSkipping::skip_older_procedure))]
+pub fn skip_procedure_by(
+    version: u8,
+    facts: u16,
+    region: Region,
+    nodes: u32,
+    is_main: bool,
+    bytes: &[u8],
+) -> Result<(u8, &[u8]), CertFault>
+    ensures { Gives (λ x. (x.0, x.1.now)) result (mapped kept_count (procedure_by (version == 4) version facts region nodes is_main) bytes.now) }
+{
+    if version == 4 {
+        return skip_fourth_procedure(facts, region, nodes, is_main, bytes);
+    }
+    let rest = skip_procedure(version, region, nodes, is_main, bytes)?;
+    Ok((0, rest))
+}
+
+/// What a node of this procedure is for.
+pub fn role_of(procedure: u16) -> Role
+    ensures { result ≡ role_of procedure }
+{
+    if procedure == 0 {
+        Role::Main
+    } else {
+        Role::Other
+    }
+}
+
+/// How many addresses the procedure with this number names to be kept.
+pub fn kept_of(counts: &[u8], number: u16) -> u8
+    ensures { result ≡ kept_of counts.now number }
+{
+    match counts.get(number as usize) {
+        Some(count) => *count,
+        None => 0,
+    }
+}
+
+/// The key of the node at the start of the bytes, which comes after a node with the key `before`, and the bytes behind the node.
+#[tactic(auto, using(crate::proofs::FourthSkipping::skip_node))]
+pub fn skip_node<'a>(
+    head: AnyHead,
+    facts: u16,
+    kept: &[u8],
+    before: (u16, u16),
+    bytes: &'a [u8],
+) -> Result<((u16, u16), &'a [u8]), CertFault>
+    ensures { Gives (λ x. (x.0, x.1.now)) result (mapped key (node_by (head.version == 4) head.version facts (kept_of kept.now) head.region head.procedures before) bytes.now) }
+{
+    let (key, rest) = key_by(head.version, head.procedures, before, bytes)?;
     let (_bank, state) = word_between(0, 511, rest)?;
-    let after = skip_state(rules, Role::of(key.0), region, state)?;
+    let form = Form::of(head.version, facts, kept_of(kept, key.0));
+    let after = skip_state_by(form, role_of(key.0), head.region, state)?;
     Ok((key, after))
 }

@@ -24,7 +24,7 @@ pub enum Version {
     Three,
 }
 
-/// A procedure of a certificate that is to be written.
+/// A procedure of a certificate that is to be written. It names no address to be kept, and no mark: versions 1 to 3 can't say them.
 #[derive(Clone, Copy)]
 pub struct ProcedurePlan<'a> {
     /// The number of its first node.
@@ -67,7 +67,8 @@ pub enum WriteFault {
     /// A state knows more of several parts together than a test of A, in version 1 or 2.
     Relations,
     /// A value is a copy of the return word's high or low byte, in version 1 or 2, or of a byte that its procedure declares, or low
-    /// bits of it are known; or some of the controller's registers are kept, and not all.
+    /// bits of it are known; or some of the controller's registers are kept, and not all; or a state says something that is about the
+    /// whole program.
     Values,
     /// A procedure has another base than the one that versions 1 and 2 mean.
     Base,

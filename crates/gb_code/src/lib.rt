@@ -8,9 +8,15 @@
 pub mod code;
 
 // What lies below, for the crates above.
-pub use gb_abs_memory::load::holds_bytes;
-pub use gb_abs_memory::refusals::{is_limited, meets_closed_ram};
+pub use gb_abs_memory::load::{holds_bytes, loaded_by};
+pub use gb_abs_memory::refusals::{
+    is_limited, is_store_limited, meets_closed_ram, store_meets_closed_ram,
+};
 pub use gb_abs_memory::shown::known_bank;
+pub use gb_abs_memory::store::{
+    Area, area_of, is_storable, starts_oam_transfer, store_in, store_in_core,
+};
 pub use gb_abs_memory::{
-    Halves, Rom, covers_controller, covers_core, covers_ime, covers_may, covers_origin, covers_val,
+    Halves, Reason, Rom, Span, any, cell_at, covers_controller, covers_core, covers_ime,
+    covers_may, covers_origin, covers_val, is_ram, known, length_of, settle, with_value,
 };

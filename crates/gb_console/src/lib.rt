@@ -25,6 +25,6 @@ pub use gb_verify::verdict::Verdict;
 pub use gb_verify::verify::{Outcome, certificate_line, verify_bytes};
 pub use gb_verify::{
     Abs, Answer, Cell, Cert, CertFault, Core, Ctl, Flg, ImeSet, KeptBanks, May, NodeRef, OneByte,
-    Origin, ProcedureRef, Range, Reason, Relations, Rules, Setting, Span, Test, Val, callee,
-    check_irqs, check_node, covered_at, covers, enter, resume, successors_of,
+    Origin, ProcedureRef, Program, Range, Reason, Relations, Rules, Setting, Span, Test, Val,
+    callee, check_irqs, check_node, covered_at, covers, enter, resume, successors_of,
 };

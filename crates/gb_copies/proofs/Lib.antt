@@ -4,3 +4,8 @@ pub mod PlaceLaws
 pub mod CopyLaws
 pub mod SideLaws
 pub mod CoveringLaws
+pub mod WindowLaws
+pub mod ShadowLaws
+pub mod FittingLaws
+pub mod BankCoveringLaws
+pub mod BankReturnedLaws

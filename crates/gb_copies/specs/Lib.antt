@@ -4,3 +4,10 @@ pub mod Copies
 pub mod Sides
 pub mod Covering
 pub mod Sound
+pub mod Windows
+pub mod ShadowMeaning
+pub mod Shadows
+pub mod ShadowSound
+pub mod Fitting
+pub mod BankCovering
+pub mod BankReturned

@@ -11,5 +11,7 @@ pub mod RelationRules
 pub mod Relations
 pub mod Rules
 pub mod Settings
+pub mod Silent
+pub mod Summaries
 pub mod Types
 pub mod Values

@@ -11,6 +11,7 @@ use Rattle.gb_domain.specs.declared.types.Cell.{Cell}
 use Rattle.gb_domain.specs.declared.types.Range.{Range}
 use Rattle.gb_domain.specs.declared.relations.Relations.{Relations}
 use Rattle.gb_domain.specs.Relations.{no_relations}
+use Rattle.gb_domain.specs.Summaries.{SummaryParts, no_summary}
 
 -- an abstract state; its items are the bytes that were pushed, the oldest first
 pub record AbsState : Type 0 where
@@ -18,17 +19,21 @@ pub record AbsState : Type 0 where
   pub items : List Val
   pub cells : List Cell
   pub relations : Relations
+  pub summary : SummaryParts
 
--- the state without items and cells, of whose parts nothing is known together
+-- the state without items and cells, of whose parts nothing is known together, and which says nothing of the whole program
 abbrev pub state_of : Core → AbsState
-state_of core = record { core = core; items = []; cells = []; relations = no_relations }
+state_of core = record { core = core; items = []; cells = []; relations = no_relations; summary = no_summary }
 
--- a procedure; its base is the address above its items, 0 where it isn't known, and its need is in bytes
+-- a procedure; its base is the address above its items, 0 where it isn't known, and its need is in bytes; kept are the addresses that
+-- it names to be kept, and its mark says how many bytes below its base it puts its stack aside (versions 1 to 3 have neither)
 pub record ProcedureParts : Type 0 where
   pub entry : ℕ
   pub base : ℕ
   pub need : ℕ
   pub ranges : List Range
+  pub kept : List ℕ
+  pub mark : ℕ
   pub exit : Option AbsState
 
 -- what a certificate claims for one address of a procedure: the bank shown there, and a state

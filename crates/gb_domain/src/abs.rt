@@ -2,20 +2,24 @@
 
 ghost use Rattle.std.specs.Prelude.{◌≡◌, ◌≤◌, ◌<◌, ◌++◌, ◌∷◌, [], length, take};
 ghost use Rattle.gb_domain.specs.Types.{state_of};
+ghost use Rattle.gb_domain.specs.Summaries.{no_summary};
 
 use crate::relations::Relations;
+use crate::summary::Summary;
 use crate::types::{Cell, Core, Val};
 use arrayvec::ArrayVec;
 use std::marker::Model;
 
 /// An abstract state: a set of machine states. Contracts see its core, its items (the bytes that were pushed, the
-/// oldest first), its cells (in order of address), and what is known of several of its parts together.
+/// oldest first), its cells (in order of address), what is known of several of its parts together, and what it says that is about
+/// the whole program.
 #[derive(Drop)]
 pub struct Abs {
     core: Core,
     relations: Relations,
     items: ArrayVec<Val, 255>,
     cells: ArrayVec<Cell, 64>,
+    summary: Summary,
 }
 
 impl Model for Abs {
@@ -23,14 +27,14 @@ impl Model for Abs {
 
     ghost Value = { AbsState };
 
-    ghost view = { λ s. record { core = s.core; items = s.items.items; cells = s.cells.items; relations = s.relations } };
+    ghost view = { λ s. record { core = s.core; items = s.items.items; cells = s.cells.items; relations = s.relations; summary = s.summary } };
 }
 
 impl Abs {
     ghost use Rattle.std.specs.Borrow.{sem};
     ghost use Rattle.gb_domain.specs.Lending.{LendsCore};
 
-    /// A state without items and cells, of whose parts nothing is known together.
+    /// A state of the registers alone: no stack items, no memory cells, no relations, and no summary of the program's facts.
     pub fn new(core: Core) -> Abs
         ensures { result ≡ state_of core }
     {
@@ -39,23 +43,38 @@ impl Abs {
             relations: Relations::default(),
             items: ArrayVec::new(),
             cells: ArrayVec::new(),
+            summary: Summary::none(),
         }
     }
 
-    /// A state of these parts.
+    /// A state of these parts, without a summary of the program's facts.
     pub fn of_parts(
         core: Core,
         items: ArrayVec<Val, 255>,
         cells: ArrayVec<Cell, 64>,
         relations: Relations,
     ) -> Abs
-        ensures { result ≡ record { core = core; items = items.items; cells = cells.items; relations = relations } }
+        ensures { result ≡ record { core = core; items = items.items; cells = cells.items; relations = relations; summary = no_summary } }
+    {
+        Abs::of_all_parts(core, items, cells, relations, Summary::none())
+    }
+
+    /// A state of these parts.
+    pub fn of_all_parts(
+        core: Core,
+        items: ArrayVec<Val, 255>,
+        cells: ArrayVec<Cell, 64>,
+        relations: Relations,
+        summary: Summary,
+    ) -> Abs
+        ensures { result ≡ record { core = core; items = items.items; cells = cells.items; relations = relations; summary = summary } }
     {
         Abs {
             core,
             relations,
             items,
             cells,
+            summary,
         }
     }
 
@@ -88,6 +107,13 @@ impl Abs {
         &self.relations
     }
 
+    /// What it says that is about the whole program.
+    pub fn summary(&self) -> &Summary
+        ensures { result.now ≡ self.now.summary }
+    {
+        &self.summary
+    }
+
     /// A copy: states own lists, and no state is copied unseen.
     pub fn copied(&self) -> Abs
         ensures { result ≡ self.now }
@@ -111,7 +137,8 @@ impl Abs {
         &mut self.core
     }
 
-    /// It becomes a state with the same core, without items and cells, of which this is known of several parts together.
+    /// It becomes a state with the same core, without items and cells, of which this is known of several parts together, and which
+    /// says nothing of the whole program.
     #[inline(always)]
     pub fn clear_lists(&mut self, relations: Relations)
         ensures { self.new ≡ record (state_of self.old.core) { relations = relations } }
@@ -119,9 +146,11 @@ impl Abs {
         self.relations = relations;
         self.items.clear();
         self.cells.clear();
+        self.summary.clear();
     }
 
-    /// It becomes the state with this core, without items and cells, of whose parts nothing is known together.
+    /// It becomes the state with this core, without items and cells, of whose parts nothing is known together, and which says
+    /// nothing of the whole program.
     #[inline(always)]
     pub fn set_plain(&mut self, core: Core)
         ensures { self.new ≡ state_of core }
@@ -174,12 +203,28 @@ impl Abs {
         self.relations = relations;
     }
 
+    /// It says something else that is about the whole program. All else stays.
+    pub fn set_summary(&mut self, summary: Summary)
+        ensures { self.new ≡ record self.old { summary = summary } }
+    {
+        self.summary = summary;
+    }
+
+    /// It says nothing of the whole program any more. All else stays.
+    #[inline(always)]
+    pub fn clear_summary(&mut self)
+        ensures { self.new ≡ record self.old { summary = no_summary } }
+    {
+        self.summary.clear();
+    }
+
     /// A copy with another core.
     pub fn with_core(&self, core: Core) -> Abs
         ensures { result ≡ record self.now { core = core } }
     {
         let mut state = Abs::new(core);
         state.relations = self.relations;
+        state.summary = self.summary.copied();
         if state
             .items
             .try_extend_from_slice(self.items.as_slice())

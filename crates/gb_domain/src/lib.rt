@@ -16,6 +16,7 @@ pub mod places;
 pub mod relations;
 mod rules;
 mod setting;
+pub mod summary;
 pub mod types;
 pub mod values;
 
@@ -24,4 +25,5 @@ pub use low_bits::LowBits;
 pub use pairs::{Bounds, Link, Other, PairFacts, Pairs, WordPair};
 pub use places::{OneByte, Place, Test};
 pub use relations::Relations;
+pub use summary::{BankShadows, Fact, Fill, FillEnd, Reach, Shadows, Summary};
 pub use types::{Cell, Core, Ctl, Flg, Halves, ImeSet, KeptBanks, May, Origin, Range, Val};

@@ -4,7 +4,7 @@ use crate::order::order;
 use gb_cert::{NodePlan, ProcedurePlan, Version, WriteFault, write_certificate};
 use gb_fixpoint::limits::COMPARED;
 use gb_fixpoint::types::{Run, RunNode, RunProcedure};
-use gb_fixpoint::{Abs, Region, Rules, covers, known_bank};
+use gb_fixpoint::{Abs, Program, Region, Rules, covers, known_bank};
 use std::alloc::{AllocError, Global};
 
 /// Where a node stands in a certificate: by its procedure, then by its address.
@@ -240,7 +240,7 @@ fn is_spare(run: &Run<'_>, number: usize, nodes: &[usize], spare: &[bool]) -> bo
 /// Whether a node stands for all that another one does.
 fn stands_for(run: &Run<'_>, number: usize, node: &RunNode) -> bool {
     match run.nodes.get(number) {
-        Some(other) => covers(&node.state, &other.state),
+        Some(other) => covers(&Program::unknown(), &node.state, &other.state),
         None => false,
     }
 }
@@ -248,7 +248,7 @@ fn stands_for(run: &Run<'_>, number: usize, node: &RunNode) -> bool {
 /// Whether a node stands for all that the node with a number does.
 fn is_above(run: &Run<'_>, node: &RunNode, number: usize) -> bool {
     match run.nodes.get(number) {
-        Some(other) => covers(&other.state, &node.state),
+        Some(other) => covers(&Program::unknown(), &other.state, &node.state),
         None => false,
     }
 }

@@ -6,7 +6,7 @@ use gb_fixpoint::entries::Entered;
 use gb_fixpoint::keys::ProcedureKey;
 use gb_fixpoint::register_set::REGISTERS;
 use gb_fixpoint::types::{Run, RunProcedure};
-use gb_fixpoint::{Abs, Core, ImeSet, Rules, Val, covers};
+use gb_fixpoint::{Abs, Core, ImeSet, Program, Rules, Val, covers};
 use std::alloc::{AllocError, Global};
 use std::collections::{BTreeMap, BTreeSet};
 
@@ -234,7 +234,8 @@ fn covers_entry(run: &Run<'_>, procedure: usize, entered: &Entered) -> bool {
         return false;
     };
     match run.nodes.get(entry) {
-        Some(node) => fits(run, procedure, entered) && covers(&entered.state, &node.state),
+        Some(node) => fits(run, procedure, entered)
+            && covers(&Program::unknown(), &entered.state, &node.state),
         None => false,
     }
 }

@@ -1,12 +1,13 @@
 //! Facts: bytes of arrays that stay within bounds.
 
 use gb_domain::pairs::{ANY_BOUNDS, Bounds};
+use gb_domain::summary::{Fact, Fill};
 use gb_domain::types::{Cell, Origin, Range, Val};
 use gb_domain::{LowBits, StridedInterval};
 use gb_ram_bounds::covering::{byte_at, gives_facts};
 use gb_ram_bounds::facts::{has_address, keeps_facts, level_after};
 use gb_ram_bounds::returned::returned_level;
-use gb_ram_bounds::{AddressSet, Fact, Fill, Pointers};
+use gb_ram_bounds::{AddressSet, Pointers};
 use std::process::Abort;
 
 /// The bytes from the first to the second.

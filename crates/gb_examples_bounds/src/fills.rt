@@ -1,13 +1,14 @@
 //! Fills: what a loop that clears has done so far.
 
 use gb_domain::pairs::{ANY_BOUNDS, Bounds};
+use gb_domain::summary::{Fill, FillEnd, Reach};
 use gb_domain::types::{Cell, Range, Val};
 use gb_domain::{LowBits, StridedInterval};
 use gb_ops::op::Pointer;
 use gb_ram_bounds::covering::{byte_at, gives_fills};
 use gb_ram_bounds::fills::{filled, is_in_extent, lowered, raised, written};
 use gb_ram_bounds::returned::{caller_fill_left, is_exit_fill_left};
-use gb_ram_bounds::{AddressSet, Fill, FillEnd, Pointers, Reach};
+use gb_ram_bounds::{AddressSet, Pointers};
 use std::process::Abort;
 
 /// The bytes from the first to the second.

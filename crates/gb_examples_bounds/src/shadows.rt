@@ -1,16 +1,17 @@
 //! Shadows of the controller's registers: a variable with the current bank.
 
-use gb_bank_shadows::covering::covers;
-use gb_bank_shadows::fitting::fitting;
-use gb_bank_shadows::returned::returned;
-use gb_bank_shadows::shadows::{
+use gb_copies::bank_covering::covers;
+use gb_copies::bank_returned::returned;
+use gb_copies::fitting::fitting;
+use gb_copies::shadows::{
     copied_to_address, copied_to_register, stored, without_addresses, without_register,
 };
-use gb_bank_shadows::windows::{is_in_window, left_by};
-use gb_bank_shadows::{BankWindow, Known, Preserved, Shadows};
+use gb_copies::windows::{is_in_window, left_by};
+use gb_copies::{BankWindow, Known, Preserved};
 use gb_domain::StridedInterval;
 use gb_domain::pairs::Bounds;
 use gb_domain::places::{NO_REGISTER, OneByte, Place};
+use gb_domain::summary::Shadows;
 use gb_ops::machine::Kind;
 use gb_ops::op::Register;
 use gb_ops::registers::Registers;
@@ -256,6 +257,21 @@ const STEPS: &[ShadowStep] = &[
     Covers(
         Kind::Mbc1,
         ((2, 2, 0), ANY, 1, 1),
+        NOWHERE,
+        (A, None),
+        false,
+    ),
+    // Without a mapper any byte leaves the bank, if both are known.
+    Covers(
+        Kind::Rom,
+        ((0x05, 0x05, 0), ANY, 1, 1),
+        NOWHERE,
+        (A, None),
+        true,
+    ),
+    Covers(
+        Kind::Rom,
+        ((0x05, 0x06, 0), ANY, 1, 1),
         NOWHERE,
         (A, None),
         false,

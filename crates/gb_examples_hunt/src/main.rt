@@ -12,9 +12,11 @@
 //! catch/handler_not_critical is this program's own answer: its list of events runs thousands of instructions first.
 #![tactic(auto)]
 
-use gb_events::{EventList, Replayed, machine_of, play_events, read_events};
+use gb_events::{
+    EventList, Hunt, HuntProgress, KeyWords, PressedKeys, Replayed, machine_of, play_again,
+    play_events, read_events,
+};
 use gb_header::Rom;
-use gb_hunt::{Hunt, HuntProgress, KeyWords, PressedKeys, play_again};
 use gb_ops::machine::{CodePlace, Faults, Region};
 use gb_samples::cartridges::put;
 use gb_samples::spelled::{bytes_of, number_of, place, word_of};

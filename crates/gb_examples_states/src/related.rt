@@ -11,6 +11,7 @@ use gb_ops::op::Register::{A, B, C, D, E, H};
 use gb_ops::op::{Condition, Indirect, Op, Operand, Pair, Register};
 use gb_pairs::moved::added;
 use gb_pairs::reduced::reduce;
+use gb_product::Program;
 use gb_product::covering::covers;
 use gb_product::parts::Branch;
 use gb_product::reduced::reduced_branch;
@@ -164,8 +165,11 @@ fn agrees(step: &RelatedStep) -> bool {
         Points(op, before, within) => points(op, before, within),
         Reduces(before, after) => reduces(before, after),
         Carries(first, last, before, carry) => carries(first, last, before, carry),
-        Covers(s, t, is_so) => covers(&KnownFact::new(s).state(), &KnownFact::new(t).state())
-            == is_so,
+        Covers(s, t, is_so) => covers(
+            &Program::unknown(),
+            &KnownFact::new(s).state(),
+            &KnownFact::new(t).state(),
+        ) == is_so,
     }
 }
 

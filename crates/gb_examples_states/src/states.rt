@@ -7,6 +7,7 @@ use gb_abs::span::Span;
 use gb_abs::stack::{pop, push};
 use gb_domain::types::{Abs, Cell, Core, Halves, ImeSet, Rules, Val};
 use gb_ops::op::Register;
+use gb_product::Program;
 use gb_product::covering::covers;
 use gb_samples::relations::compared;
 use gb_samples::states::{ANY, copy_of, entered, from_to, own};
@@ -197,9 +198,15 @@ fn wider_states_cover_narrower_ones(rt: HostRuntime) {
     assert!(rt; !covers_val(&ANY, &own_a));
     assert!(rt; !covers_val(&own(Register::B), &own_a));
     let (few, more) = (with_cells_up_to(1), with_cells_up_to(2));
-    assert!(rt; covers(&more, &few));
-    assert!(rt; !covers(&few, &more));
-    assert!(rt; covers(&few, &with_cell(Rules::Simple, &few, 0xC000, up_to(2))));
+    assert!(rt; covers(&Program::unknown(), &more, &few));
+    assert!(rt; !covers(&Program::unknown(), &few, &more));
+    assert!(rt;
+        covers(
+            &Program::unknown(),
+            &few,
+            &with_cell(Rules::Simple, &few, 0xC000, up_to(2))
+        )
+    );
 }
 
 /// The bytes from a least one to a greatest one that have as many of its low bits.
@@ -233,8 +240,13 @@ fn with_test(test: Option<u8>) -> Abs {
 #[test]
 fn a_test_is_asked_for(rt: HostRuntime) {
     let (without, seven) = (with_test(None), with_test(Some(7)));
-    assert!(rt; covers(&seven, &seven) && covers(&seven, &without));
-    assert!(rt; !covers(&without, &seven) && !covers(&with_test(Some(8)), &seven));
+    assert!(rt;
+        covers(&Program::unknown(), &seven, &seven) && covers(&Program::unknown(), &seven, &without)
+    );
+    assert!(rt;
+        !covers(&Program::unknown(), &without, &seven)
+            && !covers(&Program::unknown(), &with_test(Some(8)), &seven)
+    );
 }
 
 #[test]

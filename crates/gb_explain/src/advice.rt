@@ -360,7 +360,7 @@ pub const JUMP_HL: Advice = Advice {
     problem: "A jump to an unknown address can run any bytes as code.",
     remedy: "Check the index right before you read the jump table: `cp STATES` / `ret nc`. Keep state numbers in RAM, not code pointers.",
     remedy_in_c: Some(
-        "Call by a table with a bounded index: `if (state < 3) functions[state]();`. Before a `switch`, bound its value: `switch (state & 7)`.",
+        "Compare a copy of the index, since SDCC may load the variable twice: `uint8_t now = state; if (now < 3) functions[now]();`. Before a `switch`, bound its value: `switch (state & 7)`.",
     ),
     anchor: "unknown-jump",
 };

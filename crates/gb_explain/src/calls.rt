@@ -6,8 +6,8 @@ use crate::Differences;
 use crate::covering::{NearGap, back_gaps, nearer, way_gap};
 use crate::gap::{After, Claim, Gap, GapKind, Gaps, GoesOn, Uncallable};
 use gb_verify::{
-    Abs, Cert, Rules, Setting, Successor, Target, are_ranges_inside, callee_at, enter, ranges_of,
-    setting_of, taken_by,
+    Abs, Cert, Program, Rules, Setting, Successor, Target, are_ranges_inside, callee_at, enter,
+    ranges_of, setting_of, taken_by,
 };
 
 /// The node where a procedure begins, if that has the address.
@@ -69,7 +69,14 @@ fn taking_too_many(procedure: u8, address: u16, count: usize, held: usize) -> Ne
 
 /// How near a procedure that begins at the node comes to be entered at its address from these states; at distance 0
 /// nothing is missing.
-fn near_entry(cert: &Cert<'_>, setting: Setting, procedure: u8, node: u32, state: &Abs) -> NearGap
+fn near_entry(
+    program: &Program<'_>,
+    cert: &Cert<'_>,
+    setting: Setting,
+    procedure: u8,
+    node: u32,
+    state: &Abs,
+) -> NearGap
     requires { node < length cert.now.nodes }
 {
     let entry = cert.node(node);
@@ -80,7 +87,7 @@ fn near_entry(cert: &Cert<'_>, setting: Setting, procedure: u8, node: u32, state
         return taking_too_many(procedure, address, count, held);
     }
     let entered = enter(setting.rules, taken_by(cert, procedure), state);
-    let differences = Differences::of(setting.rules, &entered, &claimed);
+    let differences = Differences::of(program, setting.rules, &entered, &claimed);
     let below = held.saturating_sub(count);
     match wrong_base(cert, setting, procedure, address, below) {
         Some(base) if differences.count == 0 => NearGap {
@@ -100,11 +107,17 @@ fn near_entry(cert: &Cert<'_>, setting: Setting, procedure: u8, node: u32, state
 }
 
 /// The procedure but main that begins at an address and comes nearest to be entered there from these states.
-fn nearest_entry(cert: &Cert<'_>, setting: Setting, address: u16, state: &Abs) -> Option<NearGap> {
+fn nearest_entry(
+    program: &Program<'_>,
+    cert: &Cert<'_>,
+    setting: Setting,
+    address: u16,
+    state: &Abs,
+) -> Option<NearGap> {
     let mut nearest = None;
     for procedure in 1..cert.procedures() {
         if let Some(node) = entry_at(cert, procedure, address) {
-            let next = near_entry(cert, setting, procedure, node, state);
+            let next = near_entry(program, cert, setting, procedure, node, state);
             nearest = nearer(nearest, next);
         }
     }
@@ -113,20 +126,27 @@ fn nearest_entry(cert: &Cert<'_>, setting: Setting, address: u16, state: &Abs) -
 
 /// The procedure that is entered at an address from these states: the first from which nothing keeps them.
 pub(crate) fn entered_at(
+    program: &Program<'_>,
     cert: &Cert<'_>,
     setting: Setting,
     address: u16,
     state: &Abs,
 ) -> Option<u8> {
-    match nearest_entry(cert, setting, address, state) {
+    match nearest_entry(program, cert, setting, address, state) {
         Some(near) if near.distance == 0 => Some(near.procedure),
         _ => None,
     }
 }
 
 /// What there is at an address where no procedure is entered from these states.
-fn entry_gap(cert: &Cert<'_>, setting: Setting, address: u16, state: &Abs) -> Gap {
-    match nearest_entry(cert, setting, address, state) {
+fn entry_gap(
+    program: &Program<'_>,
+    cert: &Cert<'_>,
+    setting: Setting,
+    address: u16,
+    state: &Abs,
+) -> Gap {
+    match nearest_entry(program, cert, setting, address, state) {
         None => Gap::plain(GapKind::Uncallable(Uncallable::NoProcedure { address })),
         Some(near) => near.gap,
     }
@@ -135,6 +155,7 @@ fn entry_gap(cert: &Cert<'_>, setting: Setting, address: u16, state: &Abs) -> Ga
 /// What is missing where no procedure is entered from these states, which aren't covered at the address in the same
 /// procedure either.
 pub(crate) fn inlined_gaps(
+    program: &Program<'_>,
     cert: &Cert<'_>,
     setting: Setting,
     procedure: u8,
@@ -145,16 +166,17 @@ pub(crate) fn inlined_gaps(
         after: After::Inlined(procedure),
         address,
     };
-    let second = way_gap(cert, procedure, way, state)?;
+    let second = way_gap(program, cert, procedure, way, state)?;
     Some(Gaps {
         interrupt: None,
-        first: entry_gap(cert, setting, address, state),
+        first: entry_gap(program, cert, setting, address, state),
         second: Some(second),
     })
 }
 
 /// What is missing where a call leads: after its callee, or where no procedure is entered.
 pub(crate) fn called_gaps(
+    program: &Program<'_>,
     cert: &Cert<'_>,
     procedure: u8,
     address: u16,
@@ -162,16 +184,16 @@ pub(crate) fn called_gaps(
 ) -> Option<Gaps> {
     let setting = setting_of(cert, procedure);
     let state = successor.state();
-    match callee_at(cert, setting, successor) {
+    match callee_at(program, cert, setting, successor) {
         Some(callee) => {
             let way = GoesOn {
                 after: After::Call(callee),
                 address: successor.next,
             };
-            back_gaps(cert, procedure, callee, way, &state)
+            back_gaps(program, cert, procedure, callee, way, &state)
         }
         None if setting.rules == Rules::Extended => {
-            inlined_gaps(cert, setting, procedure, address, &state)
+            inlined_gaps(program, cert, setting, procedure, address, &state)
         }
         None => None,
     }
@@ -203,6 +225,7 @@ pub(crate) fn range_gaps(
 
 /// What is missing of a call. By the rules of version 3 it may do without a callee.
 pub(crate) fn callee_gaps(
+    program: &Program<'_>,
     cert: &Cert<'_>,
     procedure: u8,
     successor: &Successor<'_>,
@@ -211,9 +234,10 @@ pub(crate) fn callee_gaps(
         return None;
     };
     let setting = setting_of(cert, procedure);
-    match callee_at(cert, setting, successor) {
+    match callee_at(program, cert, setting, successor) {
         Some(callee) => range_gaps(cert, setting, procedure, callee),
         None if setting.rules == Rules::Simple => Some(Gaps::of(entry_gap(
+            program,
             cert,
             setting,
             address,

@@ -2,7 +2,9 @@
 
 use crate::Differences;
 use crate::gap::{Claim, Gap, GapKind, Gaps, GoesOn, Uncovered};
-use gb_verify::{Abs, Cert, Resumed, covered_at, exit_of, ranges_of, resume, setting_of, taken_by};
+use gb_verify::{
+    Abs, Cert, Program, Resumed, covered_at, exit_of, ranges_of, resume, setting_of, taken_by,
+};
 
 /// What comes near to what is wanted: of which procedure it is, in how many parts it differs, and what is missing.
 #[derive(Clone, Copy)]
@@ -21,13 +23,19 @@ pub(crate) fn nearer(first: Option<NearGap>, second: NearGap) -> Option<NearGap>
 }
 
 /// The node of a procedure where the program goes on that differs in the fewest parts.
-fn nearest_node(cert: &Cert<'_>, procedure: u8, way: GoesOn, state: &Abs) -> Option<NearGap> {
+fn nearest_node(
+    program: &Program<'_>,
+    cert: &Cert<'_>,
+    procedure: u8,
+    way: GoesOn,
+    state: &Abs,
+) -> Option<NearGap> {
     let rules = setting_of(cert, procedure).rules;
     let found = cert.find(procedure, way.address).found;
     let mut nearest = None;
     for node in found.first..found.after {
         let claimed = cert.node(node).state();
-        let differences = Differences::of(rules, state, &claimed);
+        let differences = Differences::of(program, rules, state, &claimed);
         let next = NearGap {
             procedure,
             distance: differences.count,
@@ -42,25 +50,38 @@ fn nearest_node(cert: &Cert<'_>, procedure: u8, way: GoesOn, state: &Abs) -> Opt
 }
 
 /// What is missing where the program goes on, if no node of the procedure covers the state.
-pub(crate) fn way_gap(cert: &Cert<'_>, procedure: u8, way: GoesOn, state: &Abs) -> Option<Gap> {
+pub(crate) fn way_gap(
+    program: &Program<'_>,
+    cert: &Cert<'_>,
+    procedure: u8,
+    way: GoesOn,
+    state: &Abs,
+) -> Option<Gap> {
     let rules = setting_of(cert, procedure).rules;
-    if covered_at(rules, cert, procedure, way.address, state) {
+    if covered_at(program, rules, cert, procedure, way.address, state) {
         return None;
     }
-    match nearest_node(cert, procedure, way, state) {
+    match nearest_node(program, cert, procedure, way, state) {
         None => Some(Gap::plain(GapKind::Uncovered(Uncovered::NoNode { way, procedure }))),
         Some(near) => Some(near.gap),
     }
 }
 
 /// The gap on the way, if nothing else is missing.
-pub(crate) fn way_gaps(cert: &Cert<'_>, procedure: u8, way: GoesOn, state: &Abs) -> Option<Gaps> {
-    let gap = way_gap(cert, procedure, way, state)?;
+pub(crate) fn way_gaps(
+    program: &Program<'_>,
+    cert: &Cert<'_>,
+    procedure: u8,
+    way: GoesOn,
+    state: &Abs,
+) -> Option<Gaps> {
+    let gap = way_gap(program, cert, procedure, way, state)?;
     Some(Gaps::of(gap))
 }
 
 /// What is missing where a procedure goes on after a callee that was entered in these states.
 pub(crate) fn back_gaps(
+    program: &Program<'_>,
     cert: &Cert<'_>,
     procedure: u8,
     callee: u8,
@@ -71,9 +92,9 @@ pub(crate) fn back_gaps(
     let exit = exit_of(cert, callee)?;
     let ranges = ranges_of(cert, callee);
     let taken = taken_by(cert, callee);
-    match resume(rules, taken, ranges.as_slice(), state, &exit) {
+    match resume(program, rules, taken, ranges.as_slice(), state, &exit) {
         Resumed::Nothing => None,
         Resumed::TooDeep => Some(Gaps::plain(GapKind::Uncovered(Uncovered::Overfull { way }))),
-        Resumed::States(resumed) => way_gaps(cert, procedure, way, &resumed),
+        Resumed::States(resumed) => way_gaps(program, cert, procedure, way, &resumed),
     }
 }

@@ -4,7 +4,7 @@ ghost use Rattle.std.specs.Prelude.{◌<◌};
 
 use crate::gap::{Amount, GapKind, Gaps, TooDeep};
 use gb_ops::op::{Op, Pair};
-use gb_verify::{Abs, Cert, Rules, Successor, callee_at, need_of, setting_of, taken_by};
+use gb_verify::{Abs, Cert, Program, Rules, Successor, callee_at, need_of, setting_of, taken_by};
 
 /// So many bytes that are held, where they are more than the procedure needs or than a state can hold.
 pub(crate) fn held_too_deep(
@@ -109,9 +109,14 @@ pub(crate) fn moved_gaps(
 }
 
 /// What a call would need, where it is too much.
-pub(crate) fn call_gaps(cert: &Cert<'_>, procedure: u8, successor: &Successor<'_>) -> Option<Gaps> {
+pub(crate) fn call_gaps(
+    program: &Program<'_>,
+    cert: &Cert<'_>,
+    procedure: u8,
+    successor: &Successor<'_>,
+) -> Option<Gaps> {
     let setting = setting_of(cert, procedure);
-    let callee = callee_at(cert, setting, successor)?;
+    let callee = callee_at(program, cert, setting, successor)?;
     let held = successor.state().items().len();
     let deep = called_too_deep(setting.rules, cert, procedure, held, callee)?;
     Some(Gaps::plain(GapKind::TooDeep(deep)))

@@ -1,5 +1,6 @@
 //! A part of a state that another state doesn't cover.
 
+use crate::said::Said;
 use crate::together::fmt_relations;
 use gb_ops::op::Register;
 use gb_verify::{ImeSet, KeptBanks, May, Origin, Relations, Val};
@@ -30,6 +31,8 @@ pub enum StatePart {
     Test,
     /// What is known of several parts together, if it isn't a test of A alone.
     Together,
+    /// What is said of the whole program.
+    Program,
     /// How many words are on the stack, by the rules of versions 1 and 2.
     Words,
     /// The high byte of a word, counted from 1, the oldest first.
@@ -64,6 +67,7 @@ pub enum KnownPart {
     Set(bool),
     Test(Option<u8>),
     Together(Relations),
+    Said(Said),
 }
 
 /// A part of a state that another doesn't cover. What is left there is the first state's, what is claimed the other's.
@@ -124,6 +128,7 @@ impl StatePart {
             StatePart::Stack => "SP",
             StatePart::Test => "A compared with",
             StatePart::Together => "known together",
+            StatePart::Program => "said of the whole program",
             StatePart::Words => "words on the stack",
             StatePart::HighByte(_) => "high byte of word",
             StatePart::LowByte(_) => "low byte of word",
@@ -246,6 +251,7 @@ impl fmt::Display for KnownPart {
             KnownPart::Test(None) => write!(f, "none"),
             KnownPart::Test(Some(value)) => write!(f, "${value:02X}"),
             KnownPart::Together(relations) => fmt_relations(&relations, f),
+            KnownPart::Said(said) => write!(f, "{said}"),
         }
     }
 }

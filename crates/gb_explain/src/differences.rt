@@ -2,16 +2,19 @@
 
 ghost use Rattle.std.specs.Prelude.{◌≡◌, true};
 ghost use Rattle.gb_verify.specs.Below.gb_abs.Covering as Covering;
-ghost use Rattle.gb_verify.specs.Below.gb_product.Covering.{covers, covers_relations};
+ghost use Rattle.gb_verify.specs.Below.gb_product.Covering.{covers, covers_cells, covers_relations};
+ghost use Rattle.gb_verify.specs.Below.gb_product.Below.gb_relations.Transfer.{values_of};
+ghost use Rattle.gb_verify.specs.Below.gb_product.Below.gb_summaries.Covering.{covers_summary};
 ghost use Rattle.gb_explain.specs.Noted.{IsNoted};
 
 use crate::difference::{KnownPart, StateDifference, StatePart};
+use crate::said::Said;
 use crate::together::{compared, is_test_alone};
 use gb_ops::op::Register;
 use gb_ops::registers::Registers;
 use gb_verify::{
-    Abs, Cell, Core, Ctl, Flg, KeptBanks, May, Relations, Rules, Val, cell_at, covers_ime,
-    covers_may, covers_origin, covers_relations, covers_val,
+    Abs, Cell, Core, Ctl, Flg, KeptBanks, May, Program, Relations, Rules, States, Val, byte_of,
+    covers_ime, covers_may, covers_origin, covers_relations, covers_said, covers_val,
 };
 
 /// The parts of a state that another doesn't cover, the first of them with what is known.
@@ -224,6 +227,18 @@ impl Differences {
         self.note(covers_relations(registers, s, t), part, known);
     }
 
+    /// What is said of the whole program.
+    fn note_summary(&mut self, program: &Program<'_>, states: &States<'_>, t: &Abs)
+        ensures { IsNoted self.old.count self.new.count (covers_summary program.now (values_of states.now.core.now.registers states.now.relations.now.pairs) states.now.core.now.ctl states.now.lists.now.cells states.now.summary.now t.now.cells t.now.summary) }
+    {
+        let known = (
+            KnownPart::Said(Said::of(states.summary)),
+            KnownPart::Said(Said::of(t.summary())),
+        );
+        let is_covered = covers_said(program, states, t.cells(), t.summary());
+        self.note(is_covered, StatePart::Program, known);
+    }
+
     /// Bytes of both, from that with a number on.
     fn note_items(&mut self, rules: Rules, number: usize, s: &[Val], t: &[Val])
         ensures { IsNoted self.old.count self.new.count (Covering.covers_items s.now t.now) }
@@ -242,34 +257,37 @@ impl Differences {
     }
 
     #[tactic(auto, unfolding(crate::specs::Opened::covers_cells))]
-    fn note_cells(&mut self, s: &[Cell], t: &[Cell])
-        ensures { IsNoted self.old.count self.new.count (Covering.covers_cells s.now t.now) }
+    fn note_cells(&mut self, program: &Program<'_>, states: &States<'_>, t: &[Cell])
+        ensures { IsNoted self.old.count self.new.count (covers_cells program.now (values_of states.now.core.now.registers states.now.relations.now.pairs) states.now.lists.now.cells states.now.summary.now t.now) }
     {
         let Some((cell, rest)) = t.split_first() else {
             return;
         };
         let part = StatePart::Cell(cell.address);
-        self.note_val(part, &cell_at(cell.address, s), &cell.val);
-        self.note_cells(s, rest);
+        let known = byte_of(program, states, cell.address);
+        self.note_val(part, &known, &cell.val);
+        self.note_cells(program, states, rest);
     }
 
-    #[tactic(auto, unfolding(crate::specs::Opened::covers, crate::specs::Opened::covers_parts))]
-    fn note_each(&mut self, rules: Rules, s: &Abs, t: &Abs)
-        ensures { IsNoted self.old.count self.new.count (covers s.now t.now) }
+    #[tactic(auto, unfolding(crate::specs::Opened::covers))]
+    fn note_each(&mut self, program: &Program<'_>, rules: Rules, s: &Abs, t: &Abs)
+        ensures { IsNoted self.old.count self.new.count (covers program.now s.now t.now) }
     {
+        let states = States::of(s);
         self.note_core(s.core(), t.core());
         self.note_relations(&s.core().registers, s.relations(), t.relations());
         self.note_items(rules, 0, s.items(), t.items());
-        self.note_cells(s.cells(), t.cells());
+        self.note_cells(program, &states, t.cells());
+        self.note_summary(program, &states, t);
     }
 
     /// The parts of s that t doesn't cover, by the comparisons of `covers`, in the words of the rules.
-    pub fn of(rules: Rules, s: &Abs, t: &Abs) -> Differences
+    pub fn of(program: &Program<'_>, rules: Rules, s: &Abs, t: &Abs) -> Differences
         // Where it lists nothing, t covers s.
-        ensures complete { result.count ≡ 0 → covers s.now t.now ≡ true }
+        ensures complete { result.count ≡ 0 → covers program.now s.now t.now ≡ true }
     {
         let mut found = Differences::none();
-        found.note_each(rules, s, t);
+        found.note_each(program, rules, s, t);
         found
     }
 }

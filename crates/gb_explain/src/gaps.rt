@@ -9,16 +9,22 @@ use crate::returns::return_gaps;
 use gb_ops::decode::decode;
 use gb_ops::op::Row;
 use gb_verify::{
-    Abs, Cert, NodeRef, Reason, Rom, Successor, Successors, Target, known_bytes, stack_of,
-    successors_of,
+    Abs, Cert, NodeRef, Program, Reason, Rom, Successor, Successors, Target, known_bytes,
+    program_of, stack_of, successors_of,
 };
 
 /// What is missing where a successor goes on: in its procedure, after a call, or in main.
-fn uncovered_gaps(cert: &Cert<'_>, procedure: u8, successor: &Successor<'_>) -> Option<Gaps> {
+fn uncovered_gaps(
+    program: &Program<'_>,
+    cert: &Cert<'_>,
+    procedure: u8,
+    successor: &Successor<'_>,
+) -> Option<Gaps> {
     match successor.target {
         Target::At(address) => {
             let after = After::Instruction;
             way_gaps(
+                program,
                 cert,
                 procedure,
                 GoesOn { after, address },
@@ -27,15 +33,22 @@ fn uncovered_gaps(cert: &Cert<'_>, procedure: u8, successor: &Successor<'_>) -> 
         }
         Target::Main(address) => {
             let after = After::Restart;
-            way_gaps(cert, 0, GoesOn { after, address }, &successor.state())
+            way_gaps(
+                program,
+                cert,
+                0,
+                GoesOn { after, address },
+                &successor.state(),
+            )
         }
-        Target::Call(address) => called_gaps(cert, procedure, address, successor),
+        Target::Call(address) => called_gaps(program, cert, procedure, address, successor),
         Target::Return | Target::Unknown | Target::Lost => None,
     }
 }
 
 /// What is missing of a successor of these states, by the reason.
 fn successor_gaps(
+    program: &Program<'_>,
     cert: &Cert<'_>,
     procedure: u8,
     reason: Reason,
@@ -44,35 +57,37 @@ fn successor_gaps(
 ) -> Option<Gaps> {
     let Some(successor) = way else { return None };
     match reason {
-        Reason::Depth => call_gaps(cert, procedure, successor),
-        Reason::Uncovered => uncovered_gaps(cert, procedure, successor),
-        Reason::Callee => callee_gaps(cert, procedure, successor),
-        Reason::Return => return_gaps(cert, procedure, state, successor),
+        Reason::Depth => call_gaps(program, cert, procedure, successor),
+        Reason::Uncovered => uncovered_gaps(program, cert, procedure, successor),
+        Reason::Callee => callee_gaps(program, cert, procedure, successor),
+        Reason::Return => return_gaps(program, cert, procedure, state, successor),
         _ => None,
     }
 }
 
 /// What is missing of the first successor against which the reason is.
 fn successors_gaps(
+    program: &Program<'_>,
     cert: &Cert<'_>,
     procedure: u8,
     reason: Reason,
     state: &Abs,
     ways: &Successors<'_>,
 ) -> Option<Gaps> {
-    let taken = successor_gaps(cert, procedure, reason, state, &ways.taken);
+    let taken = successor_gaps(program, cert, procedure, reason, state, &ways.taken);
     if taken.is_some() {
         return taken;
     }
-    let not_taken = successor_gaps(cert, procedure, reason, state, &ways.not_taken);
+    let not_taken = successor_gaps(program, cert, procedure, reason, state, &ways.not_taken);
     if not_taken.is_some() {
         return not_taken;
     }
-    successor_gaps(cert, procedure, reason, state, &ways.stays)
+    successor_gaps(program, cert, procedure, reason, state, &ways.stays)
 }
 
 /// What makes the stack too deep: the instruction itself, what it calls, or an interrupt's dispatch.
 fn depth_gaps(
+    program: &Program<'_>,
     cert: &Cert<'_>,
     node: &NodeRef<'_>,
     state: &Abs,
@@ -84,11 +99,11 @@ fn depth_gaps(
     if moved.is_some() {
         return moved;
     }
-    let called = successors_gaps(cert, procedure, Reason::Depth, state, ways);
+    let called = successors_gaps(program, cert, procedure, Reason::Depth, state, ways);
     if called.is_some() {
         return called;
     }
-    interrupt_gaps(cert, node, Reason::Depth, state)
+    interrupt_gaps(program, cert, node, Reason::Depth, state)
 }
 
 /// What is missing of a node, where the reason has to do with the stack's depth, with other nodes, with procedures or,
@@ -99,10 +114,18 @@ pub fn gaps_of(rom: &Rom<'_>, cert: &Cert<'_>, node: &NodeRef<'_>, reason: Reaso
     let bytes = known_bytes(rom, &state, node.address())?;
     let row = decode(&bytes)?;
     let procedure = node.procedure();
-    let ways = successors_of(stack_of(cert, procedure), rom, row, node.address(), &state);
+    let program = &program_of(rom, cert);
+    let ways = successors_of(
+        stack_of(cert, procedure),
+        program,
+        rom,
+        row,
+        node.address(),
+        &state,
+    );
     match reason {
-        Reason::Depth => depth_gaps(cert, node, &state, row, &ways),
-        Reason::Interrupt => interrupt_gaps(cert, node, reason, &state),
-        _ => successors_gaps(cert, procedure, reason, &state, &ways),
+        Reason::Depth => depth_gaps(program, cert, node, &state, row, &ways),
+        Reason::Interrupt => interrupt_gaps(program, cert, node, reason, &state),
+        _ => successors_gaps(program, cert, procedure, reason, &state, &ways),
     }
 }

@@ -6,7 +6,7 @@ use crate::depth::{called_too_deep, held_too_deep};
 use crate::gap::{After, GapKind, Gaps, GoesOn, TooDeep};
 use gb_spelling::{INTERRUPT_COUNT, vector_of};
 use gb_verify::{
-    Abs, Cert, NodeRef, Reason, Rules, Setting, left_by_dispatch, may_come, setting_of,
+    Abs, Cert, NodeRef, Program, Reason, Rules, Setting, left_by_dispatch, may_come, setting_of,
 };
 
 /// A node of a procedure, its state, and an interrupt that may come there.
@@ -27,7 +27,11 @@ impl<'a> Dispatch<'a> {
 }
 
 /// The bytes that a dispatch would hold, or that a handler would need besides, where they are too many.
-fn dispatch_too_deep(cert: &Cert<'_>, dispatch: &Dispatch<'_>) -> Option<TooDeep> {
+fn dispatch_too_deep(
+    program: &Program<'_>,
+    cert: &Cert<'_>,
+    dispatch: &Dispatch<'_>,
+) -> Option<TooDeep> {
     let Dispatch {
         setting,
         procedure,
@@ -41,6 +45,7 @@ fn dispatch_too_deep(cert: &Cert<'_>, dispatch: &Dispatch<'_>) -> Option<TooDeep
         return deep;
     }
     let handler = entered_at(
+        program,
         cert,
         setting,
         vector_of(dispatch.interrupt),
@@ -49,16 +54,22 @@ fn dispatch_too_deep(cert: &Cert<'_>, dispatch: &Dispatch<'_>) -> Option<TooDeep
     called_too_deep(rules, cert, procedure, held, handler)
 }
 
-fn deep_gaps(cert: &Cert<'_>, dispatch: &Dispatch<'_>) -> Option<Gaps> {
+fn deep_gaps(program: &Program<'_>, cert: &Cert<'_>, dispatch: &Dispatch<'_>) -> Option<Gaps> {
     if !dispatch.state.core().stack_set {
         return None;
     }
-    let deep = dispatch_too_deep(cert, dispatch)?;
+    let deep = dispatch_too_deep(program, cert, dispatch)?;
     Some(Gaps::plain(GapKind::TooDeep(deep)))
 }
 
 /// What is missing of a handler that is entered: its ranges, or what the procedure goes on with after it.
-fn handler_gaps(cert: &Cert<'_>, dispatch: &Dispatch<'_>, left: &Abs, handler: u8) -> Option<Gaps> {
+fn handler_gaps(
+    program: &Program<'_>,
+    cert: &Cert<'_>,
+    dispatch: &Dispatch<'_>,
+    left: &Abs,
+    handler: u8,
+) -> Option<Gaps> {
     let Dispatch {
         setting,
         procedure,
@@ -73,11 +84,11 @@ fn handler_gaps(cert: &Cert<'_>, dispatch: &Dispatch<'_>, left: &Abs, handler: u
         after: After::Handler(handler),
         address,
     };
-    back_gaps(cert, procedure, handler, way, left)
+    back_gaps(program, cert, procedure, handler, way, left)
 }
 
 /// What is missing of a dispatch that isn't provided for.
-fn unhandled_gaps(cert: &Cert<'_>, dispatch: &Dispatch<'_>) -> Option<Gaps> {
+fn unhandled_gaps(program: &Program<'_>, cert: &Cert<'_>, dispatch: &Dispatch<'_>) -> Option<Gaps> {
     let Dispatch {
         setting,
         procedure,
@@ -89,23 +100,29 @@ fn unhandled_gaps(cert: &Cert<'_>, dispatch: &Dispatch<'_>) -> Option<Gaps> {
     }
     let vector = vector_of(dispatch.interrupt);
     let left = dispatch.left();
-    match entered_at(cert, setting, vector, &left) {
-        Some(handler) => handler_gaps(cert, dispatch, &left, handler),
-        None => inlined_gaps(cert, setting, procedure, vector, &left),
+    match entered_at(program, cert, setting, vector, &left) {
+        Some(handler) => handler_gaps(program, cert, dispatch, &left, handler),
+        None => inlined_gaps(program, cert, setting, procedure, vector, &left),
     }
 }
 
 /// What is missing of a dispatch, by the reason.
-fn dispatch_gaps(cert: &Cert<'_>, reason: Reason, dispatch: &Dispatch<'_>) -> Option<Gaps> {
+fn dispatch_gaps(
+    program: &Program<'_>,
+    cert: &Cert<'_>,
+    reason: Reason,
+    dispatch: &Dispatch<'_>,
+) -> Option<Gaps> {
     match reason {
-        Reason::Depth => deep_gaps(cert, dispatch),
-        Reason::Interrupt => unhandled_gaps(cert, dispatch),
+        Reason::Depth => deep_gaps(program, cert, dispatch),
+        Reason::Interrupt => unhandled_gaps(program, cert, dispatch),
         _ => None,
     }
 }
 
 /// What is missing of the first interrupt that may come at a node in these states and against which the reason is.
 pub(crate) fn interrupt_gaps(
+    program: &Program<'_>,
     cert: &Cert<'_>,
     node: &NodeRef<'_>,
     reason: Reason,
@@ -125,7 +142,7 @@ pub(crate) fn interrupt_gaps(
             interrupt,
         };
         if may_come(interrupt, state.core()) {
-            if let Some(gaps) = dispatch_gaps(cert, reason, &dispatch) {
+            if let Some(gaps) = dispatch_gaps(program, cert, reason, &dispatch) {
                 return Some(Gaps {
                     interrupt: Some(interrupt),
                     ..gaps

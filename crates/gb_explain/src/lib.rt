@@ -3,7 +3,7 @@
 //!
 //! Read `refusal`, then `explanation`, and `gaps`, which finds what the certificate lacks, with `depth`, `covering`, `calls`,
 //! `returns` and `interrupts`; `differences` has the parts of a state that another state doesn't cover. `advice` has the texts of
-//! all findings, those of gb_reports too, `reasons` which of them each reason gets, `told`, `difference` and `together` the
+//! all findings, those of gb_reports too, `reasons` which of them each reason gets, `told`, `difference`, `together` and `said` the
 //! texts of gaps. Of the texts nothing is promised but by tests.
 #![tactic(auto)]
 
@@ -21,6 +21,7 @@ mod interrupts;
 mod reasons;
 mod refusal;
 mod returns;
+mod said;
 mod together;
 mod told;
 
@@ -33,6 +34,7 @@ pub use gap::{
     After, Amount, Claim, Gap, GapKind, Gaps, GoesOn, TooDeep, Uncallable, Uncovered, Unreturnable,
 };
 pub use refusal::explain;
+pub use said::Said;
 
 // What lies below, for the crates above.
 pub use gb_spelling::{
@@ -43,6 +45,7 @@ pub use gb_verify::upgrade::{UpgradeTo, Upgraded, upgrade_bytes};
 pub use gb_verify::verdict::Verdict;
 pub use gb_verify::verify::{Outcome, verify_bytes};
 pub use gb_verify::{
-    Abs, Cert, HeaderFault, NodeRef, Origin, Plain, Range, Rom, Rules, Successor, Target, Val,
-    callee_at, handler, known_bytes, may_come, setting_of, stack_of, successors_of, taken_by,
+    Abs, Cert, HeaderFault, NodeRef, Origin, Plain, Program, Range, Rom, Rules, Successor, Target,
+    Val, callee_at, handler, known_bytes, may_come, program_of, setting_of, stack_of,
+    successors_of, taken_by,
 };

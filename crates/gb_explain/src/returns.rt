@@ -3,7 +3,7 @@
 use crate::Differences;
 use crate::gap::{Amount, Claim, Gap, GapKind, Gaps, Unreturnable};
 use gb_verify::{
-    Abs, Cert, Halves, Rules, Setting, Successor, Target, covers, exit_of, setting_of,
+    Abs, Cert, Halves, Program, Rules, Setting, Successor, Target, covers, exit_of, setting_of,
 };
 
 fn plain(unreturnable: Unreturnable) -> Gaps {
@@ -11,24 +11,31 @@ fn plain(unreturnable: Unreturnable) -> Gaps {
 }
 
 /// What is missing of an exit. By the rules of versions 1 and 2 nothing may be held then.
-fn exit_gaps(rules: Rules, procedure: u8, state: &Abs, exit: &Abs) -> Option<Gaps> {
+fn exit_gaps(
+    program: &Program<'_>,
+    rules: Rules,
+    procedure: u8,
+    state: &Abs,
+    exit: &Abs,
+) -> Option<Gaps> {
     let held = state.items().len();
     if rules == Rules::Simple && held != 0 {
         return Some(plain(Unreturnable::Held {
             held: Amount::of(rules, held),
         }));
     }
-    if covers(state, exit) {
+    if covers(program, state, exit) {
         return None;
     }
     Some(Gaps::of(Gap {
         kind: GapKind::Unreturnable(Unreturnable::Exit { procedure }),
-        compared: Some((Claim::Exit, Differences::of(rules, state, exit))),
+        compared: Some((Claim::Exit, Differences::of(program, rules, state, exit))),
     }))
 }
 
 /// What is missing where the procedure returns.
 fn back_gaps(
+    program: &Program<'_>,
     cert: &Cert<'_>,
     setting: Setting,
     procedure: u8,
@@ -39,7 +46,7 @@ fn back_gaps(
     }
     match exit_of(cert, procedure) {
         None => Some(plain(Unreturnable::NoExit { procedure })),
-        Some(exit) => exit_gaps(setting.rules, procedure, &successor.state(), &exit),
+        Some(exit) => exit_gaps(program, setting.rules, procedure, &successor.state(), &exit),
     }
 }
 
@@ -65,6 +72,7 @@ fn lost_gaps(setting: Setting, state: &Abs) -> Gaps {
 
 /// What is missing of a return from these states.
 pub(crate) fn return_gaps(
+    program: &Program<'_>,
     cert: &Cert<'_>,
     procedure: u8,
     state: &Abs,
@@ -72,7 +80,7 @@ pub(crate) fn return_gaps(
 ) -> Option<Gaps> {
     let setting = setting_of(cert, procedure);
     match successor.target {
-        Target::Return => back_gaps(cert, setting, procedure, successor),
+        Target::Return => back_gaps(program, cert, setting, procedure, successor),
         Target::Lost => Some(lost_gaps(setting, state)),
         Target::At(_) | Target::Call(_) | Target::Main(_) | Target::Unknown => None,
     }

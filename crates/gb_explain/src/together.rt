@@ -6,7 +6,7 @@ use gb_verify::{Link, OneByte, Other, PairFacts, Relations, Test, WordPair};
 use std::fmt;
 
 /// All registers.
-const REGISTERS: [Register; 7] = [
+pub(crate) const REGISTERS: [Register; 7] = [
     Register::A,
     Register::B,
     Register::C,

@@ -2,8 +2,8 @@
 
 use crate::interrupt::{INTERRUPTS, Interrupt};
 use gb_explain::{
-    Abs, Cert, NodeRef, Rom, Rules, Successor, Target, callee_at, handler, known_bytes, may_come,
-    setting_of, stack_of, successors_of, taken_by,
+    Abs, Cert, NodeRef, Program, Rom, Rules, Successor, Target, callee_at, handler, known_bytes,
+    may_come, program_of, setting_of, stack_of, successors_of, taken_by,
 };
 use gb_ops::decode::decode;
 use std::alloc::{AllocError, Global};
@@ -130,6 +130,7 @@ fn waiting_in_dispatch(cert: &Cert<'_>, held: u16, callee: Option<u8>) -> u16 {
 
 /// The call that a successor is.
 fn call_of(
+    program: &Program<'_>,
     cert: &Cert<'_>,
     caller: u8,
     node: u32,
@@ -139,7 +140,7 @@ fn call_of(
     let Target::Call(_) = successor.target else {
         return None;
     };
-    let callee = callee_at(cert, setting_of(cert, caller), successor);
+    let callee = callee_at(program, cert, setting_of(cert, caller), successor);
     let held = successor.state().items().len() as u16;
     Some(CallLink {
         caller,
@@ -162,12 +163,15 @@ fn call_at(
     let bytes = known_bytes(rom, state, node.address())?;
     let row = decode(&bytes)?;
     let caller = node.procedure();
-    let ways = successors_of(stack_of(cert, caller), rom, row, node.address(), state);
-    call_of(cert, caller, number, &ways.taken)
+    let program = program_of(rom, cert);
+    let stack = stack_of(cert, caller);
+    let ways = successors_of(stack, &program, rom, row, node.address(), state);
+    call_of(&program, cert, caller, number, &ways.taken)
 }
 
 /// The interrupt that may come at a node.
 fn interrupt_at(
+    program: &Program<'_>,
     cert: &Cert<'_>,
     number: u32,
     node: &NodeRef<'_>,
@@ -180,7 +184,7 @@ fn interrupt_at(
     }
     let caller = node.procedure();
     let setting = setting_of(cert, caller);
-    let callee = handler(cert, setting, bit, node.address(), state);
+    let callee = handler(program, cert, setting, bit, node.address(), state);
     Some(CallLink {
         caller,
         callee,
@@ -193,6 +197,7 @@ fn interrupt_at(
 
 /// Adds the interrupts that may come at a node.
 fn add_interrupts(
+    program: &Program<'_>,
     cert: &Cert<'_>,
     number: u32,
     node: &NodeRef<'_>,
@@ -203,7 +208,7 @@ fn add_interrupts(
         return Ok(());
     }
     for interrupt in INTERRUPTS {
-        if let Some(link) = interrupt_at(cert, number, node, state, *interrupt) {
+        if let Some(link) = interrupt_at(program, cert, number, node, state, *interrupt) {
             links.add(link)?;
         }
     }
@@ -222,5 +227,5 @@ pub(crate) fn add_links(
     if let Some(link) = call_at(rom, cert, number, node, state) {
         links.add(link)?;
     }
-    add_interrupts(cert, number, node, state, links)
+    add_interrupts(&program_of(rom, cert), cert, number, node, state, links)
 }

@@ -1,8 +1,8 @@
 //! To which node an instruction leads.
 
 use gb_explain::{
-    Abs, Cert, NodeRef, Rom, Successor, Target, callee_at, known_bytes, setting_of, stack_of,
-    successors_of,
+    Abs, Cert, NodeRef, Program, Rom, Successor, Target, callee_at, known_bytes, program_of,
+    setting_of, stack_of, successors_of,
 };
 use gb_ops::decode::decode;
 
@@ -26,12 +26,22 @@ fn entry_of(cert: &Cert<'_>, callee: u8) -> Option<u32> {
 }
 
 /// The node to which a successor leads, if that isn't the instruction behind.
-fn target_in(cert: &Cert<'_>, procedure: u8, way: &Option<Successor<'_>>) -> Option<u32> {
+fn target_in(
+    program: &Program<'_>,
+    cert: &Cert<'_>,
+    procedure: u8,
+    way: &Option<Successor<'_>>,
+) -> Option<u32> {
     let Some(successor) = way else { return None };
     match successor.target {
         Target::At(address) if address != successor.next => node_at(cert, procedure, address),
         Target::Main(address) => node_at(cert, 0, address),
-        Target::Call(address) => match callee_at(cert, setting_of(cert, procedure), successor) {
+        Target::Call(address) => match callee_at(
+            program,
+            cert,
+            setting_of(cert, procedure),
+            successor,
+        ) {
             Some(callee) => entry_of(cert, callee),
             None => node_at(cert, procedure, address),
         },
@@ -44,6 +54,8 @@ pub fn target_of(rom: &Rom<'_>, cert: &Cert<'_>, node: &NodeRef<'_>, state: &Abs
     let bytes = known_bytes(rom, state, node.address())?;
     let row = decode(&bytes)?;
     let procedure = node.procedure();
-    let ways = successors_of(stack_of(cert, procedure), rom, row, node.address(), state);
-    target_in(cert, procedure, &ways.taken)
+    let program = program_of(rom, cert);
+    let stack = stack_of(cert, procedure);
+    let ways = successors_of(stack, &program, rom, row, node.address(), state);
+    target_in(&program, cert, procedure, &ways.taken)
 }

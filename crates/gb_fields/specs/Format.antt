@@ -42,6 +42,14 @@ if_passes e false x rest = Err e
 abbrev pub checked : {X : Type 0} → CertFault → (X → Bool) → Read X → Read X
 checked e p r bytes = go_on (r bytes) (λ x rest. if_passes e (p x) x rest)
 
+abbrev pub if_faultless : {X : Type 0} → Option CertFault → X → List ℕ → Result (X × List ℕ) CertFault
+if_faultless None x rest = Ok (x, rest)
+if_faultless (Some e) x rest = Err e
+
+-- a field in which nothing may be wrong, by a test that says what is
+abbrev pub faultless : {X : Type 0} → (X → Option CertFault) → Read X → Read X
+faultless fault_of r bytes = go_on (r bytes) (λ x rest. if_faultless (fault_of x) x rest)
+
 -- a field that is there or not
 abbrev pub optional : {X : Type 0} → Bool → Read X → Read (Option X)
 optional true r = mapped Some r

@@ -43,3 +43,31 @@ need_limit Extended = 8192
 unfoldable pub origin_limit : Rules → ℕ
 origin_limit Simple = 9
 origin_limit Extended = 11
+
+-- ---- version 4
+
+-- procedures: as many as two bytes count, or as in versions 1 to 3
+abbrev pub procedure_limit_by : Bool → ℕ
+procedure_limit_by true = 65535
+procedure_limit_by false = procedure_limit
+
+-- facts
+abbrev pub fact_limit : ℕ
+fact_limit = 4096
+
+-- fills of a state
+abbrev pub fill_limit : ℕ
+fill_limit = 8
+
+-- addresses that a procedure names to be kept
+abbrev pub kept_limit : ℕ
+kept_limit = 16
+
+-- those of main, which names none, or of another procedure
+abbrev pub kept_room : Bool → ℕ
+kept_room true = 0
+kept_room false = kept_limit
+
+-- procedures, main apart, whose entry nodes have one address
+abbrev pub namesake_limit : ℕ
+namesake_limit = 1024

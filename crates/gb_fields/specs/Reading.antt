@@ -1,15 +1,16 @@
 -- Reading the numbers of a certificate, its head, and the fields of procedures and nodes outside their states (own format). A test of two fields is made behind the later one.
-use Rattle.std.specs.Prelude.{ℕ, ◌+◌, ◌*◌, Bool, true, false, ◌&&◌, ◌||◌, not, ◌==◌, nat_le, nat_lt, Ok}
+use Rattle.std.specs.Prelude.{ℕ, ◌+◌, ◌*◌, ◌%◌, Bool, true, false, ◌&&◌, ◌||◌, not, ◌==◌, nat_le, nat_lt, Ok}
 use Rattle.gb_ops.specs.declared.machine.Region.{Region}
 use Rattle.gb_fields.specs.declared.fault.CertFault.TheVariants as fault
 use Rattle.gb_fields.specs.declared.head.Head.{Head}
+use Rattle.gb_fields.specs.declared.head.AnyHead.{AnyHead}
 use Rattle.gb_domain.specs.declared.rules.Rules.{Rules}
 use Rattle.gb_domain.specs.declared.rules.Rules.TheVariants.{Simple, Extended}
 use Rattle.gb_fields.specs.Limits.{procedure_limit, node_limit, unit, need_limit}
 use Rattle.gb_fields.specs.Format.{Read, followed, both, mapped, checked, byte}
 use Rattle.gb_domain.specs.Areas.{is_area}
 use Rattle.gb_domain.specs.Limits.{rules_of}
-use Rattle.gb_fields.specs.Rules.{size, fits, usual_base, is_base, is_whole, is_from, is_version_of}
+use Rattle.gb_fields.specs.Rules.{size, fits, usual_base, is_base, is_whole, is_from, is_version_of, is_any_version_of, any_rules_of}
 
 -- ---- numbers
 
@@ -51,6 +52,18 @@ word_between low high = checked fault.Field (is_between low high) word
 -- how many there are
 abbrev pub count_within : ℕ → Read ℕ
 count_within limit = checked fault.Count (is_between 0 limit) byte
+
+-- the same, in two bytes
+abbrev pub word_count_within : ℕ → Read ℕ
+word_count_within limit = checked fault.Count (is_between 0 limit) word
+
+-- half of all words more, around the end: a word in two's complement as one in offset binary, and back
+abbrev pub turned : ℕ → ℕ
+turned n = (n + 32768) % 65536
+
+-- a distance, which is spelled in two's complement, in offset binary
+unfoldable pub offset_at : Read ℕ
+offset_at = mapped turned word
 
 abbrev pub is_one : ℕ → Bool
 is_one n = n == 1
@@ -140,3 +153,24 @@ node_count_at version = checked fault.Field is_any (checked fault.Count (is_betw
 
 unfoldable pub head_at : Read Head
 head_at = mapped to_head (followed version_at (λ v. both (region_at (rules_of v)) (both (checked fault.Field is_any (count_within procedure_limit)) (node_count_at v))))
+
+-- ---- the head of a certificate of any version
+
+-- the letters, and a version that they begin, version 4 too
+unfoldable pub any_version_at : Read ℕ
+any_version_at = mapped (λ p. p.1) (followed magic_at (λ rules. checked fault.Version (is_any_version_of rules) byte))
+
+abbrev pub procedure_count_by : Bool → Read ℕ
+procedure_count_by true = word
+procedure_count_by false = count_within procedure_limit
+
+-- how many procedures there are: in one byte, or in version 4 in two
+unfoldable pub procedure_count_at : ℕ → Read ℕ
+procedure_count_at version = checked fault.Field is_any (procedure_count_by (version == 4))
+
+unfoldable pub any_head_at : Read Head
+any_head_at = mapped to_head (followed any_version_at (λ v. both (region_at (any_rules_of v)) (both (procedure_count_at v) (node_count_at v))))
+
+-- what contracts see of a head that was read
+abbrev pub head_in : AnyHead → Head
+head_in h = record { version = h.version; region = h.region; procedures = h.procedures; nodes = h.nodes }

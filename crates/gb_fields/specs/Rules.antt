@@ -3,6 +3,7 @@ use Rattle.std.specs.Prelude.{ℕ, ◌+◌, ◌-◌, ◌%◌, Bool, true, false,
 use Rattle.gb_ops.specs.declared.machine.Region.{Region}
 use Rattle.gb_domain.specs.declared.rules.Rules.{Rules}
 use Rattle.gb_domain.specs.declared.rules.Rules.TheVariants.{Simple, Extended}
+use Rattle.gb_domain.specs.Limits.{rules_of}
 use Rattle.gb_fields.specs.Limits.{unit}
 
 abbrev pub is_version : ℕ → Bool
@@ -12,6 +13,23 @@ is_version n = n == 1 || (n == 2 || n == 3)
 abbrev pub is_version_of : Rules → ℕ → Bool
 is_version_of Simple n = n == 1 || n == 2
 is_version_of Extended n = n == 3
+
+-- version 4 too
+abbrev pub is_any_version : ℕ → Bool
+is_any_version n = is_version n || n == 4
+
+-- Files of version 4 begin with the letters of version 3.
+abbrev pub is_any_version_of : Rules → ℕ → Bool
+is_any_version_of Simple n = is_version_of Simple n
+is_any_version_of Extended n = is_version_of Extended n || n == 4
+
+abbrev pub any_rules_by : Bool → ℕ → Rules
+any_rules_by true version = Extended
+any_rules_by false version = rules_of version
+
+-- By which rules a version reads the fields that versions 3 and 4 have in common: version 4 reads them as version 3 does.
+abbrev pub any_rules_of : ℕ → Rules
+any_rules_of version = any_rules_by (version == 4) version
 
 -- how many bytes it has
 abbrev pub size : Region → ℕ

@@ -1,10 +1,10 @@
 //! The head of a certificate.
 
-ghost use Rattle.std.specs.Prelude.{◌≡◌, ◌&&◌, nat_le};
+ghost use Rattle.std.specs.Prelude.{◌≡◌, ◌==◌, ◌&&◌, nat_le};
 ghost use Rattle.gb_fields.specs.Format.{Gives};
 ghost use Rattle.gb_domain.specs.Areas.{is_area};
-ghost use Rattle.gb_fields.specs.Rules.{is_version_of, is_whole};
-ghost use Rattle.gb_fields.specs.Reading.{magic_at, version_at, is_region, region_at, node_count_at, head_at};
+ghost use Rattle.gb_fields.specs.Rules.{is_version_of, is_whole, is_any_version_of, any_rules_of};
+ghost use Rattle.gb_fields.specs.Reading.{magic_at, version_at, is_region, region_at, node_count_at, head_at, any_version_at, procedure_count_by, procedure_count_at, head_in, any_head_at};
 
 use crate::fault::CertFault;
 use crate::limits::{PROCEDURE_LIMIT, node_limit};
@@ -19,6 +19,15 @@ pub struct Head {
     pub version: u8,
     pub region: Region,
     pub procedures: u8,
+    pub nodes: u32,
+}
+
+/// The same in a certificate of any version: in version 4 two bytes say how many procedures there are.
+#[derive(Clone, Copy)]
+pub struct AnyHead {
+    pub version: u8,
+    pub region: Region,
+    pub procedures: u16,
     pub nodes: u32,
 }
 
@@ -127,6 +136,80 @@ pub fn head_at(bytes: &[u8]) -> Result<(Head, &[u8]), CertFault>
     }
     let (nodes, rest) = node_count_at(version, rest)?;
     let head = Head {
+        version,
+        region,
+        procedures,
+        nodes,
+    };
+    Ok((head, rest))
+}
+
+// ---- certificates of any version
+
+/// Whether files with these letters have this version, version 4 too.
+fn is_any_version_of(rules: Rules, version: u8) -> bool
+    ensures { result ≡ is_any_version_of rules version }
+{
+    is_version_of(rules, version) || matches!(rules, Rules::Extended) && version == 4
+}
+
+/// The letters, and a version that they begin, version 4 too.
+#[tactic(auto, unfolding(crate::specs::Reading::any_version_at))]
+pub fn any_version_at(bytes: &[u8]) -> Result<(u8, &[u8]), CertFault>
+    ensures { Gives (λ x. (x.0, x.1.now)) result (any_version_at bytes.now) }
+{
+    let (rules, rest) = magic_at(bytes)?;
+    let (version, rest) = byte(rest)?;
+    if !is_any_version_of(rules, version) {
+        return Err(CertFault::Version);
+    }
+    Ok((version, rest))
+}
+
+/// By which rules a version reads the fields that versions 3 and 4 have in common.
+pub fn any_rules_of(version: u8) -> Rules
+    ensures { result ≡ any_rules_of version }
+{
+    if version == 4 {
+        Rules::Extended
+    } else {
+        Rules::of(version)
+    }
+}
+
+/// A number of procedures: in one byte, or in version 4 in two.
+fn procedure_number_at(version: u8, bytes: &[u8]) -> Result<(u16, &[u8]), CertFault>
+    ensures { Gives (λ x. (x.0, x.1.now)) result (procedure_count_by (version == 4) bytes.now) }
+{
+    if version == 4 {
+        word(bytes)
+    } else {
+        let (count, rest) = count_within(PROCEDURE_LIMIT, bytes)?;
+        Ok((count as u16, rest))
+    }
+}
+
+/// How many procedures there are.
+#[tactic(auto, unfolding(crate::specs::Reading::procedure_count_at))]
+fn procedure_count_at(version: u8, bytes: &[u8]) -> Result<(u16, &[u8]), CertFault>
+    ensures { Gives (λ x. (x.0, x.1.now)) result (procedure_count_at version bytes.now) }
+{
+    let (count, rest) = procedure_number_at(version, bytes)?;
+    if count == 0 {
+        return Err(CertFault::Field);
+    }
+    Ok((count, rest))
+}
+
+#[tactic(auto, unfolding(crate::specs::Reading::any_head_at))]
+pub fn any_head_at(bytes: &[u8]) -> Result<(AnyHead, &[u8]), CertFault>
+    ensures { Gives (λ x. (head_in x.0, x.1.now)) result (any_head_at bytes.now) }
+{
+    let (version, rest) = any_version_at(bytes)?;
+    let (region, rest) = region_at(any_rules_of(version), rest)?;
+    let (procedures, rest) = procedure_count_at(version, rest)?;
+    let (nodes, rest) = node_count_at(version, rest)?;
+    let head = AnyHead {
         version,
         region,
         procedures,

@@ -19,6 +19,18 @@ pub const WORD_LIMIT: u16 = 4096;
 /// The most bytes of stack that a procedure needs.
 pub const NEED_LIMIT: u16 = 8192;
 
+/// The most facts, in version 4.
+pub const FACT_LIMIT: u16 = 4096;
+
+/// The most fills of a state, in version 4.
+pub const FILL_LIMIT: u8 = 8;
+
+/// The most addresses that a procedure but main names to be kept, in version 4. Main names none.
+pub const KEPT_LIMIT: u8 = 16;
+
+/// The most procedures but main whose entry nodes have one address, in version 4.
+pub const NAMESAKE_LIMIT: u16 = 1024;
+
 /// The most ranges of main, or of another procedure.
 #[inline(always)]
 #[tactic(auto, unfolding(crate::specs::Limits::range_room))]

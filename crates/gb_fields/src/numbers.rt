@@ -2,7 +2,7 @@
 
 ghost use Rattle.std.specs.Prelude.{◌≡◌, ◌≤◌, ◌*◌, ◌++◌, ◌∷◌, ◌&&◌, ℕ, List, length, nat_le, drop};
 ghost use Rattle.gb_fields.specs.Format.{Gives, byte};
-ghost use Rattle.gb_fields.specs.Reading.{word, quad, node_number, byte_between, word_between, count_within, yes_no};
+ghost use Rattle.gb_fields.specs.Reading.{word, quad, node_number, byte_between, word_between, count_within, word_count_within, offset_at, yes_no};
 
 use crate::fault::CertFault;
 use byteorder::{ByteOrder, LittleEndian};
@@ -100,6 +100,27 @@ pub fn count_within(limit: u8, bytes: &[u8]) -> Result<(u8, &[u8]), CertFault>
     } else {
         Err(CertFault::Count)
     }
+}
+
+/// A count of at most the limit, in two bytes.
+pub fn word_count_within(limit: u16, bytes: &[u8]) -> Result<(u16, &[u8]), CertFault>
+    ensures { Gives (λ x. (x.0, x.1.now)) result (word_count_within limit bytes.now) }
+{
+    let (count, rest) = word(bytes)?;
+    if count <= limit {
+        Ok((count, rest))
+    } else {
+        Err(CertFault::Count)
+    }
+}
+
+/// A distance, which is spelled in two's complement, in offset binary.
+#[tactic(auto, unfolding(crate::specs::Reading::offset_at))]
+pub fn offset_at(bytes: &[u8]) -> Result<(u16, &[u8]), CertFault>
+    ensures { Gives (λ x. (x.0, x.1.now)) result (offset_at bytes.now) }
+{
+    let (distance, rest) = word(bytes)?;
+    Ok((distance.wrapping_add(32_768), rest))
 }
 
 #[inline(always)]

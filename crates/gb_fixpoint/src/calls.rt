@@ -10,7 +10,7 @@ use crate::register_set::RegisterSet;
 use crate::stop::RunStop;
 use crate::tracking::keep_tracked;
 use crate::types::{CallSite, Run, RunProcedure};
-use gb_verify::{Abs, Core, Range, Resumed, Rules, enter, resume};
+use gb_verify::{Abs, Core, Program, Range, Resumed, Rules, enter, resume};
 use std::collections::BTreeSet;
 use std::mem;
 
@@ -59,9 +59,26 @@ impl<'a> Run<'a> {
         caller: &Abs,
         back: u16,
     ) -> Result<(), RunStop> {
-        match self.resumed(callee, caller) {
-            Some(mut resumed) => self.flow(number, back, &mut resumed),
+        let Some(called) = self.procedures.get(callee) else {
+            return Ok(());
+        };
+        match &called.exit {
+            Some(exit) => {
+                let taken = called.key.taken;
+                let ranges = called.ranges.as_slice();
+                let program = Program::unknown();
+                let resumed = resume(&program, self.rules(), taken, ranges, caller, exit);
+                self.go_on_with(number, back, resumed)
+            }
             None => Ok(()),
+        }
+    }
+
+    /// A node goes on with what is left by a callee.
+    fn go_on_with(&mut self, number: usize, back: u16, resumed: Resumed) -> Result<(), RunStop> {
+        match resumed {
+            Resumed::States(mut state) => self.flow(number, back, &mut state),
+            Resumed::Nothing | Resumed::TooDeep => Ok(()),
         }
     }
 
@@ -164,17 +181,6 @@ impl<'a> Run<'a> {
             }
         }
         Ok(false)
-    }
-
-    /// What the caller goes on with behind a callee, if that has returned yet.
-    fn resumed(&self, callee: usize, caller: &Abs) -> Option<Abs> {
-        let called = self.procedures.get(callee)?;
-        let exit = called.exit.as_ref()?;
-        let taken = called.key.taken;
-        match resume(self.rules(), taken, called.ranges.as_slice(), caller, exit) {
-            Resumed::States(resumed) => Some(resumed),
-            Resumed::Nothing | Resumed::TooDeep => None,
-        }
     }
 
     /// What a callee may write its caller may write too; by the rules of version 3 main may write everywhere.

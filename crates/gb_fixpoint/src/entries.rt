@@ -6,7 +6,9 @@ use crate::instruction::decoded;
 use crate::tracking::keep_tracked;
 use crate::types::Run;
 use gb_spelling::INTERRUPT_COUNT;
-use gb_verify::{Abs, Successor, Target, enter, left_by_dispatch, may_come, successors_of};
+use gb_verify::{
+    Abs, Program, Successor, Target, enter, left_by_dispatch, may_come, successors_of,
+};
 use std::alloc::AllocError;
 
 /// What a node enters, and where.
@@ -32,7 +34,15 @@ impl<'a> Run<'a> {
         };
         if let Ok(row) = decoded(self.rom, &node.state, node.key.address) {
             let stack = self.stack_of(node.key.procedure);
-            let ways = successors_of(stack, self.rom, row, node.key.address, &node.state);
+            let program = Program::unknown();
+            let ways = successors_of(
+                stack,
+                &program,
+                self.rom,
+                row,
+                node.key.address,
+                &node.state,
+            );
             let caller = node.key.procedure;
             let taken = self.called_by(caller, &ways.taken);
             let not_taken = self.called_by(caller, &ways.not_taken);

@@ -167,6 +167,27 @@ fn seen(ranges: &[Range], exit: &Abs) -> Abs {
 impl<'a> Run<'a> {
     /// A procedure's exit becomes one above it and a state. Where its callers see that it grew, they go on again.
     pub(crate) fn exit(&mut self, procedure: usize, state: &Abs) -> Result<(), RunStop> {
+        if self.is_held_by_exit(procedure, state) {
+            Ok(())
+        } else {
+            self.grow_exit(procedure, state)
+        }
+    }
+
+    /// Whether a procedure's exit holds a state already.
+    fn is_held_by_exit(&self, procedure: usize, state: &Abs) -> bool {
+        match self.procedures.get(procedure) {
+            Some(left) => match &left.exit {
+                Some(exit) => is_covered(state, exit),
+                None => false,
+            },
+            None => true,
+        }
+    }
+
+    /// A procedure's exit grows to hold a state. Out of line: room for states is cleared only then.
+    #[inline(never)]
+    fn grow_exit(&mut self, procedure: usize, state: &Abs) -> Result<(), RunStop> {
         let Some(exit) = self.grown_exit(procedure, state) else {
             return Ok(());
         };
@@ -181,15 +202,12 @@ impl<'a> Run<'a> {
         Ok(())
     }
 
-    /// A procedure's exit with one more state; None where it covers that already.
+    /// A procedure's exit with one more state.
     fn grown_exit(&self, procedure: usize, state: &Abs) -> Option<Abs> {
         let left = self.procedures.get(procedure)?;
         let Some(exit) = &left.exit else {
             return Some(state.copied());
         };
-        if is_covered(state, exit) {
-            return None;
-        }
         let growth = if left.growths > PAIR_GROWTHS {
             Growth::WidenedWithoutPairs
         } else if left.growths > EXIT_GROWTHS {

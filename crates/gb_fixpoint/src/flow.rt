@@ -42,9 +42,22 @@ impl<'a> Run<'a> {
             target: self.target(procedure),
             point,
         };
-        let Some(register) = self.split_register(place, state.core()) else {
-            return self.arrive_peeled(from, procedure, place, state);
-        };
+        match self.split_register(place, state.core()) {
+            Some(register) => self.arrive_by_value(from, procedure, place, register, state),
+            None => self.arrive_peeled(from, procedure, place, state),
+        }
+    }
+
+    /// A state arrives value by value of a register. Out of line, as the functions below: room for states is cleared only then.
+    #[inline(never)]
+    fn arrive_by_value(
+        &mut self,
+        from: usize,
+        procedure: usize,
+        place: TargetPlace,
+        register: Register,
+        state: &Abs,
+    ) -> Result<(), RunStop> {
         let val = state.core().registers.get(register);
         for value in val.lo..=val.hi {
             if let Some(single) = self.with_bounds(register, value, value, state) {
@@ -62,9 +75,22 @@ impl<'a> Run<'a> {
         place: TargetPlace,
         state: &Abs,
     ) -> Result<(), RunStop> {
-        let Some(register) = self.peeled_register(place, state.core()) else {
-            return self.arrive_at(from, procedure, place, state);
-        };
+        match self.peeled_register(place, state.core()) {
+            Some(register) => self.arrive_in_two(from, procedure, place, register, state),
+            None => self.arrive_at(from, procedure, place, state),
+        }
+    }
+
+    /// A state arrives in two parts: those in which a register is 0, and those in which it isn't.
+    #[inline(never)]
+    fn arrive_in_two(
+        &mut self,
+        from: usize,
+        procedure: usize,
+        place: TargetPlace,
+        register: Register,
+        state: &Abs,
+    ) -> Result<(), RunStop> {
         let last = state.core().registers.get(register).hi;
         for (lo, hi) in [(0, 0), (1, last)] {
             if let Some(part) = self.with_bounds(register, lo, hi, state) {
@@ -290,10 +316,18 @@ impl<'a> Run<'a> {
             probed.push(Arrival::Node(key))?;
             return Ok(());
         }
-        if let Some(number) = self.node_index.get(&key) {
-            let number = *number;
-            return self.grow(number, state);
+        match self.node_index.get(&key) {
+            Some(number) => {
+                let number = *number;
+                self.grow(number, state)
+            }
+            None => self.add_node(via, key, state),
         }
+    }
+
+    /// A state is the first one of a key.
+    #[inline(never)]
+    fn add_node(&mut self, via: Option<usize>, key: NodeKey, state: &Abs) -> Result<(), RunStop> {
         let number = self.nodes.len();
         self.node_index.insert(key, number)?;
         let spot = Spot {
@@ -328,6 +362,7 @@ impl<'a> Run<'a> {
     }
 
     /// Lets a node grow to hold a state that it doesn't hold yet.
+    #[inline(never)]
     fn grow_to_hold(&mut self, number: usize, state: &Abs) -> Result<(), RunStop> {
         let Some(node) = self.nodes.get(number) else {
             return Ok(());
@@ -348,6 +383,7 @@ impl<'a> Run<'a> {
     }
 
     /// A node's state is widened.
+    #[inline(never)]
     fn widen(&mut self, number: usize, growth: Growth, state: &Abs) -> Result<(), RunStop> {
         let Some(node) = self.nodes.get(number) else {
             return Ok(());

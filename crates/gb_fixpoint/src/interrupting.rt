@@ -171,6 +171,7 @@ impl<'a> Run<'a> {
     }
 
     /// A handler comes at a node at an address, with something new.
+    #[inline(never)]
     fn dispatch_to(
         &mut self,
         number: usize,
@@ -280,6 +281,20 @@ impl<'a> Run<'a> {
         if is_held || !self.is_still_entered(node, handler) {
             return Ok(());
         }
+        self.go_behind_handler(number, handler, address)
+    }
+
+    /// A node at an address goes on behind a handler. Out of line: room for a state is cleared only then.
+    #[inline(never)]
+    fn go_behind_handler(
+        &mut self,
+        number: usize,
+        handler: usize,
+        address: u16,
+    ) -> Result<(), RunStop> {
+        let Some(node) = self.nodes.get(number) else {
+            return Ok(());
+        };
         let after = left_by_dispatch(self.rules(), address, &node.state);
         self.go_behind(number, handler, &after, address)
     }

@@ -62,8 +62,8 @@ pub use gb_verify::check::check;
 pub use gb_verify::verdict::Verdict;
 pub use gb_verify::{
     Abs, AbsRead, AbsWrite, Cell, Cert, Core, Ctl, Flg, ImeSet, May, NOTHING_KNOWN, NodeRef,
-    OneByte, Origin, PairFacts, Pairs, Range, Relations, Resumed, Rom, Rules, Span, Stack,
+    OneByte, Origin, PairFacts, Pairs, Program, Range, Relations, Resumed, Rom, Rules, Span, Stack,
     Successor, Successors, Target, Val, any, callee_at, cell_at, check_irqs, check_node, covers,
     covers_core, enter, exit_of, handler, is_ram, known_bank, known_bytes, left_by_dispatch,
-    may_come, ranges_of, resume, stack_of, successors_of, taken_by,
+    may_come, program_of, ranges_of, resume, stack_of, successors_of, taken_by,
 };

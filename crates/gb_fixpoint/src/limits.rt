@@ -29,6 +29,9 @@ pub const STEPS_A_NODE: u64 = 200;
 /// The same where so many nodes are allowed that these are more steps than `ALL_STEPS`.
 pub const STEPS_A_NODE_OF_MANY: u64 = 10;
 
+/// How many steps all rounds together take at most from the first failure on that stands for good: the others are told as they are.
+pub const STEPS_STANDING: u64 = 400_000;
+
 /// From how many steps of a run on a round is dear.
 pub const DEAR_STEPS: u64 = 10_000;
 

@@ -153,6 +153,14 @@ fn link_to_register(
     None
 }
 
+/// Whether a pair has one value in each state, and moved from one to the other: else no link is sought.
+fn has_moved(pair: WordPair, before: KnownRelations<'_>, behind: KnownRelations<'_>) -> bool {
+    match (word_in(pair, before), word_in(pair, behind)) {
+        (Some(first), Some(second)) => first != second,
+        _ => false,
+    }
+}
+
 /// A link of a pair that holds in both states: with what is counted down first, and with another pair before its bytes,
 /// since a byte goes round where its pair goes on: a copy may end by either pointer, and the other one is known by it.
 fn inferred(
@@ -161,6 +169,9 @@ fn inferred(
     before: KnownRelations<'_>,
     behind: KnownRelations<'_>,
 ) -> Option<Link> {
+    if !has_moved(pair, before, behind) {
+        return None;
+    }
     link_to_pair(pair, linked, before, behind, true)
         .or(link_to_register(pair, before, behind, true))
         .or(link_to_pair(pair, linked, before, behind, false))

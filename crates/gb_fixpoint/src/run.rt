@@ -16,6 +16,7 @@ use gb_verify::check::core_at_power_up;
 use gb_verify::{Abs, Rom, Rules, known_bytes};
 use std::alloc::{AllocError, Global};
 use std::collections::{BTreeMap, BTreeSet, HashMap, HashSet};
+use std::mem;
 
 /// Where main begins.
 const START: CodePoint = CodePoint {
@@ -72,6 +73,7 @@ impl<'a> Run<'a> {
             failures: Vec::new(alloc),
             passed: Vec::new(alloc),
             wishes: Vec::new(alloc),
+            is_wish_left: false,
             last_step: u64::MAX,
             steps: 0,
             alloc,
@@ -120,6 +122,23 @@ impl<'a> Run<'a> {
             (Some(failure), _) => RunEnd::Failed(*failure),
             (None, Some(wish)) => RunEnd::Wanted(*wish),
             (None, None) => last,
+        }
+    }
+
+    /// A place is given up after the run: its failure is kept, as in a run that knows of it from the start. What the run comes to is
+    /// the next failure that it went past. None where there is no other, or a wish was met in between, so that another run is due.
+    pub fn stand(&mut self, place: TargetPlace) -> Result<Option<RunEnd>, AllocError> {
+        let passed = mem::replace(&mut self.passed, Vec::new(self.alloc));
+        for failure in &passed {
+            if self.place_of(failure.node) == Some(place) {
+                self.failures.push(*failure)?;
+            } else {
+                self.passed.push(*failure)?;
+            }
+        }
+        match self.passed.first() {
+            Some(next) if !self.is_wish_left => Ok(Some(RunEnd::Failed(*next))),
+            _ => Ok(None),
         }
     }
 
@@ -217,6 +236,7 @@ impl<'a> Run<'a> {
         if self.passed.is_empty() && !is_met {
             self.wishes.push(wish)?;
         }
+        self.is_wish_left = self.is_wish_left || !self.passed.is_empty();
         Ok(())
     }
 

@@ -7,7 +7,7 @@ use crate::stop::RunStop;
 use crate::tracking::keep_tracked;
 use crate::types::Run;
 use gb_ops::op::Op;
-use gb_verify::{Abs, Rules, Successor, Successors, Target, successors_of};
+use gb_verify::{Abs, Program, Rules, Successor, Successors, Target, successors_of};
 
 /// The bytes of a return word.
 const RETURN_WORD: usize = 2;
@@ -22,7 +22,8 @@ impl<'a> Run<'a> {
         let (procedure, address) = (node.key.procedure, node.key.address);
         let state = node.state.copied();
         let stack = self.stack_of(procedure);
-        let ways = successors_of(stack, self.rom, row, address, &state);
+        let program = Program::unknown();
+        let ways = successors_of(stack, &program, self.rom, row, address, &state);
         self.ask_behind(procedure, &ways)?;
         let standing = AtInstruction {
             stack,

@@ -8,7 +8,8 @@ use crate::relating::without_boxes;
 use arrayvec::ArrayVec;
 use gb_ops::registers::Registers;
 use gb_verify::{
-    Abs, Bounds, Cell, Core, PairFacts, Pairs, Relations, Rules, Val, any, cell_at, covers, reduced,
+    Abs, Bounds, Cell, Core, PairFacts, Pairs, Program, Relations, Rules, Val, any, cell_at,
+    covers, reduced,
 };
 use std::collections::BTreeSet;
 
@@ -253,7 +254,11 @@ fn cut(widened: Abs, new: &Abs) -> Abs {
     };
     let mut less = widened.with_core(product.core);
     less.set_relations(product.relations);
-    if covers(new, &less) { less } else { widened }
+    if covers(&Program::unknown(), new, &less) {
+        less
+    } else {
+        widened
+    }
 }
 
 /// The state, in which nothing more is known of pairs than their bytes.

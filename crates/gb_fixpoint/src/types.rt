@@ -193,6 +193,8 @@ pub struct Run<'a> {
     pub passed: Vec<Failure>,
     /// What it wants its configuration to say, once for each target.
     pub wishes: Vec<Wish>,
+    /// Whether it met a wish after a failure that it went past.
+    pub(crate) is_wish_left: bool,
     /// How many nodes are stepped at most, once there is one of these.
     pub(crate) last_step: u64,
     /// How many nodes were stepped.

@@ -64,8 +64,8 @@ pub use gb_events::{
 
 // Certificates.
 pub use gb_cert::{
-    Cert, CertFault, Found, NodePlan, NodeRef, ProcedurePlan, ProcedureRef, Search, WriteFault,
-    encode, one_spelling, write_certificate,
+    AnyCert, AnyProcedure, Cert, CertFault, Found, NodePlan, NodeRef, ProcedurePlan, ProcedureRef,
+    Search, WriteFault, encode, one_spelling, write_certificate,
 };
 pub use gb_trace::{
     Abs, Cell, Core, Ctl, Flg, ImeSet, KeptBanks, May, OneByte, Origin, Range, Relations, Rules,
@@ -79,7 +79,8 @@ pub use gb_abs_memory::{Area, Stored};
 pub use gb_calls::{Resumed, Return};
 pub use gb_rows::{Rows, find_in, first_near, found_from};
 pub use gb_trace::{
-    Reason, callee, check_irqs, check_node, covered_at, covers, enter, resume, successors_of,
+    Program, Reason, callee, check_irqs, check_node, covered_at, covers, enter, resume,
+    successors_of,
 };
 pub use gb_vals::alu::{alu, alu_itself};
 pub use gb_vals::bits::{reset_bit, set_bit, test_bit};

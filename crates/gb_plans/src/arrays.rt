@@ -241,6 +241,41 @@ pub(crate) fn plan_filled(
     plan_loops(alloc, run, &fillers)
 }
 
+/// Whether a node stores to a byte among others, at most as many as are tracked one by one.
+fn copies_to(run: &Run<'_>, node: &RunNode, byte: u16) -> bool {
+    let Some(op) = op_at(run, node.spot()) else {
+        return false;
+    };
+    let is_store = match op {
+        Op::LoadImmediate(Operand::AtHl, _) => true,
+        _ => op.stored().is_some(),
+    };
+    match op.pointer() {
+        Some(pointer) if is_store => {
+            let span = span_at(node, pointer);
+            let more = span.last.saturating_sub(span.first);
+            span.first <= byte && byte <= span.last && 0 < more && more < FILLED
+        }
+        _ => false,
+    }
+}
+
+/// For a byte of code in RAM of which nothing is known, since a loop copied it together with others: each round of that loop gets
+/// states of its own.
+pub(crate) fn plan_copied(
+    alloc: Global,
+    run: &Run<'_>,
+    byte: u16,
+) -> Result<Option<Plan>, AllocError> {
+    let mut copies = BTreeSet::new(alloc);
+    for node in &run.nodes {
+        if copies_to(run, node, byte) {
+            copies.insert(node.spot())?;
+        }
+    }
+    plan_loops(alloc, run, &copies)
+}
+
 /// The jump by HL that was gone by within a few steps before a node.
 fn jump_before(run: &Run<'_>, number: usize) -> Option<usize> {
     let mut at = run.nodes.get(number)?.via?;

@@ -531,6 +531,57 @@ fn key_outer(
     Ok(None)
 }
 
+/// Whether a loop counts another register down than one in each of its rounds.
+fn counts_another(
+    run: &Run<'_>,
+    ways: &Ways,
+    procedure: usize,
+    around: &Loop,
+    one: Register,
+) -> Result<bool, AllocError> {
+    for point in around.iter() {
+        let spot = Spot {
+            procedure,
+            point: *point,
+        };
+        if let Some(register) = counter_at(run, spot)
+            && register != one
+            && !ways.is_passed_by(around, *point)?
+        {
+            return Ok(true);
+        }
+    }
+    Ok(false)
+}
+
+/// The rounds of a loop with two counters are told apart by the one that isn't counted in each of them: `dec b`, `jr nz` and then
+/// `dec c`, `jr nz` may lead to the same address, and make one loop.
+fn count_slower(
+    alloc: Global,
+    run: &Run<'_>,
+    ways: &Ways,
+    procedure: usize,
+    around: &Loop,
+) -> Result<Option<Plan>, AllocError> {
+    let target = run.target(procedure);
+    for point in around.iter() {
+        let spot = Spot {
+            procedure,
+            point: *point,
+        };
+        if let Some(register) = counter_at(run, spot)
+            && register != Register::A
+            && !is_told(&run.configuration.counted, target, around, register)
+            && ways.is_passed_by(around, *point)?
+            && counts_another(run, ways, procedure, around, register)?
+        {
+            let plan = at_all(alloc, target, around, register, false)?;
+            return Ok(unless_taken_back(run, plan));
+        }
+    }
+    Ok(None)
+}
+
 /// Counters of loops are told apart, by the rules of version 3: pointers beside the innermost one's counter are known by it.
 fn refine_counters(
     alloc: Global,
@@ -562,6 +613,11 @@ fn refine_counters(
         {
             return Ok(Some(plan));
         }
+    }
+    if !ways.is_endless(innermost)
+        && let Some(plan) = count_slower(alloc, run, ways, procedure, innermost)?
+    {
+        return Ok(Some(plan));
     }
     key_outer(alloc, run, ways, procedure, loops)
 }

@@ -1,12 +1,14 @@
 //! What to refine after a failure.
 
-use crate::arrays::{plan_array, plan_filled};
+use crate::arrays::{plan_array, plan_copied, plan_filled};
 use crate::cells::{key_all_cells, key_cells};
 use crate::kept::{part_exits, plan_kept, plan_stored, plan_written};
 use crate::loops::refine_loops;
 use crate::losses::{part_all, part_circle, plan_banked, plan_shown};
 use crate::plan::{Edit, Plan, parted_by, unless_taken_back};
-use crate::slices::{SliceBy, SliceGoal, slice, slice_through_loop, slice_to_call};
+use crate::slices::{
+    SliceBy, SliceGoal, slice, slice_past_skip, slice_through_loop, slice_to_call,
+};
 use crate::sources::high_registers;
 use crate::spots::{is_known, place_of, value_of};
 use crate::ways::Ways;
@@ -256,6 +258,8 @@ enum Near {
     Array,
     /// A slice through a loop that loses what is known.
     Through,
+    /// A slice past a branch that skips a few instructions.
+    Skip,
     /// A slice with few values.
     Slice,
     /// The loop that filled the byte of RAM from which a jump's index comes.
@@ -271,10 +275,11 @@ enum Near {
     Call,
 }
 
-const NEAR: [Near; 10] = [
+const NEAR: [Near; 11] = [
     Near::Calls,
     Near::Array,
     Near::Through,
+    Near::Skip,
     Near::Slice,
     Near::Filled,
     Near::Jump,
@@ -309,8 +314,13 @@ fn try_near(
         Near::Array if trouble.is_array_sought => plan_array(alloc, run, spot, &trouble.wanted),
         Near::Filled if trouble.is_array_sought => plan_filled(alloc, run, spot, &trouble.wanted),
         Near::Jump | Near::Array | Near::Filled => Ok(None),
-        Near::Through | Near::Call | Near::Page | Near::WideSlice if trouble.is_jump => Ok(None),
+        Near::Through | Near::Skip | Near::Call | Near::Page | Near::WideSlice if trouble.is_jump =>
+            { Ok(None) }
         Near::Through => slice_through_loop(alloc, run, ways, spot, &trouble.wanted),
+        Near::Skip if trouble.is_bound_wanted => {
+            slice_past_skip(alloc, run, ways, spot, &trouble.wanted)
+        }
+        Near::Skip => Ok(None),
         Near::Call => {
             let sought = SliceGoal {
                 wanted: trouble.wanted,
@@ -458,7 +468,8 @@ pub(crate) fn plan_loops(
     Ok(None)
 }
 
-/// Code in RAM isn't known: loops that drop its cells, or one copy of everything for each value that is patched in.
+/// Code in RAM isn't known: loops that drop its cells, or one copy of everything for each value that is patched in, or the loops
+/// that copied it.
 fn plan_code(alloc: Global, run: &Run<'_>, byte: u16) -> Result<Option<Plan>, AllocError> {
     if let Some(plan) = plan_loops(alloc, run, &run.killers)? {
         return Ok(Some(plan));
@@ -484,7 +495,7 @@ fn plan_code(alloc: Global, run: &Run<'_>, byte: u16) -> Result<Option<Plan>, Al
         let plan = Plan::of(alloc, Edit::Cell(byte))?;
         return Ok(unless_taken_back(run, plan));
     }
-    Ok(None)
+    plan_copied(alloc, run, byte)
 }
 
 /// The bank isn't known at a node: joins of calls that know it, the cells that it was switched by, the calls of what switches

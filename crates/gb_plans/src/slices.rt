@@ -15,6 +15,9 @@ use gb_fixpoint::{PADDING, Rules};
 use gb_ops::op::{AluOp, Op, Operand, Register};
 use std::alloc::{AllocError, Global};
 
+/// The most instructions that a branch goes past where a slice goes on before it.
+const SKIPPED: u32 = 4;
+
 /// What is sought.
 #[derive(Clone, Copy, PartialEq, Eq)]
 pub(crate) struct SliceGoal {
@@ -40,6 +43,8 @@ pub(crate) enum SliceBy {
     First,
     /// All, before a loop that loses what is known.
     Loop,
+    /// All, before a branch past a few instructions that change what is known.
+    Skip,
     /// All that may help an access that has to be allowed at each address. Where its pointer is only copied from where it was loaded
     /// from RAM, and nothing is compared, it would be refused for one of the values as for all.
     Bounds,
@@ -70,7 +75,7 @@ struct Walk {
     is_compared: bool,
     /// The points so far, the last instruction first.
     chain: Vec<CodePoint>,
-    /// Whether it went through a loop by which wanted registers are lost.
+    /// Whether it went through a loop by which wanted registers are lost, or past a branch by which they are, where that is sought.
     is_through: bool,
     /// Whether what is wanted here is only copied from here on, and nothing is compared.
     is_copied: bool,
@@ -158,7 +163,7 @@ impl Walk {
         }
         let is_wanted = match sought.by {
             SliceBy::Any | SliceBy::Single | SliceBy::First | SliceBy::Bounds => true,
-            SliceBy::Loop => self.is_through,
+            SliceBy::Loop | SliceBy::Skip => self.is_through,
             SliceBy::Table => self.is_behind_table,
             SliceBy::Index => self.is_behind_table || self.is_behind_sum,
         };
@@ -210,8 +215,63 @@ impl Walk {
         }
         match self.before_wait(run, ways)? {
             None if by == SliceBy::Loop => self.before_losing_loop(run, ways),
+            None if by == SliceBy::Skip => self.before_skip(run, ways),
             before => Ok(before),
         }
+    }
+
+    /// Before a branch past a few instructions that count a wanted register down, as `jr nc` past `dec h`: what these compute from is
+    /// wanted there as well, and their addresses are keyed with the others. A pointer that goes forward is mostly compared with its end.
+    fn before_skip(&mut self, run: &Run<'_>, ways: &Ways) -> Result<Option<CodePoint>, AllocError> {
+        let before = ways.before(self.at)?;
+        let [one, other] = before.as_slice() else {
+            return Ok(None);
+        };
+        for (branch, last) in [(*one, *other), (*other, *one)] {
+            if let Some(skipped) = ways.straight_back(last, branch, SKIPPED)?
+                && let Some(wanted) = self.wanted_before(run, &skipped)
+                && self.counts_down(run, &skipped)
+                && self.waiting.is_empty()
+            {
+                self.wanted = self.wanted.union(&wanted);
+                self.is_through = true;
+                self.is_copied = false;
+                for point in &skipped {
+                    if !self.chain.contains(point) {
+                        self.chain.push(*point)?;
+                    }
+                }
+                return Ok(Some(branch));
+            }
+        }
+        Ok(None)
+    }
+
+    /// Whether one of some instructions counts a wanted register down.
+    fn counts_down(&self, run: &Run<'_>, points: &[CodePoint]) -> bool {
+        points.iter().any(|point| {
+            let spot = Spot {
+                procedure: self.procedure,
+                point: *point,
+            };
+            match op_at(run, spot) {
+                Some(Op::Decrement(Operand::Register(register))) => self.wanted.contains(register),
+                _ => false,
+            }
+        })
+    }
+
+    /// The registers from which some instructions, the last one first, compute the wanted ones; none where these come from elsewhere.
+    fn wanted_before(&self, run: &Run<'_>, points: &[CodePoint]) -> Option<RegisterSet> {
+        let mut wanted = self.wanted;
+        for point in points {
+            let spot = Spot {
+                procedure: self.procedure,
+                point: *point,
+            };
+            wanted = sources(op_at(run, spot)?, &wanted)?;
+        }
+        Some(wanted)
     }
 
     /// Before a loop by which a wanted register becomes any byte: what it computes from is wanted there, and its addresses are
@@ -419,7 +479,7 @@ fn most_pairs(by: SliceBy) -> u32 {
     match by {
         SliceBy::Any | SliceBy::Bounds => PAIRS,
         SliceBy::Table | SliceBy::Index => FEW_VALUES,
-        SliceBy::First | SliceBy::Loop | SliceBy::Single => 0,
+        SliceBy::First | SliceBy::Loop | SliceBy::Skip | SliceBy::Single => 0,
     }
 }
 
@@ -542,10 +602,9 @@ fn walk_back(
         one: None,
         two: None,
     };
-    let most = if sought.by == SliceBy::Loop {
-        LONG_SLICE
-    } else {
-        SLICE
+    let most = match sought.by {
+        SliceBy::Loop | SliceBy::Skip => LONG_SLICE,
+        _ => SLICE,
     };
     for _ in 0..most {
         if !walk.look(run, sought) || !walk.step_back(alloc, run, ways, sought.by)? {
@@ -583,6 +642,26 @@ pub(crate) fn slice_through_loop(
         wanted: *wanted,
         most: FEW_VALUES,
         by: SliceBy::Loop,
+    };
+    slice(alloc, run, ways, spot, &sought)
+}
+
+/// A register to be split before a branch past a few instructions, as where a pointer goes back by a row: `sub` on L, and `dec h`
+/// where it carries. By the rules of version 3.
+pub(crate) fn slice_past_skip(
+    alloc: Global,
+    run: &Run<'_>,
+    ways: &Ways,
+    spot: Spot,
+    wanted: &RegisterSet,
+) -> Result<Option<Plan>, AllocError> {
+    if run.rules() == Rules::Simple || wanted.is_empty() {
+        return Ok(None);
+    }
+    let sought = SliceGoal {
+        wanted: *wanted,
+        most: FEW_VALUES,
+        by: SliceBy::Skip,
     };
     slice(alloc, run, ways, spot, &sought)
 }

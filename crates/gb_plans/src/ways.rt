@@ -69,6 +69,33 @@ impl Ways {
         before
     }
 
+    /// The points from one back to another, the last one first and the other left out, where each but that has just one point before
+    /// it, and there are at most so many.
+    pub fn straight_back(
+        &self,
+        last: CodePoint,
+        other: CodePoint,
+        most: u32,
+    ) -> Result<Option<Vec<CodePoint>>, AllocError> {
+        let mut points = Vec::new(self.alloc);
+        let mut at = last;
+        for _ in 0..most {
+            if at == other {
+                break;
+            }
+            points.push(at)?;
+            match self.only_before(at) {
+                Some(before) => at = before,
+                None => return Ok(None),
+            }
+        }
+        if at == other && !points.is_empty() {
+            Ok(Some(points))
+        } else {
+            Ok(None)
+        }
+    }
+
     /// The point behind, where there is just one.
     pub fn only_behind(&self, point: CodePoint) -> Option<CodePoint> {
         let mut behind = None;
@@ -221,6 +248,23 @@ impl Ways {
             Some(before) if heads.len() == 1 => Some((around, before)),
             _ => None,
         })
+    }
+
+    /// Whether a loop leads round past one of its points: from where it is entered back there.
+    pub fn is_passed_by(&self, around: &Loop, point: CodePoint) -> Result<bool, AllocError> {
+        let mut others = around.clone()?;
+        others.remove(&point);
+        let inside = Some(others);
+        for head in &self.heads(around)? {
+            if *head != point
+                && self
+                    .reached(*head, Direction::Onwards, &inside)?
+                    .contains(head)
+            {
+                return Ok(true);
+            }
+        }
+        Ok(false)
     }
 
     /// Whether nothing leads out of a loop.

@@ -21,9 +21,9 @@ pub use show::{push_bank, show_cert};
 // What lies below, for the crates above.
 pub use gb_watch::{
     Abs, Answer, Cell, Cert, CertFault, Console, Core, Ctl, Ending, FRAME_CYCLES, Flg, ImeSet,
-    Input, KeptBanks, Keys, May, Memory, Met, OneByte, Origin, Outcome, Range, Reason, Relations,
-    Rules, Setting, Sighting, Span, Stepped, Test, UpgradeTo, Upgraded, Val, Verdict, Watched,
-    callee, certificate_line, check, check_irqs, check_node, covered_at, covers, enter, place_now,
-    resume, steps_are_played, successors_of, upgrade_bytes, verdict_ignores_version, verify_bytes,
-    watch_frame, watched_frames_are_played,
+    Input, KeptBanks, Keys, May, Memory, Met, OneByte, Origin, Outcome, Program, Range, Reason,
+    Relations, Rules, Setting, Sighting, Span, Stepped, Test, UpgradeTo, Upgraded, Val, Verdict,
+    Watched, callee, certificate_line, check, check_irqs, check_node, covered_at, covers, enter,
+    place_now, resume, steps_are_played, successors_of, upgrade_bytes, verdict_ignores_version,
+    verify_bytes, watch_frame, watched_frames_are_played,
 };

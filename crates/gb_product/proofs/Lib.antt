@@ -1,6 +1,8 @@
 pub mod MeaningLaws
+pub mod SummaryLaws
 pub mod CoveringLaws
 pub mod NothingLaws
+pub mod SilenceLaws
 pub mod CutLaws
 pub mod ReducedLaws
 pub mod SideLaws

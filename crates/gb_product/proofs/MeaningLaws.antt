@@ -17,10 +17,10 @@ use Rattle.gb_domain.specs.Rules.{IsCore}
 use Rattle.gb_abs_effects.specs.Below.gb_vals.Meaning.{In}
 use Rattle.gb_abs_effects.specs.Below.gb_abs.Meaning.{Activation, Holds, MeansCore}
 use Rattle.gb_abs_effects.proofs.CoreLaws.{MeansCore-changed}
-use Rattle.gb_relations.specs.Below.gb_pairs.Meaning.{AreBytes, HoldPairs}
-use Rattle.gb_relations.specs.Meaning.{HoldRelations}
-use Rattle.gb_relations.proofs.ComparedLaws.{HoldOneByte-nothing}
-use Rattle.gb_relations.proofs.TransferLaws.{HoldPairs-nothing}
+use Rattle.gb_summaries.specs.Below.gb_pairs.Meaning.{AreBytes, HoldPairs}
+use Rattle.gb_summaries.specs.Below.gb_relations.Meaning.{HoldRelations}
+use Rattle.gb_summaries.proofs.Below.gb_relations_laws.ComparedLaws.{HoldOneByte-nothing}
+use Rattle.gb_summaries.proofs.Below.gb_relations_laws.TransferLaws.{HoldPairs-nothing}
 use Rattle.gb_product.specs.Meaning.{AreRelated}
 
 -- nothing is known together of any machine state

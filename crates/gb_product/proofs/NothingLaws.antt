@@ -14,12 +14,12 @@ use Rattle.gb_domain.specs.declared.relations.Relations.{Relations}
 use Rattle.gb_domain.specs.declared.types.Val.{Val}
 use Rattle.gb_domain.specs.Pairs.{facts_of}
 use Rattle.gb_domain.specs.RelationRules.{is_some_register, has_address, has_place, is_known}
-use Rattle.gb_relations.specs.Below.gb_pairs.declared.values.Values.{Values}
-use Rattle.gb_relations.specs.Below.gb_pairs.Bounds.{bounds_of}
-use Rattle.gb_relations.specs.Below.gb_pairs.Covering.{covers_link, covers_bounds, covers_pair, covers_pairs}
-use Rattle.gb_relations.specs.Below.gb_copies.Covering.{covers_registers, covers_address, covers_test, covers_byte}
-use Rattle.gb_relations.proofs.Below.gb_pairs_laws.CutLaws.{IsPart-bounds_of}
-use Rattle.gb_relations.specs.Transfer.{values_of}
+use Rattle.gb_summaries.specs.Below.gb_pairs.declared.values.Values.{Values}
+use Rattle.gb_summaries.specs.Below.gb_pairs.Bounds.{bounds_of}
+use Rattle.gb_summaries.specs.Below.gb_pairs.Covering.{covers_link, covers_bounds, covers_pair, covers_pairs}
+use Rattle.gb_summaries.specs.Below.gb_copies.Covering.{covers_registers, covers_address, covers_test, covers_byte}
+use Rattle.gb_summaries.proofs.Below.gb_pairs_laws.CutLaws.{IsPart-bounds_of}
+use Rattle.gb_summaries.specs.Below.gb_relations.Transfer.{values_of}
 use Rattle.gb_product.specs.Covering.{covers_zero, is_nothing, covers_relations}
 
 both : (a b : Bool) → a ≡ true → b ≡ true → (a && b) ≡ true

@@ -13,16 +13,16 @@ use Rattle.gb_domain.specs.declared.pairs.Pairs.{Pairs}
 use Rattle.gb_domain.specs.Pairs.{ArePairs}
 use Rattle.gb_abs_effects.specs.Below.gb_abs.Meaning.{Activation, MeansCore}
 use Rattle.gb_abs_effects.proofs.CoreLaws.{In-from}
-use Rattle.gb_relations.specs.Below.gb_pairs.declared.values.Values.{Values}
-use Rattle.gb_relations.specs.Below.gb_pairs.Meaning.{Holds}
-use Rattle.gb_relations.specs.Below.gb_pairs.Reduced as Pairwise
-use Rattle.gb_relations.specs.Below.gb_pairs.Reduced.{values_if}
-use Rattle.gb_relations.specs.Below.gb_pairs.Sound.{HoldsIn, IsCut}
-use Rattle.gb_relations.specs.Below.gb_pairs.Sound as pairs
-use Rattle.gb_relations.proofs.Below.gb_pairs_laws.CutLaws as pair_cuts
-use Rattle.gb_relations.proofs.Below.gb_pairs_laws.KeptLaws.{ArePairs-cut}
-use Rattle.gb_relations.proofs.Below.gb_pairs_laws.ReducedLaws as pair_laws
-use Rattle.gb_relations.specs.Transfer.{values_of}
+use Rattle.gb_summaries.specs.Below.gb_pairs.declared.values.Values.{Values}
+use Rattle.gb_summaries.specs.Below.gb_pairs.Meaning.{Holds}
+use Rattle.gb_summaries.specs.Below.gb_pairs.Reduced as Pairwise
+use Rattle.gb_summaries.specs.Below.gb_pairs.Reduced.{values_if}
+use Rattle.gb_summaries.specs.Below.gb_pairs.Sound.{HoldsIn, IsCut}
+use Rattle.gb_summaries.specs.Below.gb_pairs.Sound as pairs
+use Rattle.gb_summaries.proofs.Below.gb_pairs_laws.CutLaws as pair_cuts
+use Rattle.gb_summaries.proofs.Below.gb_pairs_laws.KeptLaws.{ArePairs-cut}
+use Rattle.gb_summaries.proofs.Below.gb_pairs_laws.ReducedLaws as pair_laws
+use Rattle.gb_summaries.specs.Below.gb_relations.Transfer.{values_of}
 use Rattle.gb_product.specs.declared.parts.Branch.{Branch}
 use Rattle.gb_product.specs.declared.parts.Product.{Product}
 use Rattle.gb_product.specs.Meaning.{AreRelated}

@@ -35,23 +35,23 @@ use Rattle.gb_abs_effects.specs.Sides as Flags
 use Rattle.gb_abs_effects.specs.Sound.{side_by, IsMeant}
 use Rattle.gb_abs_effects.proofs.CoreLaws.{some-is, In-from}
 use Rattle.gb_abs_effects.proofs.SideLaws as flag_sides
-use Rattle.gb_relations.specs.Below.gb_pairs.declared.values.Values.{Values}
-use Rattle.gb_relations.specs.Below.gb_pairs.Meaning.{word_of}
-use Rattle.gb_relations.specs.Below.gb_pairs.Meaning as pairs
-use Rattle.gb_relations.specs.Below.gb_pairs.Reduced.{restricted}
-use Rattle.gb_relations.specs.Below.gb_pairs.Sound.{HoldsIn}
-use Rattle.gb_relations.specs.Below.gb_pairs.Sound as pair_sound
-use Rattle.gb_relations.proofs.Below.gb_pairs_laws.CutLaws.{restricted_cuts, IsCut-itself}
-use Rattle.gb_relations.proofs.Below.gb_pairs_laws.KeptLaws.{ArePairs-cut}
-use Rattle.gb_relations.proofs.Below.gb_pairs_laws.ReducedLaws.{restricted_sound}
-use Rattle.gb_relations.specs.Below.gb_copies.declared.sides.PlaceContents.{PlaceContents}
-use Rattle.gb_relations.specs.Below.gb_copies.Sound.{HoldContents, HoldContentsIn, IsCutVal, IsCut}
-use Rattle.gb_relations.proofs.Below.gb_copies_laws.SideLaws.{narrowed_sound, narrowed_cuts}
-use Rattle.gb_relations.specs.Meaning.{IsZero}
-use Rattle.gb_relations.specs.Places.{is_ram, is_free}
-use Rattle.gb_relations.specs.Sound.{IsByteFree}
+use Rattle.gb_summaries.specs.Below.gb_pairs.declared.values.Values.{Values}
+use Rattle.gb_summaries.specs.Below.gb_pairs.Meaning.{word_of}
+use Rattle.gb_summaries.specs.Below.gb_pairs.Meaning as pairs
+use Rattle.gb_summaries.specs.Below.gb_pairs.Reduced.{restricted}
+use Rattle.gb_summaries.specs.Below.gb_pairs.Sound.{HoldsIn}
+use Rattle.gb_summaries.specs.Below.gb_pairs.Sound as pair_sound
+use Rattle.gb_summaries.proofs.Below.gb_pairs_laws.CutLaws.{restricted_cuts, IsCut-itself}
+use Rattle.gb_summaries.proofs.Below.gb_pairs_laws.KeptLaws.{ArePairs-cut}
+use Rattle.gb_summaries.proofs.Below.gb_pairs_laws.ReducedLaws.{restricted_sound}
+use Rattle.gb_summaries.specs.Below.gb_copies.declared.sides.PlaceContents.{PlaceContents}
+use Rattle.gb_summaries.specs.Below.gb_copies.Sound.{HoldContents, HoldContentsIn, IsCutVal, IsCut}
+use Rattle.gb_summaries.proofs.Below.gb_copies_laws.SideLaws.{narrowed_sound, narrowed_cuts}
+use Rattle.gb_summaries.specs.Below.gb_relations.Meaning.{IsZero}
+use Rattle.gb_summaries.specs.Below.gb_relations.Places.{is_ram, is_free}
+use Rattle.gb_summaries.specs.Below.gb_relations.Sound.{IsByteFree}
 use Rattle.gb_abs_effects.specs.Below.gb_abs.Cells.{IsPlaced}
-use Rattle.gb_relations.specs.Transfer.{values_of}
+use Rattle.gb_summaries.specs.Below.gb_relations.Transfer.{values_of}
 use Rattle.gb_product.specs.declared.parts.Branch.{Branch}
 use Rattle.gb_product.specs.declared.parts.Branches.{Branches}
 use Rattle.gb_product.specs.Sides.{memory_of, contents_of, is_any, known_cell, without_others, with_values_if, with_contents_if, narrowed_side, side_where, taken_side, opposite_of, not_taken_side, sides_of}

@@ -1,16 +1,28 @@
--- Covering of whole states: part by part, and by what is known together (abstract interpretation: inclusion; own).
-use Rattle.std.specs.Prelude.{Bool, true, false, not, ◌&&◌, Option, Some, None, is_none}
+-- Covering of whole states: part by part, by what is known together, and by what is said of the whole program (abstract
+-- interpretation: inclusion; own).
+use Rattle.std.specs.Prelude.{ℕ, ◌==◌, Bool, true, false, not, ◌&&◌, if◌then◌else◌, List, length, take, Option, Some, None, is_none}
+use Rattle.std.specs.List.{list_all}
 use Rattle.gb_ops.specs.declared.registers.Registers.{Registers}
+use Rattle.gb_domain.specs.declared.interval.StridedInterval.{StridedInterval}
 use Rattle.gb_domain.specs.declared.pairs.WordPair.{WordPair}
 use Rattle.gb_domain.specs.declared.relations.Relations.{Relations}
+use Rattle.gb_domain.specs.declared.types.Cell.{Cell}
 use Rattle.gb_domain.specs.declared.types.Val.{Val}
 use Rattle.gb_domain.specs.RelationRules.{has_place, are_unknown}
+use Rattle.gb_domain.specs.Summaries.{SummaryParts, Program}
 use Rattle.gb_domain.specs.Types.{AbsState}
-use Rattle.gb_abs_effects.specs.Below.gb_abs.Covering.{covers_parts}
-use Rattle.gb_relations.specs.Below.gb_pairs.Covering.{covers_pairs}
-use Rattle.gb_relations.specs.Below.gb_pairs.Written.{is_same_pair}
-use Rattle.gb_relations.specs.Below.gb_copies.Covering.{covers_byte}
-use Rattle.gb_relations.specs.Transfer.{values_of}
+use Rattle.gb_abs_effects.specs.Below.gb_abs.Covering.{cell_at, covers_val, covers_core, covers_items}
+use Rattle.gb_summaries.specs.Below.gb_pairs.declared.values.Values.{Values}
+use Rattle.gb_summaries.specs.Below.gb_pairs.Covering.{covers_pairs}
+use Rattle.gb_summaries.specs.Below.gb_pairs.Written.{is_same_pair}
+use Rattle.gb_summaries.specs.Below.gb_copies.Covering.{covers_byte}
+use Rattle.gb_summaries.specs.Below.gb_ram_bounds.Cells.{has_cell}
+use Rattle.gb_summaries.specs.Below.gb_ram_bounds.Covering.{byte_at}
+use Rattle.gb_summaries.specs.Below.gb_relations.Transfer.{values_of}
+use Rattle.gb_summaries.specs.Covering.{covers_summary}
+use Rattle.gb_summaries.specs.Known.{pointer_bounds}
+
+-- ---- what is known together
 
 -- that Z says whether a pair is 0 is asked for only where t says it
 abbrev pub covers_zero : Option WordPair → Option WordPair → Bool
@@ -27,6 +39,37 @@ unfoldable pub covers_relations : Registers Val → Relations → Relations → 
 covers_relations registers s t =
     covers_byte s.byte t.byte && covers_zero s.zero t.zero && covers_pairs (values_of registers s.pairs) t.pairs
 
--- t stands for each state that s stands for
-unfoldable pub covers : AbsState → AbsState → Bool
-covers s t = covers_parts s t && covers_relations s.core.registers s.relations t.relations
+-- ---- bytes in RAM
+
+-- a value that is no copy
+abbrev pub uncopied : StridedInterval → Val
+uncopied v = record { lo = v.lo; hi = v.hi; low_bits = v.count; origin = None }
+
+-- the byte at an address: what its cell says; else, no copy, what the facts that hold and the fills leave of any byte
+unfoldable pub byte_in : Program → Values → List Cell → SummaryParts → ℕ → Val
+byte_in program v cells s a =
+    if has_cell cells a
+    then cell_at a cells
+    else uncopied (byte_at (take s.level program.facts) cells s.fills (pointer_bounds v) a)
+
+-- of bytes nothing is said but by cells
+abbrev pub has_cells_alone : SummaryParts → Bool
+has_cells_alone s = s.level == 0 && length s.fills == 0
+
+-- each of the kept cells holds the byte at its address
+unfoldable pub covers_cells : Program → Values → List Cell → SummaryParts → List Cell → Bool
+covers_cells program v cells s kept = list_all (λ c. covers_val (byte_in program v cells s c.address) c.val) kept
+
+-- ---- all of it
+
+-- what a state knows of registers and pairs
+abbrev pub values_in : AbsState → Values
+values_in s = values_of s.core.registers s.relations.pairs
+
+-- in this program t stands for each state that s stands for
+unfoldable pub covers : Program → AbsState → AbsState → Bool
+covers program s t =
+    covers_core s.core t.core && covers_items s.items t.items
+    && covers_cells program (values_in s) s.cells s.summary t.cells
+    && covers_relations s.core.registers s.relations t.relations
+    && covers_summary program (values_in s) s.core.ctl s.cells s.summary t.cells t.summary

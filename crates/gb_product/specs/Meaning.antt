@@ -7,19 +7,27 @@ use Rattle.gb_domain.specs.Types.{AbsState}
 use Rattle.gb_abs_effects.specs.Below.gb_abs.Cells.{ArePlaced}
 use Rattle.gb_abs_effects.specs.Below.gb_abs.Meaning.{Activation, MeansParts}
 use Rattle.gb_abs_effects.specs.Below.gb_abs.Storage.{peek}
-use Rattle.gb_relations.specs.Meaning.{HoldRelations}
-use Rattle.gb_relations.specs.Sound.{IsByteFree}
+use Rattle.gb_summaries.specs.Elsewhere.{IsFree}
+use Rattle.gb_summaries.specs.Meaning.{HoldSummary}
+use Rattle.gb_summaries.specs.Below.gb_relations.Meaning.{HoldRelations}
+use Rattle.gb_summaries.specs.Below.gb_relations.Sound.{IsByteFree}
 
 -- what is known together holds of a machine state
 abbrev pub AreRelated : Relations → MState → Type 0
 AreRelated r x = HoldRelations r x.processor.registers (peek x.storage) x.processor.flags
 
+-- what is said of the whole program holds of a machine state, in a procedure that is part of it
+abbrev pub IsSummarized : AbsState → Activation → MState → Type 0
+IsSummarized abs entry x = HoldSummary entry.program abs.cells abs.summary x.processor (peek x.storage) x.storage.banks
+
 -- x is one of the states that abs means, in a procedure that was entered in the state entry, with base the address above its items
 pub record Means (abs : AbsState) (entry : Activation) (base : ℕ) (x : MState) : Type 0 where
   pub parts : MeansParts abs entry base x
   pub related : AreRelated abs.relations x
+  pub summary : IsSummarized abs entry x
 
 -- what a state knows of memory lies in RAM outside the stack region
 pub record IsApart (region : Region) (abs : AbsState) : Type 0 where
   pub cells : ArePlaced region abs.cells
   pub byte : IsByteFree region abs.relations.byte.address
+  pub summary : IsFree region abs.summary

@@ -6,9 +6,9 @@ use Rattle.gb_domain.specs.declared.rules.Rules.{Rules}
 use Rattle.gb_domain.specs.declared.rules.Rules.TheVariants.{Simple, Extended}
 use Rattle.gb_domain.specs.declared.types.Cell.{Cell}
 use Rattle.gb_domain.specs.declared.types.Core.{Core}
-use Rattle.gb_relations.specs.Below.gb_pairs.declared.values.Values.{Values}
-use Rattle.gb_relations.specs.Below.gb_pairs.Reduced as Pairs
-use Rattle.gb_relations.specs.Transfer.{values_of}
+use Rattle.gb_summaries.specs.Below.gb_pairs.declared.values.Values.{Values}
+use Rattle.gb_summaries.specs.Below.gb_pairs.Reduced as Pairs
+use Rattle.gb_summaries.specs.Below.gb_relations.Transfer.{values_of}
 use Rattle.gb_product.specs.declared.parts.Branch.{Branch}
 use Rattle.gb_product.specs.declared.parts.Product.{Product}
 

@@ -13,11 +13,11 @@ use Rattle.gb_domain.specs.declared.types.Cell.{Cell}
 use Rattle.gb_domain.specs.Types.{any_val}
 use Rattle.gb_abs_effects.specs.Below.gb_abs.Covering.{cell_at}
 use Rattle.gb_abs_effects.specs.Sides as Flags
-use Rattle.gb_relations.specs.Below.gb_pairs.declared.values.Values.{Values}
-use Rattle.gb_relations.specs.Below.gb_pairs.Reduced.{restricted}
-use Rattle.gb_relations.specs.Below.gb_copies.declared.sides.PlaceContents.{PlaceContents}
-use Rattle.gb_relations.specs.Below.gb_copies.Sides.{narrowed}
-use Rattle.gb_relations.specs.Transfer.{values_of}
+use Rattle.gb_summaries.specs.Below.gb_pairs.declared.values.Values.{Values}
+use Rattle.gb_summaries.specs.Below.gb_pairs.Reduced.{restricted}
+use Rattle.gb_summaries.specs.Below.gb_copies.declared.sides.PlaceContents.{PlaceContents}
+use Rattle.gb_summaries.specs.Below.gb_copies.Sides.{narrowed}
+use Rattle.gb_summaries.specs.Below.gb_relations.Transfer.{values_of}
 use Rattle.gb_product.specs.declared.parts.Branch.{Branch}
 use Rattle.gb_product.specs.declared.parts.Branches.{Branches}
 

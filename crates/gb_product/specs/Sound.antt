@@ -11,19 +11,22 @@ use Rattle.gb_domain.specs.declared.types.Cell.{Cell}
 use Rattle.gb_domain.specs.declared.types.Core.{Core}
 use Rattle.gb_domain.specs.Pairs.{ArePairs}
 use Rattle.gb_domain.specs.Rules.{IsVal, IsCore}
+use Rattle.gb_domain.specs.Summaries.{Program}
 use Rattle.gb_domain.specs.Types.{AbsState}
 use Rattle.gb_domain.specs.Values.{is_strided}
 use Rattle.gb_abs_effects.specs.Below.gb_abs.Meaning.{Activation, Holds, MeansCore, IsMemory}
 use Rattle.gb_abs_effects.specs.Below.gb_abs.Storage.{peek}
-use Rattle.gb_relations.specs.Below.gb_pairs.Meaning.{AreBytes}
+use Rattle.gb_summaries.specs.Below.gb_pairs.Meaning.{AreBytes}
 use Rattle.gb_product.specs.declared.parts.Branch.{Branch}
 use Rattle.gb_product.specs.declared.parts.Branches.{Branches}
 use Rattle.gb_product.specs.declared.parts.Product.{Product}
 use Rattle.gb_product.specs.Meaning.{Means, AreRelated}
 
--- t means each machine state that s means
-pub record IsPartOf (s t : AbsState) : Type 0 where
-  pub gives : (entry : Activation) (base : ℕ) (x : MState) → Means s entry base x → Means t entry base x
+-- in procedures of this program t means each machine state that s means
+pub record IsPartOf (program : Program) (s t : AbsState) : Type 0 where
+  pub gives :
+      (entry : Activation) (base : ℕ) (x : MState)
+      → entry.program ≡ program → Means s entry base x → Means t entry base x
 
 -- ---- what is cut
 

@@ -4,14 +4,21 @@ ghost use Rattle.std.specs.Prelude.{◌≡◌, ◌<◌, true, not};
 ghost use Rattle.gb_domain.specs.RelationRules.{is_known, are_unknown};
 ghost use Rattle.gb_product.specs.Covering as Covering;
 ghost use Rattle.gb_product.specs.Sound.{IsPartOf};
+ghost use Rattle.gb_summaries.specs.Below.gb_relations.Transfer.{values_of};
+ghost use Rattle.gb_summaries.specs.Covering.{covers_summary};
 
+use crate::bytes::covers_lists;
 use crate::parts::holds_words;
-use gb_abs_effects::covers_parts;
+use crate::program::Program;
+use crate::states::States;
+use gb_abs_effects::covers_core;
 use gb_domain::pairs::{PairFacts, Pairs, WordPair};
 use gb_domain::relations::Relations;
-use gb_domain::types::{Abs, Val};
+use gb_domain::summary::Summary;
+use gb_domain::types::{Abs, Cell, Val};
 use gb_ops::registers::Registers;
-use gb_relations::{Values, covers_byte, covers_pairs, has_place, is_same_pair};
+use gb_summaries::covering::covers_summary;
+use gb_summaries::{Values, covers_byte, covers_pairs, has_place, is_same_pair};
 
 fn covers_zero(s: Option<WordPair>, t: Option<WordPair>) -> bool
     ensures { result ≡ Covering.covers_zero s t }
@@ -70,18 +77,48 @@ pub fn covers_relations(registers: &Registers<Val>, s: &Relations, t: &Relations
     is_nothing(t) || covers_each(registers, s, t)
 }
 
-#[tactic(auto, unfolding(crate::specs::Covering::covers))]
-fn covers_all(s: &Abs, t: &Abs) -> bool
-    ensures { result ≡ Covering.covers s.now t.now }
+/// Whether what is said of the whole program with these cells holds of states. Where nothing is said, only the stack is asked about.
+#[tactic(auto, using(crate::proofs::SilenceLaws::covers_silence))]
+pub fn covers_said(
+    program: &Program<'_>,
+    states: &States<'_>,
+    kept: &[Cell],
+    claimed: &Summary,
+) -> bool
+    ensures { result ≡ covers_summary program.now (values_of states.now.core.now.registers states.now.relations.now.pairs) states.now.core.now.ctl states.now.lists.now.cells states.now.summary.now kept.now claimed.now }
 {
-    covers_parts(s, t) && covers_relations(&s.core().registers, s.relations(), t.relations())
+    let summary = states.summary;
+    if claimed.is_silent() {
+        return summary.aside().is_none();
+    }
+    covers_summary(
+        program.kind,
+        program.facts,
+        &states.values(),
+        &states.core.ctl,
+        states.lists.cells(),
+        summary,
+        kept,
+        claimed,
+    )
 }
 
-/// Whether t stands for each machine state that s stands for (abstract interpretation: inclusion; the tests are own).
-#[tactic(auto, using(crate::proofs::CoveringLaws::covers_sound))]
-pub fn covers(s: &Abs, t: &Abs) -> bool
-    ensures exact { result ≡ Covering.covers s.now t.now }
-    ensures sound { result ≡ true → IsPartOf s.now t.now }
+#[tactic(auto, unfolding(crate::specs::Covering::covers))]
+fn covers_all(program: &Program<'_>, s: &Abs, t: &Abs) -> bool
+    ensures { result ≡ Covering.covers program.now s.now t.now }
 {
-    covers_all(s, t)
+    let states = States::of(s);
+    covers_core(s.core(), t.core())
+        && covers_lists(program, &states, t)
+        && covers_relations(&s.core().registers, s.relations(), t.relations())
+        && covers_said(program, &states, t.cells(), t.summary())
+}
+
+/// Whether in a program t stands for each machine state that s stands for (abstract interpretation: inclusion; the tests are own).
+#[tactic(auto, using(crate::proofs::CoveringLaws::covers_sound))]
+pub fn covers(program: &Program<'_>, s: &Abs, t: &Abs) -> bool
+    ensures exact { result ≡ Covering.covers program.now s.now t.now }
+    ensures sound { result ≡ true → IsPartOf program.now s.now t.now }
+{
+    covers_all(program, s, t)
 }

@@ -3,15 +3,21 @@
 //! does, `reduced` cuts registers and pairs to what they leave of each other, and `sides_of` gives what a conditional instruction
 //! learns from its condition (each `exact`, `sound`).
 //!
-//! Read `covering`, then `parts`, `reduced` and `sides`.
+//! Read `covering`, which asks `bytes` what is known of RAM, then `parts`, `reduced` and `sides`.
 #![tactic(auto)]
 
+pub mod bytes;
 pub mod covering;
 pub mod parts;
+pub mod program;
 pub mod reduced;
 pub mod sides;
+pub mod states;
 
+pub use bytes::{byte_in, byte_of, covers_lists};
 pub use parts::{Branch, Branches, Product};
+pub use program::Program;
+pub use states::States;
 
 // What lies below, for the crates above.
 pub use gb_abs_effects::pairs::{any_word, is_word_known, least_word, pair_halves};
@@ -22,12 +28,12 @@ pub use gb_abs_effects::transfer::{Inputs, transfer_in};
 pub use gb_abs_effects::writes::{AbsEffect, AbsWrite, quiet};
 pub use gb_abs_effects::{
     Span, any, append_bytes, cell_without_origin, cells_without_origins, core_without_origins,
-    covers_controller, covers_ime, covers_lists, covers_origin, end, is_own, known, may_enable,
-    may_have_bit, own, pass, push, resize, settle, single, sp_bounds, sp_halves, with_cell,
-    without_origin,
+    covers_controller, covers_ime, covers_origin, end, is_own, known, may_enable, may_have_bit,
+    own, pass, push, resize, settle, single, sp_bounds, sp_halves, with_cell, without_origin,
 };
-pub use gb_relations::compared::only_of_a;
-pub use gb_relations::pointers::{known_carry, pointer_bounds};
-pub use gb_relations::reduce;
-pub use gb_relations::returned::{Kept, returned};
-pub use gb_relations::transfer::relations_after;
+pub use gb_summaries::instruction::{Stored, summary_after};
+pub use gb_summaries::returning::{GivenBack, Said, summary_returned};
+pub use gb_summaries::{
+    AddressSet, Kept, Values, known_carry, only_of_a, pointer_bounds, reduce, relations_after,
+    returned,
+};

@@ -15,7 +15,7 @@ fn reduce_together(core: &mut Core, relations: &mut Relations) -> bool
     ensures exact { Reducing.reduced_together core.old relations.old ≡ Reducing.product_if result core.new relations.new }
     ensures sound { IsSoundReducing core.old relations.old (Reducing.product_if result core.new relations.new) }
 {
-    gb_relations::reduce(&mut core.registers, &mut relations.pairs)
+    gb_summaries::reduce(&mut core.registers, &mut relations.pairs)
 }
 
 /// A core and what is known together are cut in place to what registers, pairs and links leave of each other; whether they then

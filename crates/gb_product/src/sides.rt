@@ -12,7 +12,7 @@ use gb_domain::pairs::{Bounds, WordPair};
 use gb_domain::relations::Relations;
 use gb_domain::types::{Cell, Core, Val};
 use gb_ops::op::{Condition, Op};
-use gb_relations::{PlaceContents, Values, narrowed, restricted};
+use gb_summaries::{PlaceContents, Values, narrowed, restricted};
 
 /// What is known of the byte at the address among the places, if there is one.
 fn memory_of(address: Option<u16>, cells: &[Cell]) -> Val

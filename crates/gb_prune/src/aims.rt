@@ -66,8 +66,12 @@ fn are_alike(a: &Option<Successor<'_>>, b: &Option<Successor<'_>>) -> bool {
 /// Whether the state after a way meets an aim.
 fn meets(site: &NodeSite<'_, '_>, after: &Abs, aim: &Aim) -> bool {
     match aim {
-        Aim::Covered(state) => covers(after, state),
-        Aim::Entered { count, entry } => covers(&enter(Rules::Extended, *count, after), entry),
+        Aim::Covered(state) => covers(&site.program(), after, state),
+        Aim::Entered { count, entry } => covers(
+            &site.program(),
+            &enter(Rules::Extended, *count, after),
+            entry,
+        ),
         Aim::Resumed { callee, exit, back } => is_resumed_in(site, *callee, after, exit, back),
     }
 }
@@ -81,7 +85,7 @@ pub(crate) fn is_resumed_in(
     back: &Abs,
 ) -> bool {
     match site.resumed(callee, after, exit) {
-        Resumed::States(resumed) => covers(&resumed, back),
+        Resumed::States(resumed) => covers(&site.program(), &resumed, back),
         Resumed::Nothing => true,
         Resumed::TooDeep => false,
     }

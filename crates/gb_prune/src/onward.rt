@@ -2,9 +2,9 @@
 
 use crate::parts::{Wanted, weakened};
 use gb_draft::{
-    Abs, Cert, INTERRUPT_COUNT, Resumed, Rom, Rules, Stack, Successor, Successors, Target,
+    Abs, Cert, INTERRUPT_COUNT, Program, Resumed, Rom, Rules, Stack, Successor, Successors, Target,
     callee_at, covers, covers_core, exit_of, handler, known_bytes, left_by_dispatch, may_come,
-    ranges_of, resume, stack_of, successors_of, taken_by, vector_of,
+    program_of, ranges_of, resume, stack_of, successors_of, taken_by, vector_of,
 };
 use gb_ops::decode::decode;
 use gb_ops::op::Row;
@@ -70,11 +70,17 @@ pub(crate) fn state_of(cert: &Cert<'_>, number: u32) -> Option<Abs> {
 }
 
 /// The number of the first node that stands for a state, among those from one number to before another one.
-fn first_standing(cert: &Cert<'_>, from: u32, after: u32, state: &Abs) -> Option<u32> {
+fn first_standing(
+    program: &Program<'_>,
+    cert: &Cert<'_>,
+    from: u32,
+    after: u32,
+    state: &Abs,
+) -> Option<u32> {
     for number in from..after {
         if number < cert.nodes() {
             let node = cert.node(number);
-            if covers_core(state.core(), &node.core()) && covers(state, &node.state()) {
+            if covers_core(state.core(), &node.core()) && covers(program, state, &node.state()) {
                 return Some(number);
             }
         }
@@ -85,6 +91,7 @@ fn first_standing(cert: &Cert<'_>, from: u32, after: u32, state: &Abs) -> Option
 /// The nodes of a procedure at an address that stand for a state. The search begins after the one that was found there last:
 /// nodes lead to others in their order.
 fn standing_for(
+    program: &Program<'_>,
     cert: &Cert<'_>,
     procedure: u8,
     address: u16,
@@ -96,9 +103,9 @@ fn standing_for(
         Some(near) => (*near).max(found.first).min(found.after),
         None => found.first,
     };
-    let one = match first_standing(cert, near, found.after, state) {
+    let one = match first_standing(program, cert, near, found.after, state) {
         Some(number) => Some(number),
-        None => first_standing(cert, found.first, near, state),
+        None => first_standing(program, cert, found.first, near, state),
     };
     if let Some(number) = one {
         if let Some(near) = last.get_mut(found.first as usize) {
@@ -142,7 +149,15 @@ impl<'c, 'a> NodeSite<'c, 'a> {
 
     /// Where the instruction leads from a state.
     pub(crate) fn step<'s>(&self, state: &'s Abs) -> Successors<'s> {
-        successors_of(self.stack, self.rom, self.row, self.address, state)
+        let program = self.program();
+        successors_of(
+            self.stack,
+            &program,
+            self.rom,
+            self.row,
+            self.address,
+            state,
+        )
     }
 
     /// What an interrupt's dispatch leaves.
@@ -164,11 +179,24 @@ impl<'c, 'a> NodeSite<'c, 'a> {
         }
     }
 
+    /// What the certificate's states may speak of beside themselves.
+    pub(crate) fn program(&self) -> Program<'_> {
+        program_of(self.rom, self.cert)
+    }
+
     /// What a state goes on with after a procedure with an exit.
     pub(crate) fn resumed(&self, callee: u8, state: &Abs, exit: &Abs) -> Resumed {
         let ranges = ranges_of(self.cert, callee);
         let taken = taken_by(self.cert, callee);
-        resume(Rules::Extended, taken, ranges.as_slice(), state, exit)
+        let program = self.program();
+        resume(
+            &program,
+            Rules::Extended,
+            taken,
+            ranges.as_slice(),
+            state,
+            exit,
+        )
     }
 
     /// A procedure is entered in a state, and goes on at an address.
@@ -176,6 +204,7 @@ impl<'c, 'a> NodeSite<'c, 'a> {
         let back = match exit_of(self.cert, callee) {
             Some(exit) => match self.resumed(callee, state, &exit) {
                 Resumed::States(after) => standing_for(
+                    &self.program(),
                     self.cert,
                     self.procedure,
                     back,
@@ -194,17 +223,36 @@ impl<'c, 'a> NodeSite<'c, 'a> {
         let state = successor.state();
         match successor.target {
             Target::At(address) => {
-                let nodes = standing_for(self.cert, self.procedure, address, &state, last)?;
+                let nodes = standing_for(
+                    &self.program(),
+                    self.cert,
+                    self.procedure,
+                    address,
+                    &state,
+                    last,
+                )?;
                 Some(Onward::Nodes(nodes))
             }
             Target::Main(address) => {
-                let nodes = standing_for(self.cert, 0, address, &state, last)?;
+                let nodes = standing_for(&self.program(), self.cert, 0, address, &state, last)?;
                 Some(Onward::Nodes(nodes))
             }
-            Target::Call(address) => match callee_at(self.cert, self.stack.setting, successor) {
+            Target::Call(address) => match callee_at(
+                &self.program(),
+                self.cert,
+                self.stack.setting,
+                successor,
+            ) {
                 Some(callee) => Some(self.enters(callee, successor.next, &state, last)),
                 None => {
-                    let nodes = standing_for(self.cert, self.procedure, address, &state, last)?;
+                    let nodes = standing_for(
+                        &self.program(),
+                        self.cert,
+                        self.procedure,
+                        address,
+                        &state,
+                        last,
+                    )?;
                     Some(Onward::Nodes(nodes))
                 }
             },
@@ -236,11 +284,25 @@ impl<'c, 'a> NodeSite<'c, 'a> {
         }
         let setting = self.stack.setting;
         let left = self.dispatched(state);
-        match handler(self.cert, setting, interrupt, self.address, state) {
+        match handler(
+            &self.program(),
+            self.cert,
+            setting,
+            interrupt,
+            self.address,
+            state,
+        ) {
             Some(callee) => Some(self.enters(callee, self.address, &left, last)),
             None => {
                 let vector = vector_of(interrupt);
-                let nodes = standing_for(self.cert, self.procedure, vector, &left, last)?;
+                let nodes = standing_for(
+                    &self.program(),
+                    self.cert,
+                    self.procedure,
+                    vector,
+                    &left,
+                    last,
+                )?;
                 Some(Onward::Nodes(nodes))
             }
         }

@@ -7,8 +7,8 @@ use crate::onward::{LeadsTo, NodeSite, Onward, Standby, state_of};
 use crate::parts::weakened;
 use gb_draft::limits::COMPARED;
 use gb_draft::{
-    Abs, Cert, Precedence, Rom, Rules, WriteFault, add_in_order, check_irqs, check_node, covers,
-    enter, taken_by,
+    Abs, Cert, Precedence, Program, Rom, Rules, WriteFault, add_in_order, check_irqs, check_node,
+    covers, enter, taken_by,
 };
 use std::alloc::{AllocError, Global};
 use std::collections::BTreeSet;
@@ -138,8 +138,10 @@ fn is_spare(changed: &Changed, first: usize, number: usize) -> bool {
         if other != number
             && let Some(with) = changed.nodes.get(other)
             && !with.is_spare
-            && covers(&node.state, &with.state)
-            && (other < number || changed.is_entry(other) || !covers(&with.state, &node.state))
+            && covers(&Program::unknown(), &node.state, &with.state)
+            && (other < number
+                || changed.is_entry(other)
+                || !covers(&Program::unknown(), &with.state, &node.state))
         {
             return true;
         }
@@ -226,7 +228,11 @@ fn add_entered(
         if other != callee
             && changed.entry_address(other) == address
             && let Some(entry) = changed.entry_state(other)
-            && covers(&enter(Rules::Extended, taken_by(cert, other), after), entry)
+            && covers(
+                &Program::unknown(),
+                &enter(Rules::Extended, taken_by(cert, other), after),
+                entry,
+            )
         {
             precedences.insert(Precedence {
                 before: usize::from(callee),

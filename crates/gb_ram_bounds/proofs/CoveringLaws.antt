@@ -9,12 +9,12 @@ use Rattle.gb_domain.specs.Interval.{any_byte, lies_in}
 use Rattle.gb_domain.specs.Meaning.{In}
 use Rattle.gb_domain.proofs.IntervalLaws.{In-lies_in}
 use Rattle.gb_domain.specs.declared.types.Cell.{Cell}
-use Rattle.gb_ram_bounds.specs.declared.facts.Fact.{Fact}
+use Rattle.gb_domain.specs.declared.summary.Fact.{Fact}
 use Rattle.gb_ram_bounds.specs.declared.pointers.Pointers.{Pointers}
-use Rattle.gb_ram_bounds.specs.declared.fills.Reach.{Reach}
-use Rattle.gb_ram_bounds.specs.declared.fills.Reach.TheVariants.{Below, Above}
-use Rattle.gb_ram_bounds.specs.declared.fills.FillEnd.{FillEnd}
-use Rattle.gb_ram_bounds.specs.declared.fills.Fill.{Fill}
+use Rattle.gb_domain.specs.declared.summary.Reach.{Reach}
+use Rattle.gb_domain.specs.declared.summary.Reach.TheVariants.{Below, Above}
+use Rattle.gb_domain.specs.declared.summary.FillEnd.{FillEnd}
+use Rattle.gb_domain.specs.declared.summary.Fill.{Fill}
 use Rattle.gb_ram_bounds.specs.Cells.{cell_at, is_there, has_cell}
 use Rattle.gb_ram_bounds.specs.Facts.{has_address, cut_by_facts}
 use Rattle.gb_ram_bounds.specs.Fills.{at_pointer, is_same_pointer, is_on, is_reached, farthest, may_be_reached, may_reach, reaches, bytes_of, cut_by_fills}

@@ -14,7 +14,7 @@ use Rattle.gb_domain.proofs.ModulusLaws.{each_modulus}
 use Rattle.gb_domain.proofs.IntervalLaws.{cut_leaves, In-lies_in}
 use Rattle.gb_domain.specs.declared.types.Cell.{Cell}
 use Rattle.gb_ram_bounds.specs.declared.addresses.AddressSet.{AddressSet}
-use Rattle.gb_ram_bounds.specs.declared.facts.Fact.{Fact}
+use Rattle.gb_domain.specs.declared.summary.Fact.{Fact}
 use Rattle.gb_ram_bounds.specs.Cells.{cell_at, is_there, has_cell}
 use Rattle.gb_ram_bounds.specs.Addresses.{is_in, is_one}
 use Rattle.gb_ram_bounds.specs.Facts.{has_address, or_same, cut_or_same, cut_by_fact, cut_by_facts, is_met_at, meets, is_apart, is_broken, unbroken, is_to_cell, level_after, allows, is_given_back, keeps_facts}

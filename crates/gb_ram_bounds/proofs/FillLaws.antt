@@ -14,10 +14,10 @@ use Rattle.gb_ram_bounds.specs.declared.addresses.AddressSet.{AddressSet}
 use Rattle.gb_ops.specs.declared.op.Pointer.{Pointer}
 use Rattle.gb_ops.specs.declared.op.Pointer.TheVariants.{Bc, De, Hl, HighC}
 use Rattle.gb_ram_bounds.specs.declared.pointers.Pointers.{Pointers}
-use Rattle.gb_ram_bounds.specs.declared.fills.Reach.{Reach}
-use Rattle.gb_ram_bounds.specs.declared.fills.Reach.TheVariants.{Below, Above}
-use Rattle.gb_ram_bounds.specs.declared.fills.FillEnd.{FillEnd}
-use Rattle.gb_ram_bounds.specs.declared.fills.Fill.{Fill}
+use Rattle.gb_domain.specs.declared.summary.Reach.{Reach}
+use Rattle.gb_domain.specs.declared.summary.Reach.TheVariants.{Below, Above}
+use Rattle.gb_domain.specs.declared.summary.FillEnd.{FillEnd}
+use Rattle.gb_domain.specs.declared.summary.Fill.{Fill}
 use Rattle.gb_ram_bounds.specs.Cells.{has_cell}
 use Rattle.gb_ram_bounds.specs.Addresses.{is_in}
 use Rattle.gb_ram_bounds.specs.Facts.{cut_or_same, is_to_cell}
@@ -396,7 +396,7 @@ is_on-lowered Above p n offset a h =
     subst (λ z. nat_lt z (a + 32768) ≡ true) e h
 
 -- with another distance the fill is about the same addresses
-HoldsFill-moved :
+pub HoldsFill-moved :
     (e : FillEnd) (offset : ℕ) (f : Fill) (cells : List Cell) (memory : ℕ → ℕ) (x y : Pointers ℕ)
     → f.end ≡ Some e
     → ((a : ℕ) → is_reached (record e { offset = offset }) (at_pointer e.pointer y) a ≡ true → is_reached e (at_pointer e.pointer x) a ≡ true)
@@ -404,13 +404,13 @@ HoldsFill-moved :
 HoldsFill-moved e offset f cells memory x y ends same h =
     record { gives = λ a between reached. h.gives a between (subst (λ r. reaches r x a ≡ true) (sym ends) (same a reached)) }
 
-reached-raised :
+pub reached-raised :
     (e : FillEnd) (p r n a : ℕ) → n ≤ e.offset → r ≡ p + n → is_reached (record e { offset = e.offset - n }) r a ≡ true → is_reached e p a ≡ true
 unfolding is_reached
 reached-raised e p r n a le at h =
     is_on-raised e.reach p n e.offset a le (subst (λ z. is_on e.reach z (e.offset - n) a ≡ true) at h)
 
-reached-lowered :
+pub reached-lowered :
     (e : FillEnd) (p r n a : ℕ) → p ≡ r + n → is_reached (record e { offset = e.offset + n }) r a ≡ true → is_reached e p a ≡ true
 unfolding is_reached
 reached-lowered e p r n a at h = subst (λ z. is_on e.reach z e.offset a ≡ true) (sym at) (is_on-lowered e.reach r n e.offset a h)

@@ -7,10 +7,10 @@ use Rattle.gb_domain.specs.declared.types.Range.{Range}
 use Rattle.gb_domain.specs.declared.pairs.Bounds.{Bounds}
 use Rattle.gb_domain.specs.Meaning.{In}
 use Rattle.gb_domain.specs.declared.types.Cell.{Cell}
-use Rattle.gb_ram_bounds.specs.declared.facts.Fact.{Fact}
+use Rattle.gb_domain.specs.declared.summary.Fact.{Fact}
 use Rattle.gb_ram_bounds.specs.declared.pointers.Pointers.{Pointers}
-use Rattle.gb_ram_bounds.specs.declared.fills.FillEnd.{FillEnd}
-use Rattle.gb_ram_bounds.specs.declared.fills.Fill.{Fill}
+use Rattle.gb_domain.specs.declared.summary.FillEnd.{FillEnd}
+use Rattle.gb_domain.specs.declared.summary.Fill.{Fill}
 use Rattle.gb_ram_bounds.specs.Cells.{has_cell}
 use Rattle.gb_ram_bounds.specs.Addresses.{each_between}
 use Rattle.gb_ram_bounds.specs.Facts.{has_address}

@@ -14,10 +14,10 @@ use Rattle.gb_domain.specs.Meaning.{In, InSome}
 use Rattle.gb_domain.proofs.ModulusLaws.{Has-low_bits}
 use Rattle.gb_domain.proofs.IntervalLaws.{least-above, cut_leaves}
 use Rattle.gb_domain.specs.Values.{interval_of}
-use Rattle.gb_ram_bounds.specs.declared.facts.Fact.{Fact}
+use Rattle.gb_domain.specs.declared.summary.Fact.{Fact}
 use Rattle.gb_ram_bounds.specs.declared.pointers.Pointers.{Pointers}
-use Rattle.gb_ram_bounds.specs.declared.fills.FillEnd.{FillEnd}
-use Rattle.gb_ram_bounds.specs.declared.fills.Fill.{Fill}
+use Rattle.gb_domain.specs.declared.summary.FillEnd.{FillEnd}
+use Rattle.gb_domain.specs.declared.summary.Fill.{Fill}
 use Rattle.gb_ram_bounds.specs.Cells.{cell_at, is_there, has_cell}
 use Rattle.gb_ram_bounds.specs.Facts.{has_address, or_same, cut_or_same, cut_by_fact, cut_by_facts}
 use Rattle.gb_ram_bounds.specs.Fills.{surely_reaches, may_reach, is_between, bytes_of, is_in_extent, cut_by_fill, cut_by_fills}

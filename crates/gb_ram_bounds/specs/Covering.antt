@@ -5,12 +5,12 @@ use Rattle.gb_domain.specs.declared.pairs.Bounds.{Bounds}
 use Rattle.gb_domain.specs.declared.interval.StridedInterval.{StridedInterval}
 use Rattle.gb_domain.specs.Interval.{any_byte, lies_in}
 use Rattle.gb_domain.specs.declared.types.Cell.{Cell}
-use Rattle.gb_ram_bounds.specs.declared.facts.Fact.{Fact}
+use Rattle.gb_domain.specs.declared.summary.Fact.{Fact}
 use Rattle.gb_ram_bounds.specs.declared.pointers.Pointers.{Pointers}
-use Rattle.gb_ram_bounds.specs.declared.fills.Reach.{Reach}
-use Rattle.gb_ram_bounds.specs.declared.fills.Reach.TheVariants.{Below, Above}
-use Rattle.gb_ram_bounds.specs.declared.fills.FillEnd.{FillEnd}
-use Rattle.gb_ram_bounds.specs.declared.fills.Fill.{Fill}
+use Rattle.gb_domain.specs.declared.summary.Reach.{Reach}
+use Rattle.gb_domain.specs.declared.summary.Reach.TheVariants.{Below, Above}
+use Rattle.gb_domain.specs.declared.summary.FillEnd.{FillEnd}
+use Rattle.gb_domain.specs.declared.summary.Fill.{Fill}
 use Rattle.gb_ram_bounds.specs.Cells.{cell_at, has_cell}
 use Rattle.gb_ram_bounds.specs.Addresses.{each_between}
 use Rattle.gb_ram_bounds.specs.Facts.{has_address, cut_by_facts}

@@ -7,7 +7,7 @@ use Rattle.gb_domain.specs.Interval.{cut, lies_in}
 use Rattle.gb_domain.specs.Values.{interval_of}
 use Rattle.gb_domain.specs.declared.types.Cell.{Cell}
 use Rattle.gb_ram_bounds.specs.declared.addresses.AddressSet.{AddressSet}
-use Rattle.gb_ram_bounds.specs.declared.facts.Fact.{Fact}
+use Rattle.gb_domain.specs.declared.summary.Fact.{Fact}
 use Rattle.gb_ram_bounds.specs.Cells.{has_cell}
 use Rattle.gb_ram_bounds.specs.Addresses.{is_in, is_one, some_between}
 

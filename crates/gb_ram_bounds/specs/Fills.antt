@@ -8,10 +8,10 @@ use Rattle.gb_ram_bounds.specs.declared.addresses.AddressSet.{AddressSet}
 use Rattle.gb_ops.specs.declared.op.Pointer.{Pointer}
 use Rattle.gb_ops.specs.declared.op.Pointer.TheVariants as pointer
 use Rattle.gb_ram_bounds.specs.declared.pointers.Pointers.{Pointers}
-use Rattle.gb_ram_bounds.specs.declared.fills.Reach.{Reach}
-use Rattle.gb_ram_bounds.specs.declared.fills.Reach.TheVariants.{Below, Above}
-use Rattle.gb_ram_bounds.specs.declared.fills.FillEnd.{FillEnd}
-use Rattle.gb_ram_bounds.specs.declared.fills.Fill.{Fill}
+use Rattle.gb_domain.specs.declared.summary.Reach.{Reach}
+use Rattle.gb_domain.specs.declared.summary.Reach.TheVariants.{Below, Above}
+use Rattle.gb_domain.specs.declared.summary.FillEnd.{FillEnd}
+use Rattle.gb_domain.specs.declared.summary.Fill.{Fill}
 use Rattle.gb_ram_bounds.specs.Addresses.{is_in, some_between}
 use Rattle.gb_ram_bounds.specs.Facts.{cut_or_same, is_to_cell}
 

@@ -6,10 +6,10 @@ use Rattle.gb_domain.specs.declared.interval.StridedInterval.{StridedInterval}
 use Rattle.gb_domain.specs.Meaning.{In}
 use Rattle.gb_domain.specs.declared.types.Cell.{Cell}
 use Rattle.gb_ram_bounds.specs.declared.addresses.AddressSet.{AddressSet}
-use Rattle.gb_ram_bounds.specs.declared.facts.Fact.{Fact}
+use Rattle.gb_domain.specs.declared.summary.Fact.{Fact}
 use Rattle.gb_ops.specs.declared.op.Pointer.{Pointer}
 use Rattle.gb_ram_bounds.specs.declared.pointers.Pointers.{Pointers}
-use Rattle.gb_ram_bounds.specs.declared.fills.Fill.{Fill}
+use Rattle.gb_domain.specs.declared.summary.Fill.{Fill}
 use Rattle.gb_ram_bounds.specs.Cells.{cell_at, has_cell}
 use Rattle.gb_ram_bounds.specs.Addresses.{is_in}
 use Rattle.gb_ram_bounds.specs.Facts.{has_address}

@@ -6,9 +6,9 @@ use Rattle.gb_domain.specs.declared.types.Cell.{Cell}
 use Rattle.gb_domain.specs.LowBits.{are_congruent}
 use Rattle.gb_domain.specs.Interval.{lies_in}
 use Rattle.gb_domain.specs.Values.{interval_of}
-use Rattle.gb_ram_bounds.specs.declared.facts.Fact.{Fact}
-use Rattle.gb_ram_bounds.specs.declared.fills.FillEnd.{FillEnd}
-use Rattle.gb_ram_bounds.specs.declared.fills.Fill.{Fill}
+use Rattle.gb_domain.specs.declared.summary.Fact.{Fact}
+use Rattle.gb_domain.specs.declared.summary.FillEnd.{FillEnd}
+use Rattle.gb_domain.specs.declared.summary.Fill.{Fill}
 use Rattle.gb_ram_bounds.specs.Cells.{has_cell}
 use Rattle.gb_ram_bounds.specs.Fills.{is_between, bytes_of}
 use Rattle.gb_ram_bounds.specs.Covering.{ends_as_far}

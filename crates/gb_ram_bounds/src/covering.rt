@@ -5,11 +5,12 @@ ghost use Rattle.gb_ram_bounds.specs.Covering as Covering;
 ghost use Rattle.gb_ram_bounds.specs.Meaning.{IsSoundByte, GivesFacts, GivesFills};
 
 use crate::cells::{cell_at, has_cell};
-use crate::facts::{Fact, cut_by_facts, has_address};
-use crate::fills::{Fill, FillEnd, Reach, cut_by_fills, may_reach};
+use crate::facts::{cut_by_facts, has_address};
+use crate::fills::{cut_by_fills, may_reach};
 use crate::pointers::{Pointers, is_same};
 use crate::throughout::{is_filled_throughout, is_given_throughout};
 use gb_domain::interval::{bounds, lies_in};
+use gb_domain::summary::{Fact, Fill, FillEnd, Reach};
 use gb_domain::types::Cell;
 use gb_domain::{Bounds, StridedInterval};
 

@@ -9,18 +9,9 @@ use crate::cells::has_cell;
 use gb_domain::StridedInterval;
 use gb_domain::interval::{cut, lies_in};
 use gb_domain::low_bits::are_congruent;
+use gb_domain::summary::Fact;
 use gb_domain::types::Cell;
 use gb_domain::values::interval_of;
-
-/// The bytes at `first`, `first` + `step` and so on to `last` have one of these values each, cells apart.
-#[derive(Clone, Copy)]
-pub struct Fact {
-    pub first: u16,
-    pub last: u16,
-    /// Of 0 there is no address.
-    pub step: u8,
-    pub value: StridedInterval,
-}
 
 /// Whether a fact is about an address.
 #[tactic(auto, unfolding(crate::specs::Facts::has_address))]

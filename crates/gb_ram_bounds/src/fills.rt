@@ -8,35 +8,10 @@ use crate::addresses::{AddressSet, is_in};
 use crate::facts::{cut_or_same, is_to_cell};
 use crate::pointers::{Pointers, is_same};
 use gb_domain::interval::bounds;
+use gb_domain::summary::{Fill, FillEnd, Reach};
 use gb_domain::types::Cell;
 use gb_domain::{Bounds, StridedInterval};
 use gb_ops::op::Pointer;
-
-/// On which side of its end a fill is.
-#[derive(Clone, Copy)]
-pub enum Reach {
-    Below,
-    Above,
-}
-
-/// An end that is a pointer plus a distance.
-#[derive(Clone, Copy)]
-pub struct FillEnd {
-    pub pointer: Pointer,
-    pub reach: Reach,
-    /// The distance in offset binary: 32,768 more than it is.
-    pub offset: u16,
-}
-
-/// The bytes from `first` to `last` are from `lo` to `hi`, cells apart; where there is an end, those on its side alone.
-#[derive(Clone, Copy)]
-pub struct Fill {
-    pub first: u16,
-    pub last: u16,
-    pub lo: u8,
-    pub hi: u8,
-    pub end: Option<FillEnd>,
-}
 
 /// A distance of 0.
 const NO_DISTANCE: u16 = 32_768;

@@ -21,6 +21,4 @@ pub mod returned;
 mod throughout;
 
 pub use addresses::AddressSet;
-pub use facts::Fact;
-pub use fills::{Fill, FillEnd, Reach};
 pub use pointers::Pointers;

@@ -4,15 +4,16 @@ ghost use Rattle.std.specs.Prelude.{◌≡◌, true};
 ghost use Rattle.gb_ram_bounds.specs.Returned as Returned;
 
 use crate::cells::has_cell;
-use crate::facts::{Fact, has_address};
-use crate::fills::{Fill, fixed_at};
+use crate::facts::has_address;
+use crate::fills::fixed_at;
 use crate::pointers::Pointers;
 use gb_domain::Bounds;
+use gb_domain::summary::{Fact, Fill};
 use gb_domain::types::{Cell, Range};
 
 /// Whether an address lies in one of the ranges.
 #[tactic(auto, unfolding(crate::specs::Returned::is_in_ranges))]
-fn is_in_ranges(ranges: &[Range], address: u16) -> bool
+pub fn is_in_ranges(ranges: &[Range], address: u16) -> bool
     ensures { result ≡ Returned.is_in_ranges ranges.now address }
 {
     ranges

@@ -5,11 +5,10 @@ ghost use Rattle.gb_ram_bounds.specs.Throughout as Throughout;
 
 use crate::cells::has_cell;
 use crate::covering::ends_as_far;
-use crate::facts::Fact;
-use crate::fills::Fill;
 use gb_domain::StridedInterval;
 use gb_domain::interval::{bounds, lies_in};
 use gb_domain::low_bits::are_congruent;
+use gb_domain::summary::{Fact, Fill};
 use gb_domain::types::Cell;
 use gb_domain::values::interval_of;
 

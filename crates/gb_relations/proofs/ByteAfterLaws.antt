@@ -47,21 +47,21 @@ pub Holds-begun :
     → Begins region o sp vals low r p memory l h → Holds (values_of vals r.pairs) p.registers
 Holds-begun b = record { registers = b.registers; pairs = b.relations.pairs }
 
-Within-hl : (v : Values) (p : Processor) → Holds v p.registers → Within (bytes.at_hl v) (hl p)
+pub Within-hl : (v : Values) (p : Processor) → Holds v p.registers → Within (bytes.at_hl v) (hl p)
 unfolding pair_value
 Within-hl v p m = (bounds_of_sound words.Hl v _ refl).gives p.registers m
 
-Within-indirect : (which : Indirect) (v : Values) (p : Processor) → Holds v p.registers → Within (bytes.at_indirect which v) (indirect_address p which)
+pub Within-indirect : (which : Indirect) (v : Values) (p : Processor) → Holds v p.registers → Within (bytes.at_indirect which v) (indirect_address p which)
 unfolding indirect_address pair_value
 Within-indirect indirect.Bc v p m = (bounds_of_sound words.Bc v _ refl).gives p.registers m
 Within-indirect indirect.De v p m = (bounds_of_sound words.De v _ refl).gives p.registers m
 Within-indirect indirect.HlIncrement v p m = (bounds_of_sound words.Hl v _ refl).gives p.registers m
 Within-indirect indirect.HlDecrement v p m = (bounds_of_sound words.Hl v _ refl).gives p.registers m
 
-Within-one : (a : ℕ) → Within (bytes.one a) a
+pub Within-one : (a : ℕ) → Within (bytes.one a) a
 Within-one a = record { least = omega arith; most = omega arith }
 
-Within-high : (v : Values) (c : ℕ) → In v.registers.c c → Within (bytes.at_high v) (0xFF00 + c)
+pub Within-high : (v : Values) (c : ℕ) → In v.registers.c c → Within (bytes.at_high v) (0xFF00 + c)
 Within-high v c m =
     let low : v.registers.c.lo ≤ c = m.least in
     let high : c ≤ v.registers.c.hi = m.most in
@@ -93,7 +93,7 @@ HoldOneByte-counted which b p memory h =
     subst (λ f. HoldOneByte (bytes.without_registers (counted which) b) (with_indirect p which).registers memory f) (sym (with_indirect-flags which p))
     (HoldOneByte-registers (counted which) b p.registers (with_indirect p which).registers memory p.flags (Overwrites-indirect which p) h)
 
-Overwrites-beside_a : (which : Indirect) (p : Processor) (l : ℕ) → Overwrites (counted which) (set A l p.registers) (record (with_indirect p which).registers { a = l })
+pub Overwrites-beside_a : (which : Indirect) (p : Processor) (l : ℕ) → Overwrites (counted which) (set A l p.registers) (record (with_indirect p which).registers { a = l })
 unfolding with_indirect with_pair
 Overwrites-beside_a indirect.Bc p l = refl
 Overwrites-beside_a indirect.De p l = refl

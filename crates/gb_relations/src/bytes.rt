@@ -25,7 +25,8 @@ const IS_ZERO: Test = Test::Bits(0xFF);
 
 // ---- addresses
 
-fn one(address: u16) -> Bounds
+/// An address alone.
+pub fn one(address: u16) -> Bounds
     ensures { result ≡ Bytes.one address }
 {
     Bounds {
@@ -34,13 +35,15 @@ fn one(address: u16) -> Bounds
     }
 }
 
-fn at_hl(values: &Values) -> Bounds
+/// The addresses that HL may hold.
+pub fn at_hl(values: &Values) -> Bounds
     ensures { result ≡ Bytes.at_hl values.now }
 {
     bounds_of(WordPair::Hl, values)
 }
 
-fn at_indirect(indirect: Indirect, values: &Values) -> Bounds
+/// The addresses that an operand's pair may hold.
+pub fn at_indirect(indirect: Indirect, values: &Values) -> Bounds
     ensures { result ≡ Bytes.at_indirect indirect values.now }
 {
     match indirect {
@@ -57,7 +60,8 @@ fn high(low: u8) -> u16
     0xFF00 + u16::from(low)
 }
 
-fn at_high(values: &Values) -> Bounds
+/// FF00 and what C may hold.
+pub fn at_high(values: &Values) -> Bounds
     ensures { result ≡ Bytes.at_high values.now }
 {
     Bounds {

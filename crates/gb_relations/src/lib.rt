@@ -7,21 +7,28 @@
 //! `pairs`, what is left of each part. `pointers` says where an instruction reads or writes by a pair, and the carry of ADD HL.
 #![tactic(auto)]
 
-mod bytes;
+pub mod bytes;
 pub mod compared;
-mod pairs;
-mod places;
+pub mod pairs;
+pub mod places;
 pub mod pointers;
 pub mod returned;
 pub mod transfer;
-mod written;
+pub mod written;
 
 pub use returned::Kept;
 
 // What lies below, for the crates above.
+pub use gb_copies::bank_covering::covers as covers_shadows;
+pub use gb_copies::bank_returned::{Preserved, returned as shadows_returned_by};
 pub use gb_copies::covering::covers_byte;
+pub use gb_copies::fitting::fitting;
+pub use gb_copies::shadows::{copied_to_address, copied_to_register, stored, without_register};
 pub use gb_copies::sides::{PlaceContents, narrowed};
+pub use gb_copies::windows::{has_windows, is_in_window};
+pub use gb_copies::{BankWindow, Known};
 pub use gb_domain::places::has_place;
+pub use gb_pairs::bounds::bounds_of;
 pub use gb_pairs::covering::covers_pairs;
 pub use gb_pairs::reduced::{reduce, restricted};
 pub use gb_pairs::values::Values;

@@ -67,7 +67,7 @@ fn after_indirect(indirect: Indirect, values: &Values) -> Pairs
 }
 
 /// What ADD HL adds, where SP has these bounds.
-pub(crate) fn addend(pair: Pair, sp: Bounds, values: &Values) -> Bounds
+pub fn addend(pair: Pair, sp: Bounds, values: &Values) -> Bounds
     ensures { result ≡ addend pair sp values.now }
 {
     match pair {
@@ -78,7 +78,8 @@ pub(crate) fn addend(pair: Pair, sp: Bounds, values: &Values) -> Bounds
     }
 }
 
-pub(crate) fn is_hl(pair: Pair) -> bool
+/// Whether a pair is HL.
+pub fn is_hl(pair: Pair) -> bool
     ensures { result ≡ is_hl pair }
 {
     matches!(pair, Pair::Hl)

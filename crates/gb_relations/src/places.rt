@@ -8,7 +8,8 @@ use gb_domain::places::Place;
 use gb_ops::machine::Region;
 use gb_pairs::bounds::is_one;
 
-fn is_ram(address: u16) -> bool
+/// Whether an address is one of RAM.
+pub fn is_ram(address: u16) -> bool
     ensures { result ≡ Places.is_ram address }
 {
     0xC000 <= address && address <= 0xDFFF || 0xFF80 <= address && address <= 0xFFFE
@@ -33,7 +34,7 @@ fn free_place(region: Region, address: u16) -> Option<Place>
 
 /// Where a store to these addresses stores, where that is one known address.
 #[tactic(auto, unfolding(crate::specs::Places::stored_place))]
-pub(crate) fn stored_place(region: Region, addresses: Bounds) -> Option<Place>
+pub fn stored_place(region: Region, addresses: Bounds) -> Option<Place>
     ensures { result ≡ Places.stored_place region addresses }
 {
     if is_one(addresses) {
@@ -56,7 +57,7 @@ fn behind_echo(address: u16) -> u16
 
 /// Where a load from these addresses reads, where that is one known address.
 #[tactic(auto, unfolding(crate::specs::Places::loaded_place))]
-pub(crate) fn loaded_place(region: Region, addresses: Bounds) -> Option<Place>
+pub fn loaded_place(region: Region, addresses: Bounds) -> Option<Place>
     ensures { result ≡ Places.loaded_place region addresses }
 {
     if is_one(addresses) {

@@ -10,7 +10,7 @@ use gb_ops::op::{AluOp, Indirect, Op, Operand, Pair, Register, StackPair};
 
 /// The registers that an instruction writes.
 #[derive(Clone, Copy)]
-pub(crate) enum Written {
+pub enum Written {
     Nothing,
     One(Register),
     Two(Register, Register),
@@ -40,7 +40,7 @@ fn stack_halves(pair: StackPair) -> Written
 }
 
 /// HL, where the operand counts it.
-pub(crate) fn counted(indirect: Indirect) -> Written
+pub fn counted(indirect: Indirect) -> Written
     ensures { Writes.list_of result ≡ Writes.counted indirect }
 {
     match indirect {
@@ -94,7 +94,7 @@ fn alu_register(how: AluOp) -> Written
 
 /// The registers that an instruction writes.
 #[tactic(auto, unfolding(crate::specs::Written::written))]
-pub(crate) fn written_by(op: Op) -> Written
+pub fn written_by(op: Op) -> Written
     ensures { Writes.list_of result ≡ Writes.written op }
 {
     match op {

@@ -81,9 +81,19 @@ fn store_advice(finding: &InstructionFinding, span: Span) -> Advice {
     }
 }
 
+/// Whether an access goes to cartridge RAM alone: a pointer to a text in ROM that may run on isn't meant for it.
+fn is_for_cartridge_ram(finding: &InstructionFinding) -> bool {
+    match finding.cause {
+        Cause::CartridgeRam { span } => {
+            finding.has_ram && 0xA000 <= span.first && span.last <= 0xBFFF
+        }
+        _ => false,
+    }
+}
+
 /// An access to cartridge RAM by a pointer, which a loop may move.
 fn pointer_to_ram_advice(finding: &InstructionFinding) -> Advice {
-    match (moves_pointer(finding.op), finding.has_ram) {
+    match (moves_pointer(finding.op), is_for_cartridge_ram(finding)) {
         (true, true) => advice::LOOP_TO_CARTRIDGE_RAM,
         (true, false) => advice::LOOP_TO_NO_RAM,
         (false, true) => advice::POINTER_TO_CARTRIDGE_RAM,

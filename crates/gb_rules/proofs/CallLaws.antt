@@ -10,6 +10,8 @@ use Rattle.gb_successors.specs.Below.gb_domain.declared.types.Val.{Val}
 use Rattle.gb_successors.specs.Below.gb_domain.declared.types.Halves.{Halves}
 use Rattle.gb_successors.specs.Below.gb_domain.Types.{AbsState}
 use Rattle.gb_successors.specs.Below.gb_domain.Areas.{IsRegion}
+use Rattle.gb_successors.proofs.Below.gb_product_laws.SummaryLaws.{IsSummarized-quiet}
+use Rattle.gb_successors.specs.Below.gb_domain.Summaries.{no_summary}
 use Rattle.gb_successors.specs.Below.gb_product.Meaning.{Means}
 use Rattle.gb_successors.specs.Below.gb_abs.Meaning.{Activation, Holds, MeansCore, AreItems, MeansParts}
 use Rattle.gb_successors.specs.Below.gb_abs.Stack.{pushed}
@@ -57,10 +59,10 @@ sp_pushed w s entry base x m set =
     ap (λ k. x.processor.sp + k) (sym n) ∙ stack
 
 -- without the word that was pushed last
-pub Means-without_word : (w : Halves) (s : AbsState) (entry : Activation) (base : ℕ) (x : MState) → Means (pushed w s) entry base x → s.core.stack_set ≡ true → x.processor.sp + 2 < 65536
+pub Means-without_word : (w : Halves) (s : AbsState) (entry : Activation) (base : ℕ) (x : MState) → Means (pushed w s) entry base x → s.summary ≡ no_summary → s.core.stack_set ≡ true → x.processor.sp + 2 < 65536
     → Means s entry base (without_word x)
 unfolding pushed
-Means-without_word w s entry base x m set small =
+Means-without_word w s entry base x m quiet set small =
     let sp = sp_pushed w s entry base x m.parts set in
     record {
       parts = record {
@@ -72,6 +74,7 @@ Means-without_word w s entry base x m set small =
         cells = m.parts.cells;
       };
       related = m.related;
+      summary = IsSummarized-quiet s entry (without_word x) quiet;
     }
   where
     less : (n : ℕ) → x.processor.sp + (n + 2) ≡ base → x.processor.sp + 2 + n ≡ base

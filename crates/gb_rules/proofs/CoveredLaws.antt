@@ -1,6 +1,8 @@
 -- Value by value: what a loop over a register's values keeps, and what is left of the states with one.
-use Rattle.std.proofs.Common.{◌≡◌, ℕ, zero, suc, ◌+◌, ◌-◌, ◌≤◌, ◌<◌, ◌⊎◌, inl, inr, Bool, true, false, ◌&&◌, refl, sym, ◌∙◌, ap, subst, arith}
+use Rattle.std.proofs.Common.{◌≡◌, ℕ, zero, suc, ◌+◌, ◌-◌, ◌≤◌, ◌<◌, ◌⊎◌, inl, inr, Bool, true, false, ◌&&◌, ◌||◌, [], ◌∷◌, Some, None, refl, sym, ◌∙◌, ap, subst, arith}
 use Rattle.std.specs.Prelude.{List, Option, option_map}
+use Rattle.std.specs.List.{list_any}
+use Rattle.gb_ops.specs.Registers.{get}
 use Rattle.gb_ops.specs.declared.op.Register.{Register}
 use Rattle.gb_successors.specs.Below.gb_domain.declared.relations.Relations.{Relations}
 use Rattle.gb_successors.specs.Below.gb_domain.declared.rules.Rules.{Rules}
@@ -9,7 +11,12 @@ use Rattle.gb_successors.specs.Below.gb_domain.Types.{AbsState, Node}
 use Rattle.gb_successors.specs.Below.gb_abs.Operations.{core_with_value}
 use Rattle.gb_successors.specs.Below.gb_product.declared.parts.Product.{Product}
 use Rattle.gb_successors.specs.Below.gb_product.Reduced.{reduced}
-use Rattle.gb_rules.specs.Covered.{all_from, is_covered_if, is_value_covered, reduced_state, with_parts, with_product, with_value}
+use Rattle.gb_successors.specs.Below.gb_abs.Covering.{covers_parts}
+use Rattle.gb_successors.specs.Below.gb_abs.Operations.{with_core}
+use Rattle.gb_successors.specs.Below.gb_domain.Summaries.{SummaryParts, Program}
+use Rattle.gb_successors.specs.Below.gb_product.Covering.{covers}
+use Rattle.gb_successors.specs.Behind.{with_relations, with_summary}
+use Rattle.gb_rules.specs.Covered.{all_from, count_of, registers, covered_at, is_covered_by_one, is_covered_by_values, is_covered_if, is_value_covered, reduced_state, with_parts, with_product, with_value}
 
 -- one more value passes
 pub all_from-more : (test : ℕ → Bool) (first v : ℕ) → first ≤ v → all_from test first (v - first) ≡ true → test v ≡ true → all_from test first (v + 1 - first) ≡ true
@@ -36,8 +43,21 @@ all_from-stopped test first (suc n) v le lt apart = elim (split first n v lt) [
 -- ---- one value
 
 -- what is left of the states with a value, and whether a node stands for it
-pub value_left : (rules : Rules) (nodes : List Node) (procedure a : ℕ) (core : Core) (relations : Relations) (lists : AbsState) (r : Register) (v : ℕ) (left : Option Product) (b : Bool)
-    → left ≡ reduced rules (core_with_value r v core) relations → b ≡ is_covered_if nodes procedure a (option_map (with_product lists) left)
-    → is_value_covered rules nodes procedure a (with_parts core relations lists) r v ≡ b
+pub value_left :
+    (program : Program) (rules : Rules) (nodes : List Node) (procedure a : ℕ) (core : Core) (relations : Relations) (m : SummaryParts) (lists : AbsState)
+    (r : Register) (v : ℕ) (left : Option Product) (b : Bool)
+    → left ≡ reduced rules (core_with_value r v core) relations
+    → b ≡ is_covered_if program nodes procedure a (option_map (with_product (with_parts core relations m lists)) left)
+    → is_value_covered program rules nodes procedure a (with_parts core relations m lists) r v ≡ b
 unfolding is_value_covered reduced_state with_value
-value_left rules nodes procedure a core relations lists r v left b e h = sym (h ∙ ap (λ o. is_covered_if nodes procedure a (option_map (with_product lists) o)) e)
+value_left program rules nodes procedure a core relations m lists r v left b e h =
+    sym (h ∙ ap (λ o. is_covered_if program nodes procedure a (option_map (with_product (with_parts core relations m lists)) o)) e)
+
+-- ---- states by their parts
+
+-- where another state has the parts
+pub covered_alike :
+    (program : Program) (rules : Rules) (nodes : List Node) (procedure a : ℕ) (core : Core) (relations : Relations) (m : SummaryParts) (lists state : AbsState) (b : Bool)
+    → state ≡ with_summary m (with_relations relations (with_core lists core)) → b ≡ covered_at program rules nodes procedure a (with_parts core relations m lists)
+    → b ≡ covered_at program rules nodes procedure a state
+covered_alike program rules nodes procedure a core relations m lists state b e h = h ∙ ap (covered_at program rules nodes procedure a) (sym e)

@@ -36,6 +36,9 @@ use Rattle.gb_successors.specs.Below.gb_vals.Bits.{has_bit, may_have_bit}
 use Rattle.gb_successors.proofs.Below.gb_vals_laws.BitLaws.{may_have_bit_sound}
 use Rattle.gb_successors.specs.Below.gb_abs.Cells.{ArePlaced}
 use Rattle.gb_successors.specs.Below.gb_abs.Mark.{IsMarkHarmless}
+use Rattle.gb_successors.proofs.Below.gb_product_laws.SummaryLaws.{IsSummarized-quiet}
+use Rattle.gb_successors.proofs.RelatedLaws.{MeansParts-related}
+use Rattle.gb_successors.specs.Below.gb_domain.Summaries.{Program, no_summary}
 use Rattle.gb_successors.specs.Below.gb_product.Meaning.{AreRelated, Means}
 use Rattle.gb_successors.specs.Below.gb_abs.Meaning.{Activation, MeansCore, MeansParts, ime_may_be}
 use Rattle.gb_successors.specs.Below.gb_abs.Operations.{core_end, with_core}
@@ -43,14 +46,14 @@ use Rattle.gb_successors.specs.Below.gb_abs.Stack.{pushed}
 use Rattle.gb_successors.specs.Below.gb_abs.Storage.{peek}
 use Rattle.gb_successors.proofs.Below.gb_abs_laws.OperationLaws.{Holds-single}
 use Rattle.gb_successors.proofs.Below.gb_abs_laws.StackLaws.{IsRegionOpen-bound, MeansParts-pushed, MeansParts-with_core}
-use Rattle.gb_code.specs.Below.gb_abs_memory.Kept.{IsKept}
-use Rattle.gb_code.specs.Below.gb_abs_memory.Sound.{view}
+use Rattle.gb_successors.specs.Below.gb_code.Below.gb_abs_memory.Kept.{IsKept}
+use Rattle.gb_successors.specs.Below.gb_code.Below.gb_abs_memory.Sound.{view}
 use Rattle.gb_calls.specs.Calls.{callee_of, are_ranges_inside}
 use Rattle.gb_calls.specs.Resuming.{resumed}
 use Rattle.gb_calls.specs.Interrupts.{only_off, dispatched, left_by_dispatch, may_come, handler_of}
 use Rattle.gb_calls.proofs.CalleeLaws.{IsCallee-found, IsEntryNode-entry}
-use Rattle.gb_code.specs.Places.{IsCertified}
-use Rattle.gb_successors.specs.Behind.{ended}
+use Rattle.gb_successors.specs.Below.gb_code.Places.{IsCertified}
+use Rattle.gb_successors.specs.Behind.{ended, with_relations}
 use Rattle.gb_successors.specs.Below.gb_abs_effects.Pairs.{known_word}
 use Rattle.gb_successors.proofs.StackWayLaws.{not_pushed}
 use Rattle.gb_successors.proofs.SuccessorLaws.{MeansParts-ended, passed_peek}
@@ -159,9 +162,10 @@ MeansCore-masked s entry x i m = record {
 }
 
 dispatched_means : (s : AbsState) (a : ℕ) (entry : Activation) (base : ℕ) (y : MState) → MeansParts (pushed (known_word a) (dispatched s)) entry base y → AreRelated s.relations y
-    → Means (pushed (known_word a) (dispatched s)) entry base y
+    → s.summary ≡ no_summary → Means (pushed (known_word a) (dispatched s)) entry base y
 unfolding pushed dispatched
-dispatched_means s a entry base y parts related = record { parts = parts; related = related }
+dispatched_means s a entry base y parts related quiet =
+    record { parts = parts; related = related; summary = IsSummarized-quiet (pushed (known_word a) (dispatched s)) entry y quiet }
 
 -- memory that stays where a byte of the places is
 HoldRelations-apart : (r : Relations) (x : Registers ℕ) (memory after : ℕ → ℕ) (f : Flags) → ((a : ℕ) → r.byte.address ≡ Some a → after a ≡ memory a) → HoldRelations r x memory f → HoldRelations r x after f
@@ -185,7 +189,9 @@ pub record IsDispatched (rom : List ℕ) (cert : Certificate) (n : Node) (entry 
   pub faults : store_faults cert.region (view rom x false) (write.Push x.processor.sp n.address) ≡ no_faults
   pub kept : (b : ℕ) → IsKept (setting_of cert n.procedure) cert.region (ranges_of cert n.procedure) base b → peek (left_by rom x i n.address).storage b ≡ peek x.storage b
 
-pushed_ended : (s : AbsState) (a : ℕ) → ended false 5 (pushed (known_word a) (with_core s (masked s.core))) ≡ pushed (known_word a) (dispatched s)
+pushed_ended :
+    (s : AbsState) (a : ℕ)
+    → with_relations s.relations (ended false 5 (pushed (known_word a) (with_core s (masked s.core)))) ≡ pushed (known_word a) (dispatched s)
 unfolding ended pushed dispatched
 pushed_ended s a = refl
 
@@ -203,13 +209,15 @@ is_dispatched rom cert n entry base x i at is_node certificate set unlimited hel
     (IsRegionOpen-bound n.state.core entry x cert.region at.means.parts.core unlimited) (Holds-single (n.address / 256) entry) (Holds-single (n.address % 256) entry) s.address in
     record {
       means = dispatched_means n.state n.address entry base (left_by rom x i n.address) (subst (λ z. MeansParts z entry base (left_by rom x i n.address)) (pushed_ended n.state n.address)
-          (MeansParts-ended rom (pushed (known_word n.address) (with_core n.state (masked n.state.core))) entry base (left_by rom x i n.address).processor (stored (view rom x false) (write.Push x.processor.sp n.address)) false 5 done.starting done.means))
+          (MeansParts-related n.state.relations (ended false 5 (pushed (known_word n.address) (with_core n.state (masked n.state.core)))) entry base (left_by rom x i n.address)
+          (MeansParts-ended rom (pushed (known_word n.address) (with_core n.state (masked n.state.core))) entry base (left_by rom x i n.address).processor (stored (view rom x false) (write.Push x.processor.sp n.address)) false 5 done.starting done.means)))
           (HoldRelations-apart n.state.relations x.processor.registers (peek x.storage) (peek (left_by rom x i n.address).storage) x.processor.flags
           (λ b e. let p = byte_placed cert.region n.state.relations.byte.address b s.byte e in
           passed_peek (stored (view rom x false) (write.Push x.processor.sp n.address)) 5 b
           ∙ done.others b (placed_in_ram cert.region _ p) (not_pushed cert.region base x.processor.sp (length n.state.items) (x.processor.sp - 1) b room top (inl refl) (λ m. not_so (sym m ∙ p.apart)))
           (not_pushed cert.region base x.processor.sp (length n.state.items) (x.processor.sp - 2) b room top (inr refl) (λ m. not_so (sym m ∙ p.apart))))
-          at.means.related);
+          at.means.related)
+          s.quiet;
       faults = done.faults;
       kept = λ b kept. passed_peek (stored (view rom x false) (write.Push x.processor.sp n.address)) 5 b
           ∙ done.others b kept.ram (not_pushed cert.region base x.processor.sp (length n.state.items) (x.processor.sp - 1) b room top (inl refl) kept.above)
@@ -230,29 +238,33 @@ pub dispatched_cells : (s : AbsState) → (dispatched s).cells ≡ s.cells
 unfolding dispatched
 dispatched_cells s = refl
 
-handler_is : (cert : Certificate) (n : Node) (i : ℕ) → handler_of cert (simple_at cert n) i n.address n.state ≡ callee_of cert (simple_at cert n) (vector i) (dispatched n.state)
+dispatched_quiet : (s : AbsState) → s.summary ≡ no_summary → (dispatched s).summary ≡ no_summary
+unfolding dispatched
+dispatched_quiet s quiet = quiet
+
+handler_is : (program : Program) (cert : Certificate) (n : Node) (i : ℕ) → handler_of program cert (simple_at cert n) i n.address n.state ≡ callee_of program cert (simple_at cert n) (vector i) (dispatched n.state)
 unfolding handler_of left_by_dispatch
-handler_is cert n i = refl
+handler_is program cert n i = refl
 
 left_is : (a : ℕ) (s : AbsState) → left_by_dispatch Simple a s ≡ dispatched s
 unfolding left_by_dispatch
 left_is a s = refl
 
 -- behind a handler the procedure goes on at a node
-abbrev pub GoesOn : Certificate → Node → ℕ → Type 0
-GoesOn cert n q =
+abbrev pub GoesOn : Program → Certificate → Node → ℕ → Type 0
+GoesOn program cert n q =
     (exit : AbsState) → exit_of cert q ≡ Some exit
-    → IfSome (resumed Simple (taken_by cert q) (ranges_of cert q) (left_by_dispatch Simple n.address n.state) exit) (λ after. covered_at Simple cert.nodes n.procedure n.address after ≡ true)
+    → IfSome (resumed program Simple (taken_by cert q) (ranges_of cert q) (left_by_dispatch Simple n.address n.state) exit) (λ after. covered_at program Simple cert.nodes n.procedure n.address after ≡ true)
 
 handled : (rom : List ℕ) (cert : Certificate) (n : Node) (entry : Activation) (base : ℕ) (x : MState) (i q : ℕ) → IsAt rom cert n entry base x → Contains cert.nodes n → IsCertificate cert
-    → IsDispatched rom cert n entry base x i → x.processor.halt_mark ≡ false → n.state.core.stack_set ≡ true → handler_of cert (simple_at cert n) i n.address n.state ≡ Some q
+    → IsDispatched rom cert n entry base x i → x.processor.halt_mark ≡ false → n.state.core.stack_set ≡ true → handler_of entry.program cert (simple_at cert n) i n.address n.state ≡ Some q
     → are_ranges_inside (ranges_of cert q) (ranges_of cert n.procedure) ≡ true → length n.state.items + 2 + need_of cert q ≤ need_of cert n.procedure
-    → GoesOn cert n q
+    → GoesOn entry.program cert n q
     → Calls cert n.procedure entry base (left_by rom x i n.address)
 handled rom cert n entry base x i q at is_node certificate d mark set handler inside depth resumes =
     let s = IsNodeState-node cert n certificate is_node in
-    let callee = IsCallee-found cert (simple_at cert n) (vector i) (dispatched n.state) q (sym (handler_is cert n i) ∙ handler) in
-    let begin = IsEntryNode-entry cert (simple_at cert n) (vector i) (dispatched n.state) callee.procedure callee.begins in
+    let callee = IsCallee-found entry.program cert (simple_at cert n) (vector i) (dispatched n.state) q (sym (handler_is entry.program cert n i) ∙ handler) in
+    let begin = IsEntryNode-entry entry.program cert (simple_at cert n) (vector i) (dispatched n.state) callee.procedure callee.begins in
     let number : begin.node.procedure ≡ q =
     same_number begin.node.procedure q (is_own 0 cert.procedures cert.nodes q callee.procedure begin.node certificate.entries callee.is_procedure begin.is_node) in
     record {
@@ -260,6 +272,7 @@ handled rom cert n entry base x i q at is_node certificate d mark set handler in
       back = n.address;
       back_small = s.address;
       means = d.means;
+      quiet = dispatched_quiet n.state s.quiet;
       stack_set = dispatched_set n.state ∙ set;
       placed = subst (λ cells. ArePlaced cert.region cells) (sym (dispatched_cells n.state)) s.placed;
       node = begin.node;
@@ -272,8 +285,8 @@ handled rom cert n entry base x i q at is_node certificate d mark set handler in
           (subst (λ m. length n.state.items + 2 + need_of cert m ≤ need_of cert n.procedure) (sym number) depth);
       inside = subst (λ m. are_ranges_inside (ranges_of cert m) (ranges_of cert n.procedure) ≡ true) (sym number) inside;
       resumes = λ exit is.
-          subst (λ m. IfSome (resumed Simple (taken_by cert m) (ranges_of cert m) (dispatched n.state) exit) (λ after. covered_at Simple cert.nodes n.procedure n.address after ≡ true)) (sym number)
-          (subst (λ (s : AbsState). IfSome (resumed Simple (taken_by cert q) (ranges_of cert q) s exit) (λ after. covered_at Simple cert.nodes n.procedure n.address after ≡ true)) (left_is n.address n.state)
+          subst (λ m. IfSome (resumed entry.program Simple (taken_by cert m) (ranges_of cert m) (dispatched n.state) exit) (λ after. covered_at entry.program Simple cert.nodes n.procedure n.address after ≡ true)) (sym number)
+          (subst (λ (s : AbsState). IfSome (resumed entry.program Simple (taken_by cert q) (ranges_of cert q) s exit) (λ after. covered_at entry.program Simple cert.nodes n.procedure n.address after ≡ true)) (left_is n.address n.state)
           (resumes exit (subst (λ m. exit_of cert m ≡ Some exit) number is)));
     }
 
@@ -282,9 +295,9 @@ handled rom cert n entry base x i q at is_node certificate d mark set handler in
 -- A dispatch is safe where the stack is set and no OAM transfer closes it, and where the interrupt has a handler whose
 -- ranges and bytes lie inside the procedure's, and behind which the procedure goes on at a node.
 pub IsSafeEvent-dispatch : (rom : List ℕ) (cert : Certificate) (n : Node) (entry : Activation) (base : ℕ) (x : MState) (i q : ℕ) → IsAt rom cert n entry base x → Contains cert.nodes n → IsCertificate cert → rules_of cert.version ≡ Simple
-    → is_possible (within rom x) (event.Irq i) ≡ true → n.state.core.stack_set ≡ true → (n.state.core.bound ≡ 0) ⊎ (0xFF80 ≤ cert.region.first) → handler_of cert (simple_at cert n) i n.address n.state ≡ Some q
+    → is_possible (within rom x) (event.Irq i) ≡ true → n.state.core.stack_set ≡ true → (n.state.core.bound ≡ 0) ⊎ (0xFF80 ≤ cert.region.first) → handler_of entry.program cert (simple_at cert n) i n.address n.state ≡ Some q
     → are_ranges_inside (ranges_of cert q) (ranges_of cert n.procedure) ≡ true → length n.state.items + 2 + need_of cert q ≤ need_of cert n.procedure
-    → GoesOn cert n q
+    → GoesOn entry.program cert n q
     → IsSafeEvent rom cert n.procedure entry base x (event.Irq i)
 IsSafeEvent-dispatch rom cert n entry base x i q at is_node certificate simple possible set unlimited handler inside depth resumes =
     let mark = mark_clear rom x at.mark (is_called rom x i possible).on in

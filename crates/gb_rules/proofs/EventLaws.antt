@@ -32,6 +32,7 @@ use Rattle.gb_successors.specs.Below.gb_abs.Mark.{IsMarkHarmless}
 use Rattle.gb_ops.specs.declared.machine.Mapped.{Mapped}
 use Rattle.gb_ops.specs.declared.machine.Mapped.TheVariants as mapped
 use Rattle.gb_ops.specs.Registers.{get}
+use Rattle.gb_successors.proofs.Below.gb_product_laws.SummaryLaws.{HoldSummary-same}
 use Rattle.gb_successors.specs.Below.gb_product.Meaning.{Means}
 use Rattle.gb_successors.specs.Below.gb_abs.Meaning.{Activation, Holds, HoldsFlags, HoldsController, ime_may_be, MeansParts}
 use Rattle.gb_successors.specs.Below.gb_relations.Meaning.{HoldRelations}
@@ -39,16 +40,16 @@ use Rattle.gb_successors.proofs.RelatedLaws.{HoldRelations-same}
 use Rattle.gb_successors.specs.Below.gb_abs.Storage.{peek}
 use Rattle.gb_successors.proofs.Below.gb_abs_laws.OperationLaws.{counted}
 use Rattle.gb_successors.proofs.Below.gb_abs_laws.StackLaws.{MeansParts-with_core}
-use Rattle.gb_code.specs.Below.gb_abs_memory.Sound.{IsRom}
-use Rattle.gb_code.specs.Places.{IsCertified, IsCertifiedBy}
-use Rattle.gb_code.specs.Code.{area_end, known_byte}
-use Rattle.gb_code.proofs.ByteLaws.{Reads-known}
-use Rattle.gb_code.proofs.CodeLaws.{IsInside, clear_byte, area_small, FetchesFirst-known, FetchesAll-known}
-use Rattle.gb_code.specs.Below.gb_abs_memory.Kept.{IsKept}
+use Rattle.gb_successors.specs.Below.gb_code.Below.gb_abs_memory.Sound.{IsRom}
+use Rattle.gb_successors.specs.Below.gb_code.Places.{IsCertified, IsCertifiedBy}
+use Rattle.gb_successors.specs.Below.gb_code.Code.{area_end, known_byte}
+use Rattle.gb_successors.proofs.Below.gb_code_laws.ByteLaws.{Reads-known}
+use Rattle.gb_successors.proofs.Below.gb_code_laws.CodeLaws.{IsInside, clear_byte, area_small, FetchesFirst-known, FetchesAll-known}
+use Rattle.gb_successors.specs.Below.gb_code.Below.gb_abs_memory.Kept.{IsKept}
 use Rattle.gb_successors.specs.Way.{Successor}
 use Rattle.gb_successors.specs.Sound.{IsHalt}
 use Rattle.gb_rules.specs.Rules.{ways_of, is_halt, is_nop, is_nop_behind, may_read_twice, reason_of, reason_at}
-use Rattle.gb_rules.specs.Procedures.{ranges_of, setting_of, stack_of}
+use Rattle.gb_rules.specs.Procedures.{ranges_of, setting_of, stack_of, program_of}
 use Rattle.gb_rules.specs.Safety.{IsMeant, Leads, IsSafeEvent, IsNoDispatch, IsSafeNode}
 use Rattle.gb_rules.proofs.SearchLaws.{Contains-slice_get}
 use Rattle.gb_rules.proofs.TargetLaws.{halt_target}
@@ -112,7 +113,7 @@ run_unmarked : (rom : List ℕ) (cert : Certificate) (n : Node) (entry : Activat
     → x.processor.halt_mark ≡ false → slice_index reads 0 ≤ 255 → IsSafeHappening rom cert n.procedure entry base x (event.Run fetch reads)
 run_unmarked rom cert n entry base x k fetch reads mark byte =
     let p = k.passes in
-    let done = (sound_ways rom cert n entry base x k).executes (ranges_of cert n.procedure) entry base x reads (stands rom cert n entry base x k)
+    let done = (sound_ways rom cert n entry base x k).executes (ranges_of cert n.procedure) entry base x reads k.program (stands rom cert n entry base x k)
     (is_ruled rom cert n entry base x k) mark byte in
     let t = done.successor in
     let may = allowed rom cert n p base t done.is_one k.state k.return_word k.room in
@@ -171,7 +172,7 @@ itself rom cert n entry base x y k address means mark = record {
   node = n;
   is_node = k.is_node;
   procedure_is = refl;
-  at = record { address = address; means = means; mark = mark; main = k.main; based = k.based; return_word = k.return_word; room = k.room; held = k.held };
+  at = record { address = address; program = k.program; means = means; mark = mark; main = k.main; based = k.based; return_word = k.return_word; room = k.room; held = k.held };
 }
 
 -- a smaller count, and the same processor but for PC and the mark
@@ -205,6 +206,8 @@ same_means s entry base x y m storage less registers flags i sp locked stopped =
       (subst (λ f. HoldRelations s.relations x.processor.registers (peek y.storage) f) (sym flags)
       (HoldRelations-same s.relations x.processor.registers (peek x.storage) (peek y.storage) x.processor.flags
       (λ b. ap (λ (t : Storage). peek t b) storage ∙ count_peek x.storage y.storage.count b) m.related));
+  summary = HoldSummary-same entry.program s.cells s.summary x.processor y.processor (peek x.storage) (peek y.storage) x.storage.banks y.storage.banks registers sp i
+      (ap (λ (t : Storage). t.banks) storage) (λ b. ap (λ (t : Storage). peek t b) storage ∙ count_peek x.storage y.storage.count b) m.summary;
 }
 
 -- ---- NOP under the HALT mark
@@ -329,7 +332,7 @@ stay_safe rom cert n entry base x k mark possible =
     let first = FetchesFirst-known rom n entry base x k.passes.bytes known (on_code rom cert n entry base x k) in
     let pending : x.processor.ime ≡ ime.Pending = is_pending x.processor.ime (ap (λ (q : Processor). is_ime q.ime ime.Pending) (sym (processor_is rom x)) ∙ parts.1) in
     let clear = unmarked_at_halt rom cert n entry base x k mark parts.0 in
-    let way = (sound_ways rom cert n entry base x k).stays (ranges_of cert n.procedure) entry base x (stands rom cert n entry base x k) (at_halt rom cert n entry base x k parts.0) pending parts.2 in
+    let way = (sound_ways rom cert n entry base x k).stays (ranges_of cert n.procedure) entry base x k.program (stands rom cert n entry base x k) (at_halt rom cert n entry base x k parts.0) pending parts.2 in
     record {
       faults = (halt_faults cert.region rom x first.faults).0;
       places = (halt_places rom cert x (n, k.is_node, first.place)).0;
@@ -380,7 +383,7 @@ bug_pc rom x = refl
 -- behind HALT the machine is in the same procedure
 halt_stays_here : (rom : List ℕ) (cert : Certificate) (n : Node) (p : Passes rom cert n) (t : Successor) → IsHalt p.row → (ways_of rom cert n p.row).taken ≡ Some t → IsElsewhere t.target → ⊥
 unfolding ways_of
-halt_stays_here rom cert n p t halt is e = subst IsElsewhere (halt_target (stack_of cert n.procedure) rom p.row n.address n.state t halt.op_is is) e
+halt_stays_here rom cert n p t halt is e = subst IsElsewhere (halt_target (stack_of cert n.procedure) (program_of rom cert) rom p.row n.address n.state t halt.op_is is) e
 
 bug_safe : (rom : List ℕ) (cert : Certificate) (n : Node) (entry : Activation) (base : ℕ) (x : MState) (k : OnNode rom cert n entry base x) → IsMarkHarmless rom x
     → is_possible (within rom x) event.HaltBug ≡ true → IsSafeHappening rom cert n.procedure entry base x event.HaltBug
@@ -393,7 +396,7 @@ bug_safe rom cert n entry base x k mark possible =
     let off : x.processor.ime ≡ ime.Off = is_off x.processor.ime (ap (λ (q : Processor). is_ime q.ime ime.Off) (sym (processor_is rom x)) ∙ parts.1) in
     let clear = unmarked_at_halt rom cert n entry base x k mark parts.0 in
     let halt = at_halt rom cert n entry base x k parts.0 in
-    let way = (sound_ways rom cert n entry base x k).repeats (ranges_of cert n.procedure) entry base x (stands rom cert n entry base x k) halt off clear in
+    let way = (sound_ways rom cert n entry base x k).repeats (ranges_of cert n.procedure) entry base x k.program (stands rom cert n entry base x k) halt off clear in
     let nop = nop_behind rom n.state n.address p.end (area_end n.address) p.is_end
     (halt_guarded (is_halt p.row.op) n.state.core.ime.off _ (ap is_halt halt.op_is) (off_known n.state x.processor.ime off k.means.parts.core.ime) p.halt) in
     let small = area_small n.address p.end p.is_end in
@@ -452,7 +455,7 @@ mark_waited : (rom : List ℕ) (cert : Certificate) (n : Node) (entry : Activati
 mark_waited rom cert n entry base x k count m (inl clear) = inl clear
 mark_waited rom cert n entry base x k count m (inr nop) =
     let later : OnNode rom cert n entry base (counted count x) =
-    record { cartridge = k.cartridge; certificate = k.certificate; is_node = k.is_node; state = k.state; passes = k.passes; address = k.address; means = m; main = k.main; return_word = k.return_word; room = k.room; based = k.based; held = k.held } in
+    record { cartridge = k.cartridge; certificate = k.certificate; is_node = k.is_node; state = k.state; passes = k.passes; address = k.address; program = k.program; means = m; main = k.main; return_word = k.return_word; room = k.room; based = k.based; held = k.held } in
     let first = FetchesFirst-known rom n entry base (counted count x) k.passes.bytes (is_known rom cert n entry base x k) (on_code rom cert n entry base (counted count x) later) in
     inr (nop.0, first.fixed, same_bytes rom x count x.processor.pc ∙ nop.2)
 
@@ -523,6 +526,7 @@ IsSafeNode-right rom cert n cartridge certificate is_node right entry base x e o
       state = IsNodeState-node cert n certificate is_node;
       passes = passes;
       address = at.address;
+      program = at.program;
       means = at.means;
       main = at.main;
       return_word = at.return_word;

@@ -2,6 +2,7 @@
 use Rattle.std.proofs.Common.{◌≡◌, ℕ, ◌+◌, ◌≤◌, ◌<◌, true, inl, List, ◌∷◌, length, Some, refl, sym, ◌∙◌, ap, subst, arith}
 use Rattle.gb_ops.specs.Pairs.{word}
 use Rattle.gb_ops.specs.Play.{MState}
+use Rattle.gb_successors.specs.Below.gb_domain.Summaries.{Program}
 use Rattle.gb_successors.specs.Below.gb_domain.Types.{AbsState, Node}
 use Rattle.gb_successors.specs.Below.gb_domain.Certificate.{Certificate}
 use Rattle.gb_calls.specs.Below.gb_states.declared.role.Role.TheVariants as role
@@ -16,7 +17,7 @@ use Rattle.gb_successors.specs.Below.gb_abs.Stack.{AreInRegion}
 use Rattle.gb_successors.specs.Below.gb_abs.Storage.{peek}
 use Rattle.gb_successors.proofs.Below.gb_product_laws.CoveringLaws.{Means-covered}
 use Rattle.gb_successors.proofs.Below.gb_abs_laws.StorageLaws.{region_in_ram}
-use Rattle.gb_code.specs.Below.gb_abs_memory.Kept.{keeps, keeps_by, IsKept}
+use Rattle.gb_successors.specs.Below.gb_code.Below.gb_abs_memory.Kept.{keeps, keeps_by, IsKept}
 use Rattle.gb_calls.specs.Calls.{entered_by, are_ranges_inside}
 use Rattle.gb_calls.specs.Resuming.{resumed_alone, resumed}
 use Rattle.std.specs.Prelude.{◌==◌}
@@ -26,7 +27,7 @@ use Rattle.gb_calls.proofs.RangeLaws.{IsKept-inside}
 use Rattle.gb_calls.proofs.ResumingLaws.{Means-resumed_alone}
 use Rattle.gb_successors.specs.Below.gb_abs_effects.Pairs.{known_word}
 use Rattle.gb_rules.specs.Covered.{covered_at}
-use Rattle.gb_rules.specs.Procedures.{ranges_of, need_of, setting_of, exit_of}
+use Rattle.gb_rules.specs.Procedures.{ranges_of, need_of, setting_of, program_of, exit_of}
 use Rattle.gb_rules.specs.Safety.{begun, IsAt, IsMeant, Calls, Returns}
 use Rattle.gb_rules.specs.Frames.{Keeps, Frame, IsWaiting, AreWaiting, Stands}
 use Rattle.gb_rules.proofs.CoveringLaws.{IsFoundAt, covered_items, found_at}
@@ -78,28 +79,30 @@ placed_call cert procedure entry base t certificate room c =
 -- the state that waits is meant, without the return word
 caller_means : (cert : Certificate) (procedure : ℕ) (entry : Activation) (base : ℕ) (t : MState) (c : Calls cert procedure entry base t) → IsPlacedCall cert procedure entry base t c
     → Means c.state entry base (without_word t)
-caller_means cert procedure entry base t c p = Means-without_word (known_word c.back) c.state entry base t c.means c.stack_set p.small
+caller_means cert procedure entry base t c p = Means-without_word (known_word c.back) c.state entry base t c.means c.quiet c.stack_set p.small
 
 -- ---- a frame is put on
 
 -- by the rules of versions 1 and 2 the callee begins with nothing
-no_items : (k : ℕ) (s : AbsState) (n : Node) → covers (entered_by Simple k s) n.state ≡ true → length n.state.items ≡ 0
+no_items : (program : Program) (k : ℕ) (s : AbsState) (n : Node) → covers program (entered_by Simple k s) n.state ≡ true → length n.state.items ≡ 0
 unfolding entered_by
-no_items k s n h = covered_items (entered_by Simple k s) n.state h
+no_items program k s n h = covered_items program (entered_by Simple k s) n.state h
 
 -- the callee stands at its entry, and was entered just now
-IsAt-called : (rom : List ℕ) (cert : Certificate) (procedure : ℕ) (entry : Activation) (base : ℕ) (t : MState) → IsCertificate cert → rules_of cert.version ≡ Simple
-    → (c : Calls cert procedure entry base t) → IsPlacedCall cert procedure entry base t c → IsAt rom cert c.node (begun t) t.processor.sp t
-IsAt-called rom cert procedure entry base t certificate simple c p =
+IsAt-called : (rom : List ℕ) (cert : Certificate) (procedure : ℕ) (entry : Activation) (base : ℕ) (t : MState) → IsCertificate cert → rules_of cert.version ≡ Simple → entry.program ≡ program_of rom cert
+    → (c : Calls cert procedure entry base t) → IsPlacedCall cert procedure entry base t c → IsAt rom cert c.node (begun rom cert t) t.processor.sp t
+IsAt-called rom cert procedure entry base t certificate simple program c p =
     let small : t.processor.sp < 65536 = (let h = p.small in omega arith) in
-    let none = no_items (length c.node.state.items) c.state c.node c.begins in
+    let none = no_items entry.program (length c.node.state.items) c.state c.node c.begins in
     let some = c.not_main in
     let first = p.callee_room.first in
     let last = p.callee_room.last in
     record {
       address = c.address;
-      means = Means-covered (entered_by Simple (length c.node.state.items) c.state) c.node.state (begun t) t.processor.sp t c.begins
-          (Means-entered (length c.node.state.items) c.state entry base (begun t) (caller_means cert procedure entry base t c p) small);
+      program = refl;
+      means = Means-covered (entered_by Simple (length c.node.state.items) c.state) c.node.state (begun rom cert t) t.processor.sp t
+          (subst (λ q. covers q (entered_by Simple (length c.node.state.items) c.state) c.node.state ≡ true) program c.begins)
+          (Means-entered (length c.node.state.items) c.state entry base (begun rom cert t) (caller_means cert procedure entry base t c p) small);
       mark = inl c.mark;
       main = λ e. absurd (omega arith);
       based = based_setting cert c.node.procedure t.processor.sp certificate simple (λ e. absurd (omega arith));
@@ -120,17 +123,18 @@ waiting_in cert rules frames procedure entry base is w = subst (λ r. AreWaiting
 -- the machine has called: the procedure waits, and the callee was entered just now
 pub Stands-called : (rom : List ℕ) (cert : Certificate) (frames : List Frame) (procedure : ℕ) (entry : Activation) (base : ℕ) (s t : MState) → IsCertificate cert → rules_of cert.version ≡ Simple
     → Stands rom cert frames procedure entry base s → (c : Calls cert procedure entry base t) → Keeps cert procedure base s t
-    → Stands rom cert (record { procedure = procedure; entry = entry; base = base } ∷ frames) c.node.procedure (begun t) t.processor.sp t
+    → Stands rom cert (record { procedure = procedure; entry = entry; base = base } ∷ frames) c.node.procedure (begun rom cert t) t.processor.sp t
 Stands-called rom cert frames procedure entry base s t certificate simple stands c keeps =
     let at = stands.meant.at in
     let same = stands.meant.procedure_is in
     let room = subst (λ n. AreInRegion cert.region base (need_of cert n)) same at.room in
     let p = placed_call cert procedure entry base t certificate room c in
     record {
-      meant = record { node = c.node; is_node = c.is_node; procedure_is = refl; at = IsAt-called rom cert procedure entry base t certificate simple c p };
-      waiting = waiting_in cert Simple (record { procedure = procedure; entry = entry; base = base } ∷ frames) c.node.procedure (begun t) t.processor.sp simple (
+      meant = record { node = c.node; is_node = c.is_node; procedure_is = refl; at = IsAt-called rom cert procedure entry base t certificate simple at.program c p };
+      waiting = waiting_in cert Simple (record { procedure = procedure; entry = entry; base = base } ∷ frames) c.node.procedure (begun rom cert t) t.processor.sp simple (
         record {
           calls = c;
+          program = at.program;
           callee = refl;
           base_is = refl;
           main = λ e. at.main (same ∙ e);
@@ -212,10 +216,10 @@ comes_back cert f procedure entry base s t certificate simple w before r keeps =
 
 -- the state that the caller goes on with is covered at the address behind the call
 is_resumed : (cert : Certificate) (f : Frame) (procedure : ℕ) (entry : Activation) (base : ℕ) (exit : AbsState) → (w : IsWaiting cert f procedure entry base) → exit_of cert procedure ≡ Some exit
-    → covered_at Simple cert.nodes f.procedure w.calls.back (resumed_alone (ranges_of cert procedure) w.calls.state exit) ≡ true
+    → covered_at f.entry.program Simple cert.nodes f.procedure w.calls.back (resumed_alone (ranges_of cert procedure) w.calls.state exit) ≡ true
 unfolding resumed
 is_resumed cert f procedure entry base exit w is =
-    subst (λ n. covered_at Simple cert.nodes f.procedure w.calls.back (resumed_alone (ranges_of cert n) w.calls.state exit) ≡ true) w.callee
+    subst (λ n. covered_at f.entry.program Simple cert.nodes f.procedure w.calls.back (resumed_alone (ranges_of cert n) w.calls.state exit) ≡ true) w.callee
     (w.calls.resumes exit (ap (exit_of cert) w.callee ∙ is))
 
 -- the caller's state behind the call is meant by a node
@@ -231,9 +235,9 @@ goes_on cert f procedure entry base s t certificate simple w before r keeps =
     found_at cert f.procedure w.calls.back after f.entry f.base t (is_resumed cert f procedure entry base r.exit w r.is_exit) means
 
 IsMeant-returned : (rom : List ℕ) (cert : Certificate) (f : Frame) (procedure : ℕ) (entry : Activation) (base : ℕ) (s t : MState) → IsCertificate cert → rules_of cert.version ≡ Simple
-    → IsWaiting cert f procedure entry base → Keeps cert procedure base entry.entered s → Returns cert procedure entry base s t → Keeps cert procedure base s t
+    → entry.program ≡ program_of rom cert → IsWaiting cert f procedure entry base → Keeps cert procedure base entry.entered s → Returns cert procedure entry base s t → Keeps cert procedure base s t
     → IsMeant rom cert f.procedure f.entry f.base t
-IsMeant-returned rom cert f procedure entry base s t certificate simple w before r keeps =
+IsMeant-returned rom cert f procedure entry base s t certificate simple program w before r keeps =
     let g = goes_on cert f procedure entry base s t certificate simple w before r keeps in
     let same = g.procedure_is in
     let room = w.room in
@@ -244,6 +248,7 @@ IsMeant-returned rom cert f procedure entry base s t certificate simple w before
       procedure_is = same;
       at = record {
         address = r.address ∙ (back_is cert f procedure entry base s certificate simple w before ∙ sym g.address);
+        program = w.program ∙ program;
         means = g.means;
         mark = inl r.mark;
         main = λ e. w.main (sym same ∙ e);
@@ -263,7 +268,7 @@ Stands-returned rom cert f rest procedure entry base s t certificate simple stan
     let w = waiting.0 in
     let all = Keeps-then cert procedure base entry.entered s t stands.keeps keeps in
     record {
-      meant = IsMeant-returned rom cert f procedure entry base s t certificate simple w stands.keeps r keeps;
+      meant = IsMeant-returned rom cert f procedure entry base s t certificate simple stands.meant.at.program w stands.keeps r keeps;
       waiting = waiting_in cert Simple rest f.procedure f.entry f.base simple waiting.1;
       keeps = Keeps-then cert f.procedure f.base f.entry.entered entry.entered t w.keeps (Keeps-callee cert f procedure entry base entry.entered t certificate simple w all);
     }

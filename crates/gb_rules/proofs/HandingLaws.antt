@@ -8,6 +8,7 @@ use Rattle.gb_successors.specs.Below.gb_abs.Meaning.{Activation}
 use Rattle.gb_successors.specs.Below.gb_domain.declared.rules.Rules.{Rules}
 use Rattle.gb_successors.specs.Below.gb_domain.declared.rules.Rules.TheVariants.{Extended}
 use Rattle.gb_successors.specs.Below.gb_domain.declared.types.Val.{Val}
+use Rattle.gb_successors.specs.Below.gb_domain.Summaries.{Program}
 use Rattle.gb_successors.specs.Below.gb_domain.Types.{AbsState}
 use Rattle.gb_successors.specs.Below.gb_domain.Certificate.{Certificate}
 use Rattle.gb_successors.specs.Below.gb_domain.Limits.{rules_of}
@@ -19,7 +20,7 @@ use Rattle.gb_successors.specs.Below.gb_product.Covering.{covers}
 use Rattle.gb_successors.specs.Below.gb_product.Meaning.{Means}
 use Rattle.gb_successors.proofs.Below.gb_product_laws.CoveringLaws.{Means-covered}
 use Rattle.gb_successors.proofs.Below.gb_product_laws.MeaningLaws.{AreBytes-core}
-use Rattle.gb_code.specs.Below.gb_abs_memory.Kept.{keeps, keeps_by, IsKept}
+use Rattle.gb_successors.specs.Below.gb_code.Below.gb_abs_memory.Kept.{keeps, keeps_by, IsKept}
 use Rattle.gb_calls.specs.Calls.{entered_by, are_ranges_inside}
 use Rattle.gb_calls.specs.Resuming.{resumed}
 use Rattle.gb_calls.specs.Sound.{IsCalled, HandsBack, MeansIf}
@@ -29,13 +30,15 @@ use Rattle.gb_calls.proofs.RangeLaws.{IsKept-inside}
 use Rattle.gb_calls.proofs.ResumingLaws.{Means-resumed}
 use Rattle.gb_calls.proofs.TakenOverLaws.{taken_over-pointer, given_back-pointer}
 use Rattle.gb_rules.specs.Covered.{covered_at}
-use Rattle.gb_rules.specs.Procedures.{ranges_of, need_of, setting_of, exit_of, taken_by}
+use Rattle.gb_rules.specs.Procedures.{ranges_of, need_of, setting_of, program_of, exit_of, taken_by}
 use Rattle.gb_rules.specs.Safety.{begun, IsAt, IsMeant, HandsOver, GoesBack}
 use Rattle.gb_rules.specs.Frames.{Keeps, Frame, IsWaitingAbove, Stands}
 use Rattle.gb_rules.proofs.CoveringLaws.{IsFoundAt, covered_items, found_by}
 use Rattle.gb_rules.proofs.ProcedureLaws.{HasReturnWord-widely, ranges_apart, exit_state, exit_set}
 use Rattle.gb_rules.proofs.ResumedLaws.{IsGivenBack, IsGivenBack-resumed}
 use Rattle.gb_rules.proofs.FrameLaws.{Keeps-none, Keeps-then, waiting_by, waiting_in}
+use Rattle.gb_successors.specs.Below.gb_product.Below.gb_summaries.Elsewhere.{AreFreeFacts}
+use Rattle.gb_rules.proofs.ProgramLaws.{is_program, nothing_said, free_quiet}
 
 -- ---- who keeps something
 
@@ -57,10 +60,10 @@ who_keeps cert procedure extended h = other procedure (subst (λ (r : Rules). ke
 -- ---- a frame is put on
 
 -- how many items a callee begins with
-items_begun : (k : ℕ) (s t : AbsState) → k ≤ length s.items → covers (entered_by Extended k s) t ≡ true → length t.items ≡ k
+items_begun : (program : Program) (k : ℕ) (s t : AbsState) → k ≤ length s.items → covers program (entered_by Extended k s) t ≡ true → length t.items ≡ k
 unfolding entered_by
-items_begun k s t few h =
-    let same = covered_items (entered_by Extended k s) t h in
+items_begun program k s t few h =
+    let same = covered_items program (entered_by Extended k s) t h in
     let pointer = taken_over-pointer k s.items 0 (length s.items) few (none (length s.items)) in
     let least = few in
     omega arith
@@ -81,22 +84,24 @@ placed_above : (cert : Certificate) (procedure : ℕ) (entry : Activation) (base
     → IsPlacedAbove cert procedure entry base t h
 placed_above cert procedure entry base t room h =
     let p = in_region cert.region.first cert.region.last base (need_of cert procedure) (taken_by cert h.node.procedure) (length h.state.items) (need_of cert h.node.procedure) (length h.node.state.items)
-    room.first room.last h.held.first h.few h.depth (items_begun (taken_by cert h.node.procedure) h.state h.node.state h.few h.begins) in
+    room.first room.last h.held.first h.few h.depth (items_begun entry.program (taken_by cert h.node.procedure) h.state h.node.state h.few h.begins) in
     record { room = record { first = p.0; last = p.1.1 }; held = record { first = p.1.0; last = p.1.1 } }
 
 is_called : (cert : Certificate) (procedure : ℕ) (entry : Activation) (base : ℕ) (t : MState) (h : HandsOver cert procedure entry base t) → IsCalled (taken_by cert h.node.procedure) h.state entry base t
 is_called cert procedure entry base t h = record { few = h.few; stack_set = h.stack_set; caller = h.means }
 
 -- the callee stands at its entry, and was entered just now
-IsAt-handed : (rom : List ℕ) (cert : Certificate) (procedure : ℕ) (entry : Activation) (base : ℕ) (t : MState) → rules_of cert.version ≡ Extended → (h : HandsOver cert procedure entry base t)
-    → IsPlacedAbove cert procedure entry base t h → IsAt rom cert h.node (begun t) (base_below (taken_by cert h.node.procedure) h.state.items base) t
-IsAt-handed rom cert procedure entry base t extended h p =
+IsAt-handed : (rom : List ℕ) (cert : Certificate) (procedure : ℕ) (entry : Activation) (base : ℕ) (t : MState) → rules_of cert.version ≡ Extended → entry.program ≡ program_of rom cert
+    → (h : HandsOver cert procedure entry base t) → IsPlacedAbove cert procedure entry base t h → IsAt rom cert h.node (begun rom cert t) (base_below (taken_by cert h.node.procedure) h.state.items base) t
+IsAt-handed rom cert procedure entry base t extended program h p =
     let k = taken_by cert h.node.procedure in
     let some = h.not_main in
     record {
       address = h.address;
-      means = Means-covered (entered_by Extended k h.state) h.node.state (begun t) (base_below k h.state.items base) t h.begins
-          (Means-taken_over k h.state entry base (begun t) (is_called cert procedure entry base t h));
+      program = refl;
+      means = Means-covered (entered_by Extended k h.state) h.node.state (begun rom cert t) (base_below k h.state.items base) t
+          (subst (λ q. covers q (entered_by Extended k h.state) h.node.state ≡ true) program h.begins)
+          (Means-taken_over k h.state entry base (begun rom cert t) (sym program) (is_called cert procedure entry base t h));
       mark = inl h.mark;
       main = λ e. absurd (omega arith);
       based = h.based;
@@ -108,17 +113,18 @@ IsAt-handed rom cert procedure entry base t extended h p =
 -- the machine has called: the procedure waits above the items that it keeps, and the callee was entered just now
 pub Stands-handed : (rom : List ℕ) (cert : Certificate) (frames : List Frame) (procedure : ℕ) (entry : Activation) (base : ℕ) (s t : MState) → rules_of cert.version ≡ Extended
     → Stands rom cert frames procedure entry base s → (h : HandsOver cert procedure entry base t) → Keeps cert procedure base s t
-    → Stands rom cert (record { procedure = procedure; entry = entry; base = base } ∷ frames) h.node.procedure (begun t) (base_below (taken_by cert h.node.procedure) h.state.items base) t
+    → Stands rom cert (record { procedure = procedure; entry = entry; base = base } ∷ frames) h.node.procedure (begun rom cert t) (base_below (taken_by cert h.node.procedure) h.state.items base) t
 Stands-handed rom cert frames procedure entry base s t extended stands h keeps =
     let at = stands.meant.at in
     let same = stands.meant.procedure_is in
     let room = subst (λ n. AreInRegion cert.region base (need_of cert n)) same at.room in
     let under = base_below (taken_by cert h.node.procedure) h.state.items base in
     record {
-      meant = record { node = h.node; is_node = h.is_node; procedure_is = refl; at = IsAt-handed rom cert procedure entry base t extended h (placed_above cert procedure entry base t room h) };
-      waiting = waiting_in cert Extended (record { procedure = procedure; entry = entry; base = base } ∷ frames) h.node.procedure (begun t) under extended (
+      meant = record { node = h.node; is_node = h.is_node; procedure_is = refl; at = IsAt-handed rom cert procedure entry base t extended at.program h (placed_above cert procedure entry base t room h) };
+      waiting = waiting_in cert Extended (record { procedure = procedure; entry = entry; base = base } ∷ frames) h.node.procedure (begun rom cert t) under extended (
         record {
           calls = h;
+          program = at.program;
           callee = refl;
           base_is = refl;
           main = λ e. at.main (same ∙ e);
@@ -147,10 +153,10 @@ Keeps-below cert f procedure above base s t extended w keeps =
     }
 
 -- the callee has come back
-hands_back : (cert : Certificate) (f : Frame) (procedure : ℕ) (entry : Activation) (base : ℕ) (s t : MState) → IsCertificate cert → rules_of cert.version ≡ Extended
-    → (w : IsWaitingAbove cert f procedure entry base) → Keeps cert procedure base entry.entered s → (r : GoesBack cert procedure entry base t) → Keeps cert procedure base s t
-    → HandsBack (taken_by cert procedure) cert.region (ranges_of cert procedure) w.calls.state r.exit f.entry f.base entry t
-hands_back cert f procedure entry base s t certificate extended w before r keeps =
+hands_back : (rom : List ℕ) (cert : Certificate) (f : Frame) (procedure : ℕ) (entry : Activation) (base : ℕ) (s t : MState) → IsCertificate cert → rules_of cert.version ≡ Extended
+    → entry.program ≡ program_of rom cert → (w : IsWaitingAbove cert f procedure entry base) → Keeps cert procedure base entry.entered s → (r : GoesBack cert procedure entry base t) → Keeps cert procedure base s t
+    → HandsBack f.entry.program (taken_by cert procedure) cert.region (ranges_of cert procedure) w.calls.state r.exit f.entry f.base entry t
+hands_back rom cert f procedure entry base s t certificate extended program w before r keeps =
     let c = w.calls in
     let exit = exit_state cert procedure r.exit certificate r.is_exit in
     let all = Keeps-then cert procedure base entry.entered s t before keeps in
@@ -166,12 +172,16 @@ hands_back cert f procedure entry base s t certificate extended w before r keeps
       exit_set = exit_set (rules_of cert.version) cert.region r.exit exit;
       exit_core = exit.core;
       exits = subst (λ n. Means r.exit entry n t) w.base_is r.means;
+      caller_program = refl;
+      callee_program = sym w.program;
+      facts = subst (λ p. AreFreeFacts cert.region p.facts) (sym (w.program ∙ program)) (is_program rom cert certificate).facts;
+      exit_free = free_quiet cert.region r.exit.summary (nothing_said (rules_of cert.version) r.exit exit.sayable);
       kept = λ b k. all.byte b (subst (λ n. IsKept (setting_of cert procedure) cert.region (ranges_of cert procedure) n b) (sym w.base_is) k);
     }
 
 -- where something is left, it is covered, and means the machine's state, a node stands for it
 found_if : (cert : Certificate) (procedure a : ℕ) (k : ℕ) (s x : AbsState) (entry called : Activation) (base : ℕ) (y : MState) (o : Option AbsState) → IsState Extended role.Exit cert.region x → Means x called base y
-    → (top : ℕ) → MeansIf o entry top y → IfSome o (λ after. covered_at Extended cert.nodes procedure a after ≡ true) → IfSome o (IsGivenBack k s x)
+    → (top : ℕ) → MeansIf o entry top y → IfSome o (λ after. covered_at entry.program Extended cert.nodes procedure a after ≡ true) → IfSome o (IsGivenBack k s x)
     → IsFoundAt cert procedure a (length (given_back_items k s.items x.items)) entry top y
 found_if cert procedure a k s x entry called base y None is exits top m covered given = absurd m
 found_if cert procedure a k s x entry called base y (Some after) is exits top m covered given =
@@ -179,21 +189,21 @@ found_if cert procedure a k s x entry called base y (Some after) is exits top m 
     (found_by Extended cert procedure a after entry top y given.pairs (AreBytes-core x.core called y is.core exits.parts.core) covered m)
 
 -- the caller's state behind the call is meant by a node
-goes_on : (cert : Certificate) (f : Frame) (procedure : ℕ) (entry : Activation) (base : ℕ) (s t : MState) → IsCertificate cert → rules_of cert.version ≡ Extended
-    → (w : IsWaitingAbove cert f procedure entry base) → Keeps cert procedure base entry.entered s → (r : GoesBack cert procedure entry base t) → Keeps cert procedure base s t
+goes_on : (rom : List ℕ) (cert : Certificate) (f : Frame) (procedure : ℕ) (entry : Activation) (base : ℕ) (s t : MState) → IsCertificate cert → rules_of cert.version ≡ Extended
+    → entry.program ≡ program_of rom cert → (w : IsWaitingAbove cert f procedure entry base) → Keeps cert procedure base entry.entered s → (r : GoesBack cert procedure entry base t) → Keeps cert procedure base s t
     → IsFoundAt cert f.procedure w.calls.back (length (given_back_items (taken_by cert procedure) w.calls.state.items r.exit.items)) f.entry f.base t
-goes_on cert f procedure entry base s t certificate extended w before r keeps =
+goes_on rom cert f procedure entry base s t certificate extended program w before r keeps =
     let c = w.calls in
     let k = taken_by cert procedure in
     let exit : IsState Extended role.Exit cert.region r.exit = subst (λ q. IsState q role.Exit cert.region r.exit) extended (exit_state cert procedure r.exit certificate r.is_exit) in
     let pairs = exit.relations.pairs in
-    let back = hands_back cert f procedure entry base s t certificate extended w before r keeps in
-    let resumes : IfSome (resumed Extended k (ranges_of cert procedure) c.state r.exit) (λ after. covered_at Extended cert.nodes f.procedure c.back after ≡ true) =
-    subst (λ n. IfSome (resumed Extended (taken_by cert n) (ranges_of cert n) c.state r.exit) (λ after. covered_at Extended cert.nodes f.procedure c.back after ≡ true)) w.callee
+    let back = hands_back rom cert f procedure entry base s t certificate extended program w before r keeps in
+    let resumes : IfSome (resumed f.entry.program Extended k (ranges_of cert procedure) c.state r.exit) (λ after. covered_at f.entry.program Extended cert.nodes f.procedure c.back after ≡ true) =
+    subst (λ n. IfSome (resumed f.entry.program Extended (taken_by cert n) (ranges_of cert n) c.state r.exit) (λ after. covered_at f.entry.program Extended cert.nodes f.procedure c.back after ≡ true)) w.callee
     (c.resumes r.exit (ap (exit_of cert) w.callee ∙ r.is_exit)) in
-    found_if cert f.procedure c.back k c.state r.exit f.entry entry base t (resumed Extended k (ranges_of cert procedure) c.state r.exit) exit r.means f.base
-    (Means-resumed Extended k cert.region (ranges_of cert procedure) c.state r.exit f.entry f.base entry t c.pairs pairs back) resumes
-    (IsGivenBack-resumed k (ranges_of cert procedure) c.state r.exit c.pairs pairs)
+    found_if cert f.procedure c.back k c.state r.exit f.entry entry base t (resumed f.entry.program Extended k (ranges_of cert procedure) c.state r.exit) exit r.means f.base
+    (Means-resumed f.entry.program Extended k cert.region (ranges_of cert procedure) c.state r.exit f.entry f.base entry t c.pairs pairs back) resumes
+    (IsGivenBack-resumed f.entry.program k (ranges_of cert procedure) c.state r.exit c.pairs pairs)
 
 -- what it holds lies in the region
 given_back_room : (cert : Certificate) (f : Frame) (procedure : ℕ) (entry : Activation) (base : ℕ) (t : MState) → IsCertificate cert → (w : IsWaitingAbove cert f procedure entry base)
@@ -211,10 +221,10 @@ given_back_room cert f procedure entry base t certificate w r =
     record { first = omega arith; last = c.held.last }
 
 IsMeant-given_back : (rom : List ℕ) (cert : Certificate) (f : Frame) (procedure : ℕ) (entry : Activation) (base : ℕ) (s t : MState) → IsCertificate cert → rules_of cert.version ≡ Extended
-    → IsWaitingAbove cert f procedure entry base → Keeps cert procedure base entry.entered s → GoesBack cert procedure entry base t → Keeps cert procedure base s t
+    → entry.program ≡ program_of rom cert → IsWaitingAbove cert f procedure entry base → Keeps cert procedure base entry.entered s → GoesBack cert procedure entry base t → Keeps cert procedure base s t
     → IsMeant rom cert f.procedure f.entry f.base t
-IsMeant-given_back rom cert f procedure entry base s t certificate extended w before r keeps =
-    let g = goes_on cert f procedure entry base s t certificate extended w before r keeps in
+IsMeant-given_back rom cert f procedure entry base s t certificate extended program w before r keeps =
+    let g = goes_on rom cert f procedure entry base s t certificate extended program w before r keeps in
     let same = g.procedure_is in
     record {
       node = g.node;
@@ -222,6 +232,7 @@ IsMeant-given_back rom cert f procedure entry base s t certificate extended w be
       procedure_is = same;
       at = record {
         address = r.address ∙ (w.calls.return_word ∙ sym g.address);
+        program = w.program ∙ program;
         means = g.means;
         mark = inl r.mark;
         main = λ e. w.main (sym same ∙ e);
@@ -241,7 +252,7 @@ Stands-given_back rom cert f rest procedure entry base s t certificate extended 
     let w = waiting.0 in
     let all = Keeps-then cert procedure base entry.entered s t stands.keeps keeps in
     record {
-      meant = IsMeant-given_back rom cert f procedure entry base s t certificate extended w stands.keeps r keeps;
+      meant = IsMeant-given_back rom cert f procedure entry base s t certificate extended stands.meant.at.program w stands.keeps r keeps;
       waiting = waiting_in cert Extended rest f.procedure f.entry f.base extended waiting.1;
       keeps = Keeps-then cert f.procedure f.base f.entry.entered entry.entered t w.keeps (Keeps-below cert f procedure entry base entry.entered t extended w all);
     }

@@ -12,6 +12,7 @@ use Rattle.gb_successors.specs.Below.gb_domain.declared.rules.Rules.TheVariants.
 use Rattle.gb_successors.specs.Below.gb_domain.declared.setting.Setting.{Setting}
 use Rattle.gb_successors.specs.Below.gb_domain.Limits.{rules_of, item_room}
 use Rattle.gb_successors.specs.Below.gb_domain.Pairs.{ArePairs}
+use Rattle.gb_successors.specs.Below.gb_domain.Summaries.{Program}
 use Rattle.gb_successors.specs.Below.gb_domain.Types.{AbsState, Node}
 use Rattle.gb_successors.specs.Below.gb_domain.Certificate.{Certificate}
 use Rattle.gb_calls.specs.Below.gb_states.Rules.{IsCertificate}
@@ -34,7 +35,7 @@ use Rattle.gb_calls.specs.Interrupts.{dispatched, left_by_dispatch, handler_of}
 use Rattle.gb_successors.specs.Below.gb_abs_effects.Pairs.{known_word}
 use Rattle.gb_successors.specs.Refused.{is_stack_limited}
 use Rattle.gb_successors.proofs.AccessLaws.{clear_stack}
-use Rattle.gb_rules.specs.Procedures.{need_of, setting_of}
+use Rattle.gb_rules.specs.Procedures.{need_of, setting_of, program_of}
 use Rattle.gb_rules.specs.Rules.{is_over, is_call_uncovered, is_outside_of, is_dispatch_deep, is_possible as possible_at, handles_too_deep, is_dispatch_limited, is_unhandled, lacks_handler}
 use Rattle.gb_rules.specs.Safety.{IsAt, LeadsBy, IsSafeEvent}
 use Rattle.gb_rules.proofs.CallLaws.{pushed_word}
@@ -43,6 +44,8 @@ use Rattle.gb_rules.proofs.RegionLaws.{fewer_bytes}
 use Rattle.gb_rules.proofs.EventLaws.{IsSafeHappening, IsSafeEvent-where}
 use Rattle.gb_rules.proofs.DispatchLaws.{is_called, may_come-possible, mark_clear, left_by, happened_is, faults_are, no_places, IsDispatched, is_dispatched, dispatched_set, dispatched_items, dispatched_cells}
 use Rattle.gb_rules.proofs.ReachingLaws.{IsCalling, LeadsBy-called}
+use Rattle.gb_ops.specs.declared.machine.Region.{Region}
+use Rattle.gb_successors.specs.Below.gb_product.Below.gb_summaries.Elsewhere.{IsFree}
 
 -- ---- where something is meant
 
@@ -83,6 +86,10 @@ left_cells : (n : Node) → (left_at n).cells ≡ n.state.cells
 unfolding pushed
 left_cells n = dispatched_cells n.state
 
+left_apart : (region : Region) (n : Node) → IsFree region n.state.summary → IsFree region (left_at n).summary
+unfolding pushed dispatched
+left_apart region n h = h
+
 left_relations : (n : Node) → (left_at n).relations ≡ n.state.relations
 unfolding pushed dispatched
 left_relations n = refl
@@ -98,16 +105,16 @@ unfolding setting_of
 widely cert n extended = ap (λ (q : Rules). record (setting_of cert n.procedure) { rules = q }) extended
 
 -- what is known of an interrupt that may come, whose handler, if there is one, is o
-record IsReady (cert : Certificate) (n : Node) (i : ℕ) (o : Option ℕ) : Type 0 where
+record IsReady (program : Program) (cert : Certificate) (n : Node) (i : ℕ) (o : Option ℕ) : Type 0 where
   stack_set : n.state.core.stack_set ≡ true
   held : length n.state.items + 2 ≤ need_of cert n.procedure
   few : nat_lt (item_room Extended) (length n.state.items + 2) ≡ false
   inside : is_outside_of (wide_at cert n) cert n.procedure o ≡ false
   depth : is_over Extended cert (need_of cert n.procedure) (length n.state.items + 2) o ≡ false
-  covered : is_call_uncovered Extended cert n.procedure (vector i) n.address (left_by_dispatch Extended n.address n.state) o ≡ false
+  covered : is_call_uncovered program Extended cert n.procedure (vector i) n.address (left_by_dispatch Extended n.address n.state) o ≡ false
 
-is_ready : (cert : Certificate) (n : Node) (i : ℕ) (o : Option ℕ) → is_unhandled (wide_at cert n) cert n i o ≡ false → is_dispatch_deep (wide_at cert n) cert (need_of cert n.procedure) n.state o ≡ false → IsReady cert n i o
-is_ready cert n i o handled deep =
+is_ready : (program : Program) (cert : Certificate) (n : Node) (i : ℕ) (o : Option ℕ) → is_unhandled program (wide_at cert n) cert n i o ≡ false → is_dispatch_deep (wide_at cert n) cert (need_of cert n.procedure) n.state o ≡ false → IsReady program cert n i o
+is_ready program cert n i o handled deep =
     let p = or_parts _ _ handled in
     let q = or_parts _ _ p.0 in
     let set : n.state.core.stack_set ≡ true = not-false _ q.0 in
@@ -131,7 +138,7 @@ is_ready cert n i o handled deep =
 
 -- ---- where the machine is then
 
-is_calling : (rom : List ℕ) (cert : Certificate) (n : Node) (entry : Activation) (base : ℕ) (x : MState) (i : ℕ) (o : Option ℕ) → IsAt rom cert n entry base x → IsNodeState cert n → IsReady cert n i o
+is_calling : (rom : List ℕ) (cert : Certificate) (n : Node) (entry : Activation) (base : ℕ) (x : MState) (i : ℕ) (o : Option ℕ) → IsAt rom cert n entry base x → IsNodeState cert n → IsReady entry.program cert n i o
     → IsDispatched rom cert n entry base x i → x.processor.halt_mark ≡ false → IsCalling cert n.procedure (vector i) n.address (left_at n) entry base (left_by rom x i n.address)
 is_calling rom cert n entry base x i o at s ready d mark =
     let related = sym (left_relations n) in
@@ -150,6 +157,7 @@ is_calling rom cert n entry base x i o at s ready d mark =
       placed = record {
         cells = subst (λ cells. ArePlaced cert.region cells) (sym (left_cells n)) s.placed;
         byte = subst (λ r. IsByteFree cert.region r.byte.address) related s.free;
+        summary = left_apart cert.region n s.apart;
       };
       back_small = s.address;
       return_word = pushed_word n.address (dispatched n.state) entry base (left_by rom x i n.address) d.means.parts (dispatched_set n.state ∙ ready.stack_set);
@@ -157,37 +165,39 @@ is_calling rom cert n entry base x i o at s ready d mark =
     }
 
 dispatch_leads : (rom : List ℕ) (cert : Certificate) (n : Node) (entry : Activation) (base : ℕ) (x : MState) (i : ℕ) (o : Option ℕ) → rules_of cert.version ≡ Extended → IsCertificate cert → IsAt rom cert n entry base x
-    → IsNodeState cert n → handler_of cert (wide_at cert n) i n.address n.state ≡ o → IsReady cert n i o → IsDispatched rom cert n entry base x i → x.processor.halt_mark ≡ false
+    → IsNodeState cert n → handler_of entry.program cert (wide_at cert n) i n.address n.state ≡ o → IsReady entry.program cert n i o → IsDispatched rom cert n entry base x i → x.processor.halt_mark ≡ false
     → LeadsBy Extended rom cert n.procedure entry base x (left_by rom x i n.address)
 unfolding handler_of
 dispatch_leads rom cert n entry base x i o extended certificate at s is ready d mark =
     let left = left_is n ready.few in
     let same = sym (widely cert n extended) in
-    LeadsBy-called rom cert n.procedure (vector i) n.address (left_at n) entry base x (left_by rom x i n.address) o extended certificate (is_calling rom cert n entry base x i o at s ready d mark)
-    (subst (λ z. callee_of cert z (vector i) (left_at n) ≡ o) same (subst (λ (p : AbsState). callee_of cert (wide_at cert n) (vector i) p ≡ o) left is))
+    LeadsBy-called rom cert n.procedure (vector i) n.address (left_at n) entry base x (left_by rom x i n.address) o extended certificate at.program (is_calling rom cert n entry base x i o at s ready d mark)
+    (subst (λ z. callee_of entry.program cert z (vector i) (left_at n) ≡ o) same (subst (λ (p : AbsState). callee_of entry.program cert (wide_at cert n) (vector i) p ≡ o) left is))
     (subst (λ z. is_outside_of z cert n.procedure o ≡ false) same ready.inside)
     (subst (λ m. is_over Extended cert (need_of cert n.procedure) m o ≡ false) (sym (left_count n)) ready.depth)
-    (subst (λ (p : AbsState). is_call_uncovered Extended cert n.procedure (vector i) n.address p o ≡ false) left ready.covered)
+    (subst (λ (p : AbsState). is_call_uncovered entry.program Extended cert n.procedure (vector i) n.address p o ≡ false) left ready.covered)
 
 -- ---- the event
 
 -- A dispatch is safe at a node where the stack doesn't grow too deep by it, no OAM transfer closes the stack, and each interrupt
 -- that may come is provided for.
 pub IsSafeEvent-dispatched : (rom : List ℕ) (cert : Certificate) (n : Node) (entry : Activation) (base : ℕ) (x : MState) (i : ℕ) → rules_of cert.version ≡ Extended → IsCertificate cert → Contains cert.nodes n
-    → handles_too_deep cert n ≡ false → is_dispatch_limited cert.region n ≡ false → lacks_handler cert n ≡ false → IsAt rom cert n entry base x → is_possible (within rom x) (event.Irq i) ≡ true
+    → handles_too_deep (program_of rom cert) cert n ≡ false → is_dispatch_limited cert.region n ≡ false → lacks_handler (program_of rom cert) cert n ≡ false → IsAt rom cert n entry base x → is_possible (within rom x) (event.Irq i) ≡ true
     → IsSafeEvent rom cert n.procedure entry base x (event.Irq i)
 unfolding handles_too_deep is_dispatch_limited lacks_handler
-IsSafeEvent-dispatched rom cert n entry base x i extended certificate is_node shallow unlimited handled at possible =
+IsSafeEvent-dispatched rom cert n entry base x i extended certificate is_node shallow_there unlimited handled_there at possible =
+    let shallow = subst (λ p. handles_too_deep p cert n ≡ false) (sym at.program) shallow_there in
+    let handled = subst (λ p. lacks_handler p cert n ≡ false) (sym at.program) handled_there in
     let z = setting_of cert n.procedure in
     let s = IsNodeState-node cert n certificate is_node in
     let may = may_come-possible rom cert n entry base x i at possible in
     let mark = mark_clear rom x at.mark (is_called rom x i possible).on in
-    let o = handler_of cert (wide_at cert n) i n.address n.state in
-    let ready : IsReady cert n i o = is_ready cert n i o
-    (subst (λ (z : Setting). is_unhandled z cert n i (handler_of cert z i n.address n.state) ≡ false) (widely cert n extended)
-    (one_interrupt (λ i. is_unhandled z cert n i (handler_of cert z i n.address n.state)) n i handled may.1 may.0))
-    (subst (λ (z : Setting). is_dispatch_deep z cert (need_of cert n.procedure) n.state (handler_of cert z i n.address n.state) ≡ false) (widely cert n extended)
-    (one_interrupt (λ i. is_dispatch_deep z cert (need_of cert n.procedure) n.state (handler_of cert z i n.address n.state)) n i shallow may.1 may.0)) in
+    let o = handler_of entry.program cert (wide_at cert n) i n.address n.state in
+    let ready : IsReady entry.program cert n i o = is_ready entry.program cert n i o
+    (subst (λ (z : Setting). is_unhandled entry.program z cert n i (handler_of entry.program cert z i n.address n.state) ≡ false) (widely cert n extended)
+    (one_interrupt (λ i. is_unhandled entry.program z cert n i (handler_of entry.program cert z i n.address n.state)) n i handled may.1 may.0))
+    (subst (λ (z : Setting). is_dispatch_deep z cert (need_of cert n.procedure) n.state (handler_of entry.program cert z i n.address n.state) ≡ false) (widely cert n extended)
+    (one_interrupt (λ i. is_dispatch_deep z cert (need_of cert n.procedure) n.state (handler_of entry.program cert z i n.address n.state)) n i shallow may.1 may.0)) in
     let clear = one_interrupt (λ i. is_stack_limited cert.region n.state.core) n i unlimited may.1 may.0 in
     let d = is_dispatched rom cert n entry base x i at is_node certificate ready.stack_set (clear_stack cert.region n.state.core clear) ready.held in
     let after = happened_is rom x i n.address at.address in

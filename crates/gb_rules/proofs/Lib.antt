@@ -6,6 +6,7 @@ pub mod CallLaws
 pub mod TargetLaws
 pub mod RegionLaws
 pub mod ReadyLaws
+pub mod ProgramLaws
 pub mod NodeLaws
 pub mod StandLaws
 pub mod WayLaws

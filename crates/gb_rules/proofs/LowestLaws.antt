@@ -25,9 +25,10 @@ use Rattle.gb_successors.specs.Way.{Successor}
 use Rattle.gb_successors.specs.declared.stacks.Stack.{Stack}
 use Rattle.gb_successors.specs.declared.successors.Successors.{Successors}
 use Rattle.gb_successors.specs.Successors.{product_before, taken_successor, reduced_successor, taken_from, not_taken_from, stays, successors_of, has, any_successor}
-use Rattle.gb_rules.specs.Procedures.{need_of, setting_of, stack_of}
+use Rattle.gb_rules.specs.Procedures.{need_of, setting_of, stack_of, program_of}
 use Rattle.gb_rules.specs.Rules.{node_setting, calls_too_deep, handles_too_deep, is_dispatch_limited, is_possible, moves_too_deep, moves_alone_too_deep, taken_too_deep, ways_of, any_of, grows_too_deep, stores_outside, meets_ram, meets_transfer, leads_anywhere, leads_uncovered, calls_wrongly, returns_wrongly, applies_to_row, way_reasons}
 use Rattle.gb_rules.specs.Lowest.{lower, lowest, lowest_in, behind, applies_to_way, applies_to_taken, applies_alone}
+use Rattle.gb_successors.specs.Below.gb_domain.Summaries.{Program}
 
 -- ---- the first of reasons that ascend
 
@@ -178,7 +179,7 @@ has-asked test other r (Some t) same = same t
 -- three successors, and what isn't one's alone
 abbrev any_reason : List ℕ → Certificate → Node → Row → Successors → Reason → Bool
 any_reason rom cert n row ss r =
-    ((applies_alone cert n row r || asked (applies_to_taken rom cert n row) ss.taken r)
+    ((applies_alone rom cert n row r || asked (applies_to_taken rom cert n row) ss.taken r)
     || asked (applies_to_way rom cert n row) ss.not_taken r)
     || asked (applies_to_way rom cert n row) ss.stays r
 
@@ -207,7 +208,7 @@ three a b c d x y z w e f g h = rw e (rw f (rw g (rw h refl)))
 
 -- a reason that is asked of each successor alike, and else of what is given
 alike : (rom : List ℕ) (cert : Certificate) (n : Node) (row : Row) (ss : Successors) (r : Reason) (test : Successor → Bool) (alone : Bool)
-    → alone ≡ applies_alone cert n row r
+    → alone ≡ applies_alone rom cert n row r
     → ((t : Successor) → test t ≡ applies_to_taken rom cert n row t r) → ((t : Successor) → test t ≡ applies_to_way rom cert n row t r)
     → (any_successor test ss || alone) ≡ any_reason rom cert n row ss r
 unfolding any_successor
@@ -228,14 +229,14 @@ moves-parts Extended need n o (Some t) = refl
 
 deep-asked : (rom : List ℕ) (cert : Certificate) (n : Node) (row : Row) (o : Option Successor)
     → (has (λ t. taken_too_deep (rules_of cert.version) (need_of cert n.procedure) n row.op) o
-    || has (calls_too_deep cert (node_setting cert n) (need_of cert n.procedure)) o)
+    || has (calls_too_deep (program_of rom cert) cert (node_setting cert n) (need_of cert n.procedure)) o)
     ≡ asked (applies_to_taken rom cert n row) o reason.Depth
 unfolding applies_to_taken applies_to_way
 deep-asked rom cert n row None = refl
 deep-asked rom cert n row (Some t) = refl
 
 way-deep : (rom : List ℕ) (cert : Certificate) (n : Node) (row : Row) (t : Successor)
-    → calls_too_deep cert (node_setting cert n) (need_of cert n.procedure) t ≡ applies_to_way rom cert n row t reason.Depth
+    → calls_too_deep (program_of rom cert) cert (node_setting cert n) (need_of cert n.procedure) t ≡ applies_to_way rom cert n row t reason.Depth
 unfolding applies_to_way
 way-deep rom cert n row t = refl
 
@@ -244,10 +245,10 @@ depth : (rom : List ℕ) (cert : Certificate) (n : Node) (row : Row)
 unfolding applies_to_row grows_too_deep any_of any_successor applies_alone
 depth rom cert n row =
     let ss = ways_of rom cert n row in
-    let test = calls_too_deep cert (node_setting cert n) (need_of cert n.procedure) in
+    let test = calls_too_deep (program_of rom cert) cert (node_setting cert n) (need_of cert n.procedure) in
     let deep = has (λ t. taken_too_deep (rules_of cert.version) (need_of cert n.procedure) n row.op) ss.taken in
-    ap (λ b. (b || any_successor test ss) || (handles_too_deep cert n && is_possible cert n)) (moves-parts (rules_of cert.version) (need_of cert n.procedure) n row.op ss.taken)
-    ∙ deeper (moves_alone_too_deep (rules_of cert.version) (need_of cert n.procedure) n row.op) deep (handles_too_deep cert n && is_possible cert n)
+    ap (λ b. (b || any_successor test ss) || (handles_too_deep (program_of rom cert) cert n && is_possible cert n)) (moves-parts (rules_of cert.version) (need_of cert n.procedure) n row.op ss.taken)
+    ∙ deeper (moves_alone_too_deep (rules_of cert.version) (need_of cert n.procedure) n row.op) deep (handles_too_deep (program_of rom cert) cert n && is_possible cert n)
     (has test ss.taken) (has test ss.not_taken) (has test ss.stays)
     ∙ three _ _ _ _ _ _ _ _ refl
     (deep-asked rom cert n row ss.taken)
@@ -298,7 +299,7 @@ returns rom cert n row = alone_none _ _ (alike rom cert n row (ways_of rom cert 
 
 lowest-ways : (rom : List ℕ) (cert : Certificate) (n : Node) (row : Row)
     → lowest (applies_to_row rom cert n row)
-    ≡ lower (lower (lower (lowest (applies_alone cert n row)) (lowest (asked (applies_to_taken rom cert n row) (ways_of rom cert n row).taken)))
+    ≡ lower (lower (lower (lowest (applies_alone rom cert n row)) (lowest (asked (applies_to_taken rom cert n row) (ways_of rom cert n row).taken)))
     (lowest (asked (applies_to_way rom cert n row) (ways_of rom cert n row).not_taken)))
     (lowest (asked (applies_to_way rom cert n row) (ways_of rom cert n row).stays))
 unfolding lowest
@@ -307,7 +308,7 @@ lowest-ways rom cert n row =
     let taken = asked (applies_to_taken rom cert n row) ss.taken in
     let not_taken = asked (applies_to_way rom cert n row) ss.not_taken in
     let stay = asked (applies_to_way rom cert n row) ss.stays in
-    let alone = applies_alone cert n row in
+    let alone = applies_alone rom cert n row in
     find-same (applies_to_row rom cert n row) (any_reason rom cert n row ss) way_reasons
     (depth rom cert n row, (store rom cert n row, (closed rom cert n row, (transfers rom cert n row, (jumps rom cert n row, (uncovered rom cert n row, (calls rom cert n row, (returns rom cert n row, tt))))))))
     ∙ find-either (λ r. (alone r || taken r) || not_taken r) stay way_reasons ascending
@@ -319,8 +320,8 @@ lowest-ways rom cert n row =
 abbrev IsLowest : List ℕ → Certificate → Node → Row → Stack → Option Product → Type 0
 IsLowest rom cert n row k before =
     lowest (applies_to_row rom cert n row)
-    ≡ lower (lower (lower (lowest (applies_alone cert n row))
-    (lowest_in (applies_to_taken rom cert n row) (option_and_then (taken_from k rom row (behind n.address row) n.state) before)))
+    ≡ lower (lower (lower (lowest (applies_alone rom cert n row))
+    (lowest_in (applies_to_taken rom cert n row) (option_and_then (taken_from k (program_of rom cert) rom row (behind n.address row) n.state) before)))
     (lowest_in (applies_to_way rom cert n row) (option_and_then (not_taken_from k row (behind n.address row) n.state) before)))
     (lowest_in (applies_to_way rom cert n row) (option_and_then (λ (p : Product). stays row n.address n.state) before))
 
@@ -330,23 +331,23 @@ unfolding ways_of successors_of
 lowest-before rom cert n row =
     let ss = ways_of rom cert n row in
     lowest-ways rom cert n row
-    ∙ ap (λ o. lower (lower (lower (lowest (applies_alone cert n row)) o) (lowest (asked (applies_to_way rom cert n row) ss.not_taken))) (lowest (asked (applies_to_way rom cert n row) ss.stays)))
+    ∙ ap (λ o. lower (lower (lower (lowest (applies_alone rom cert n row)) o) (lowest (asked (applies_to_way rom cert n row) ss.not_taken))) (lowest (asked (applies_to_way rom cert n row) ss.stays)))
     (lowest-asked (applies_to_taken rom cert n row) ss.taken)
-    ∙ ap (λ o. lower (lower (lower (lowest (applies_alone cert n row)) (lowest_in (applies_to_taken rom cert n row) ss.taken)) o) (lowest (asked (applies_to_way rom cert n row) ss.stays)))
+    ∙ ap (λ o. lower (lower (lower (lowest (applies_alone rom cert n row)) (lowest_in (applies_to_taken rom cert n row) ss.taken)) o) (lowest (asked (applies_to_way rom cert n row) ss.stays)))
     (lowest-asked (applies_to_way rom cert n row) ss.not_taken)
-    ∙ ap (λ o. lower (lower (lower (lowest (applies_alone cert n row)) (lowest_in (applies_to_taken rom cert n row) ss.taken)) (lowest_in (applies_to_way rom cert n row) ss.not_taken)) o)
+    ∙ ap (λ o. lower (lower (lower (lowest (applies_alone rom cert n row)) (lowest_in (applies_to_taken rom cert n row) ss.taken)) (lowest_in (applies_to_way rom cert n row) ss.not_taken)) o)
     (lowest-asked (applies_to_way rom cert n row) ss.stays)
 
 -- where it is given, by the state itself
 pub lowest_of_ways : (rom : List ℕ) (cert : Certificate) (n : Node) (row : Row) (k : Stack) (s : AbsState) (p : Product)
     → k ≡ stack_of cert n.procedure → s ≡ n.state → Some p ≡ product_before k.setting.rules s
     → lowest (applies_to_row rom cert n row)
-    ≡ lower (lower (lower (lowest (applies_alone cert n row)) (lowest_in (applies_to_taken rom cert n row) (taken_from k rom row (behind n.address row) s p)))
+    ≡ lower (lower (lower (lowest (applies_alone rom cert n row)) (lowest_in (applies_to_taken rom cert n row) (taken_from k (program_of rom cert) rom row (behind n.address row) s p)))
     (lowest_in (applies_to_way rom cert n row) (not_taken_from k row (behind n.address row) s p)))
     (lowest_in (applies_to_way rom cert n row) (stays row n.address s))
 lowest_of_ways rom cert n row k s p stack state before =
     subst (λ (t : AbsState). lowest (applies_to_row rom cert n row)
-    ≡ lower (lower (lower (lowest (applies_alone cert n row)) (lowest_in (applies_to_taken rom cert n row) (taken_from k rom row (behind n.address row) t p)))
+    ≡ lower (lower (lower (lowest (applies_alone rom cert n row)) (lowest_in (applies_to_taken rom cert n row) (taken_from k (program_of rom cert) rom row (behind n.address row) t p)))
     (lowest_in (applies_to_way rom cert n row) (not_taken_from k row (behind n.address row) t p)))
     (lowest_in (applies_to_way rom cert n row) (stays row n.address t)))
     (sym state)
@@ -354,13 +355,13 @@ lowest_of_ways rom cert n row k s p stack state before =
     (subst (λ m. IsLowest rom cert n row m (product_before m.setting.rules n.state)) (sym stack) (lowest-before rom cert n row)))
 
 -- a successor on the side that is given
-pub taken_on_side : (test : Successor → Reason → Bool) (rom : List ℕ) (row : Row) (k : Stack) (s : AbsState) (p : Product)
+pub taken_on_side : (test : Successor → Reason → Bool) (program q : Program) (rom : List ℕ) (row : Row) (k : Stack) (s : AbsState) (p : Product)
     (next at : ℕ) (cells : List Cell) (o : Option Branch) (b : Branch) (t : Successor)
-    → next ≡ at → cells ≡ s.cells → o ≡ taken_side row.op cells p.core p.relations → o ≡ Some b → t ≡ taken_successor k rom row next s b
-    → lowest_in test (reduced_successor k.setting.rules t) ≡ lowest_in test (taken_from k rom row at s p)
-taken_on_side test rom row k s p next at cells o b t place listed is some e =
-    ap (λ u. lowest_in test (reduced_successor k.setting.rules u)) (e ∙ ap (λ a. taken_successor k rom row a s b) place)
-    ∙ ap (λ q. lowest_in test (option_and_then (λ c. reduced_successor k.setting.rules (taken_successor k rom row at s c)) q))
+    → q ≡ program → next ≡ at → cells ≡ s.cells → o ≡ taken_side row.op cells p.core p.relations → o ≡ Some b → t ≡ taken_successor k q rom row next s b
+    → lowest_in test (reduced_successor k.setting.rules t) ≡ lowest_in test (taken_from k program rom row at s p)
+taken_on_side test program q rom row k s p next at cells o b t same place listed is some e =
+    ap (λ u. lowest_in test (reduced_successor k.setting.rules u)) (e ∙ (ap (λ r. taken_successor k r rom row next s b) same ∙ ap (λ a. taken_successor k program rom row a s b) place))
+    ∙ ap (λ w. lowest_in test (option_and_then (λ c. reduced_successor k.setting.rules (taken_successor k program rom row at s c)) w))
     (sym some ∙ is ∙ ap (λ cs. taken_side row.op cs p.core p.relations) listed)
 
 -- ---- what is meant before the instruction
@@ -414,24 +415,24 @@ none_or : (a b : Bool) → a ≡ false → b ≡ false → (a || b) ≡ false
 none_or true b h e = cc
 none_or false b h e = e
 
-alone_deep : (cert : Certificate) (n : Node) (row : Row) → rules_of cert.version ≡ Extended → is_possible cert n ≡ false → applies_alone cert n row reason.Depth ≡ false
+alone_deep : (rom : List ℕ) (cert : Certificate) (n : Node) (row : Row) → rules_of cert.version ≡ Extended → is_possible cert n ≡ false → applies_alone rom cert n row reason.Depth ≡ false
 unfolding applies_alone
-alone_deep cert n row extended none =
-    none_or _ _ (deep_none (rules_of cert.version) (need_of cert n.procedure) n row.op extended) (and_none (handles_too_deep cert n) (is_possible cert n) none)
+alone_deep rom cert n row extended none =
+    none_or _ _ (deep_none (rules_of cert.version) (need_of cert n.procedure) n row.op extended) (and_none (handles_too_deep (program_of rom cert) cert n) (is_possible cert n) none)
 
-alone_limited : (cert : Certificate) (n : Node) (row : Row) → is_possible cert n ≡ false → applies_alone cert n row reason.OamTransfer ≡ false
+alone_limited : (rom : List ℕ) (cert : Certificate) (n : Node) (row : Row) → is_possible cert n ≡ false → applies_alone rom cert n row reason.OamTransfer ≡ false
 unfolding applies_alone
-alone_limited cert n row none = and_none (is_dispatch_limited cert.region n) (is_possible cert n) none
+alone_limited rom cert n row none = and_none (is_dispatch_limited cert.region n) (is_possible cert n) none
 
 find-none : (f : Reason → Bool) (rs : List Reason) → AllByRecursion (λ r. f r ≡ false) rs → None ≡ find f rs
 find-none f [] all = refl
 find-none f (r ∷ rs) all = find-none f rs all.1 ∙ sym (ap (λ b. cond b (Some r) (find f rs)) all.0)
 
-alone-none : (cert : Certificate) (n : Node) (row : Row) → rules_of cert.version ≡ Extended → is_possible cert n ≡ false → None ≡ lowest (applies_alone cert n row)
+alone-none : (rom : List ℕ) (cert : Certificate) (n : Node) (row : Row) → rules_of cert.version ≡ Extended → is_possible cert n ≡ false → None ≡ lowest (applies_alone rom cert n row)
 unfolding lowest applies_alone
-alone-none cert n row extended none =
-    find-none (applies_alone cert n row) way_reasons
-    (alone_deep cert n row extended none, (refl, (refl, (alone_limited cert n row none, (refl, (refl, (refl, (refl, tt))))))))
+alone-none rom cert n row extended none =
+    find-none (applies_alone rom cert n row) way_reasons
+    (alone_deep rom cert n row extended none, (refl, (refl, (alone_limited rom cert n row none, (refl, (refl, (refl, (refl, tt))))))))
 
 -- where nothing is meant, nothing is asked
 pub lowest_of_none : (rom : List ℕ) (cert : Certificate) (n : Node) (row : Row) (k : Stack) (s : AbsState)
@@ -442,5 +443,5 @@ lowest_of_none rom cert n row k s stack state extended before =
     subst (IsLowest rom cert n row k) (sym (before ∙ ap (product_before k.setting.rules) state))
     (subst (λ m. IsLowest rom cert n row m (product_before m.setting.rules n.state)) (sym stack) (lowest-before rom cert n row)) in
     ap (λ o. lower (lower (lower o None) None) None)
-    (alone-none cert n row (sym (rules-stack cert n k stack) ∙ extended) (possible_before cert n k s None stack state before))
+    (alone-none rom cert n row (sym (rules-stack cert n k stack) ∙ extended) (possible_before cert n k s None stack state before))
     ∙ sym is

@@ -21,6 +21,9 @@ use Rattle.gb_successors.specs.Below.gb_domain.declared.rules.Rules.TheVariants.
 use Rattle.gb_successors.specs.Below.gb_domain.declared.setting.Setting.{Setting}
 use Rattle.gb_successors.specs.Below.gb_domain.Areas.{are_in_ram, is_free_byte}
 use Rattle.gb_successors.specs.Below.gb_domain.Limits.{rules_of, item_room}
+use Rattle.gb_successors.specs.Below.gb_domain.Summaries.{Program, no_summary}
+use Rattle.gb_successors.specs.Below.gb_product.Below.gb_summaries.Elsewhere.{IsFree}
+use Rattle.gb_rules.proofs.ProgramLaws.{nothing_said, free_quiet}
 use Rattle.gb_successors.specs.Below.gb_domain.Types.{AbsState, Node}
 use Rattle.gb_successors.specs.Below.gb_domain.Certificate.{Certificate}
 use Rattle.gb_successors.specs.Below.gb_domain.Areas.{IsRegion, meets}
@@ -33,13 +36,13 @@ use Rattle.gb_successors.specs.Below.gb_abs.Stack.{AreInRegion}
 use Rattle.gb_successors.specs.Below.gb_abs_effects.declared.targets.Target.{Target}
 use Rattle.gb_successors.specs.Below.gb_abs_effects.declared.targets.Target.TheVariants as target
 use Rattle.gb_successors.proofs.Below.gb_abs_effects_laws.DecodingLaws.{HasBytes-decoded, length-decoded}
-use Rattle.gb_code.specs.Below.gb_abs_memory.Access.{val_at}
-use Rattle.gb_code.specs.Below.gb_abs_memory.Shown.{known_bank}
-use Rattle.gb_code.specs.Below.gb_abs_memory.Sound.{IsRom, AreVals}
-use Rattle.gb_code.proofs.Below.gb_abs_memory_laws.LoadLaws.{IsVal-val_at}
-use Rattle.gb_code.specs.Code.{area_end, known_byte, known_where, single_of}
-use Rattle.gb_code.proofs.ByteLaws.{chosen}
-use Rattle.gb_code.proofs.CodeLaws.{KnownBytes, KnownBytes-known_bytes, IsKnown, end_of, bank_of, clear_of}
+use Rattle.gb_successors.specs.Below.gb_code.Below.gb_abs_memory.Access.{val_at}
+use Rattle.gb_successors.specs.Below.gb_code.Below.gb_abs_memory.Shown.{known_bank}
+use Rattle.gb_successors.specs.Below.gb_code.Below.gb_abs_memory.Sound.{IsRom, AreVals}
+use Rattle.gb_successors.proofs.Below.gb_code_laws.Below.gb_abs_memory_laws.LoadLaws.{IsVal-val_at}
+use Rattle.gb_successors.specs.Below.gb_code.Code.{area_end, known_byte, known_where, single_of}
+use Rattle.gb_successors.proofs.Below.gb_code_laws.ByteLaws.{chosen}
+use Rattle.gb_successors.proofs.Below.gb_code_laws.CodeLaws.{KnownBytes, KnownBytes-known_bytes, IsKnown, end_of, bank_of, clear_of}
 use Rattle.gb_successors.specs.Way.{Successor}
 use Rattle.gb_successors.specs.declared.successors.Successors.{Successors}
 use Rattle.gb_successors.specs.Successors.{has, any_successor, product_before}
@@ -57,7 +60,7 @@ use Rattle.gb_rules.proofs.RegionLaws.{fewer_bytes}
 use Rattle.gb_rules.proofs.TargetLaws.{way_followed}
 use Rattle.gb_rules.specs.Safety.{HasReturnWord}
 use Rattle.std.specs.Option.{IfSome, is_some}
-use Rattle.gb_rules.specs.Procedures.{ranges_of, need_of, setting_of, stack_of, exit_of, taken_by}
+use Rattle.gb_rules.specs.Procedures.{ranges_of, need_of, setting_of, stack_of, program_of, exit_of, taken_by}
 use Rattle.gb_rules.specs.Rules.{is_stop, may_read_twice, breaks_simple_stack, breaks_stack_by, breaks_stack, pushes_too_deep, moves_too_deep, is_code_limited, callee_by, callee_at, is_over, calls_too_deep, is_resumed_uncovered, is_uncovered_if, is_uncovered, is_outside_of, is_uncallable_at, is_uncallable, is_exit_missed, is_unreturnable_at, is_unreturnable, interrupts, any_interrupt, is_dispatch_deep, handles_too_deep, is_dispatch_limited, is_unhandled, lacks_handler, test_row, test_instruction, is_undefined, node_bytes, ways_of, any_of, is_possible, grows_too_deep, stores_outside, meets_ram, meets_transfer, leads_anywhere, leads_uncovered, calls_wrongly, returns_wrongly, applies_to_row, applies, reasons, reason_of}
 
 -- ---- a node of a certificate is one of its grammar
@@ -89,6 +92,8 @@ pub record IsNodeState (cert : Certificate) (n : Node) : Type 0 where
   pub byte : IfSome n.state.relations.byte.address (λ a. is_free_byte cert.region a ≡ true)
   pub free : IsByteFree cert.region n.state.relations.byte.address
   pub pairs : ArePairs n.state.relations.pairs
+  pub quiet : n.state.summary ≡ no_summary
+  pub apart : IsFree cert.region n.state.summary
   pub stack : 0 < n.procedure → n.state.core.stack_set ≡ true
   pub unset : n.state.core.stack_set ≡ false → n.state.items ≡ []
 
@@ -137,6 +142,8 @@ IsNodeState-node cert n c is =
       byte = state.relations.byte.address;
       free = free_from cert.region n.state.relations.byte.address state.relations.byte.address;
       pairs = state.relations.pairs;
+      quiet = nothing_said (rules_of cert.version) n.state state.sayable;
+      apart = free_quiet cert.region n.state.summary (nothing_said (rules_of cert.version) n.state state.sayable);
       stack = λ other. needs_other n.procedure n.state.core.stack_set other state.stack;
       unset = none_unset _ n.state.core.stack_set n.state.items state.pushed;
     }
@@ -305,8 +312,8 @@ rules_at cert procedure = refl
 -- what is asked of its depth, each of the three by itself
 pub record IsShallow (rom : List ℕ) (cert : Certificate) (n : Node) (row : Row) : Type 0 where
   pub moves : moves_too_deep (rules_of cert.version) (need_of cert n.procedure) n row.op (ways_of rom cert n row).taken ≡ false
-  pub calls : any_of (calls_too_deep cert (setting_of cert n.procedure) (need_of cert n.procedure)) rom cert n row ≡ false
-  pub handles : is_possible cert n ≡ true → handles_too_deep cert n ≡ false
+  pub calls : any_of (calls_too_deep (program_of rom cert) cert (setting_of cert n.procedure) (need_of cert n.procedure)) rom cert n row ≡ false
+  pub handles : is_possible cert n ≡ true → handles_too_deep (program_of rom cert) cert n ≡ false
 
 where_possible : (a b : Bool) → (a && b) ≡ false → b ≡ true → a ≡ false
 where_possible true b h e = cc
@@ -317,7 +324,7 @@ unfolding grows_too_deep
 shallow rom cert n p =
     let parts = or_parts _ _ p.depth in
     let first = or_parts _ _ parts.0 in
-    record { moves = first.0; calls = first.1; handles = where_possible (handles_too_deep cert n) (is_possible cert n) parts.1 }
+    record { moves = first.0; calls = first.1; handles = where_possible (handles_too_deep (program_of rom cert) cert n) (is_possible cert n) parts.1 }
 
 -- what is asked of it while an OAM transfer may run
 pub record IsOpen (rom : List ℕ) (cert : Certificate) (n : Node) (row : Row) : Type 0 where
@@ -338,20 +345,20 @@ pub record IsHoused (cert : Certificate) (procedure base : ℕ) : Type 0 where
 
 stack_ruled : (rom : List ℕ) (cert : Certificate) (n : Node) (base : ℕ) (row : Row) → IsCertificate cert → IsHoused cert n.procedure base → breaks_stack (stack_of cert n.procedure) n row.op ≡ false
     → moves_too_deep (rules_of cert.version) (need_of cert n.procedure) n row.op (ways_of rom cert n row).taken ≡ false → (r : Rules) → rules_of cert.version ≡ r
-    → IsStackRuled r (stack_of cert n.procedure) rom row n.address n.state base
+    → IsStackRuled r (stack_of cert n.procedure) (program_of rom cert) rom row n.address n.state base
 unfolding stack_of setting_of ways_of
 stack_ruled rom cert n base row certificate h stack depth Simple is =
     stack_known (setting_of cert n.procedure) cert.region (need_of cert n.procedure) base n row.op h.main h.room
     (subst (λ (q : Rules). breaks_stack_by q (stack_of cert n.procedure) n row.op ≡ false) is stack)
     (subst (λ (q : Rules). moves_too_deep q (need_of cert n.procedure) n row.op (ways_of rom cert n row).taken ≡ false) is depth) is
 stack_ruled rom cert n base row certificate h stack depth Extended is =
-    IsStackRuled-ready (stack_of cert n.procedure) rom row n base
+    IsStackRuled-ready (stack_of cert n.procedure) (program_of rom cert) rom row n base
     (record { extended = is; based = h.based; room = h.room; main = main_room cert certificate })
     (subst (λ (q : Rules). breaks_stack_by q (stack_of cert n.procedure) n row.op ≡ false) is stack)
     (subst (λ (q : Rules). moves_too_deep q (need_of cert n.procedure) n row.op (ways_of rom cert n row).taken ≡ false) is depth)
 
 pub ruled : (rom : List ℕ) (cert : Certificate) (n : Node) (base : ℕ) (p : Passes rom cert n) → IsRom rom → IsCertificate cert → IsNodeState cert n → IsHoused cert n.procedure base
-    → IsRuled (stack_of cert n.procedure) rom p.row n.address n.state base
+    → IsRuled (stack_of cert n.procedure) (program_of rom cert) rom p.row n.address n.state base
 ruled rom cert n base p r certificate s housed =
     let second : p.known.second < 256 = where_small _ rom n.state _ _ r s.core s.vals p.known.is_second in
     let third : p.known.third < 256 = where_small _ rom n.state _ _ r s.core s.vals p.known.is_third in
@@ -363,9 +370,9 @@ ruled rom cert n base p r certificate s housed =
       stack = ruled_by rom cert n base p.row (stack_ruled rom cert n base p.row certificate housed p.stack (shallow rom cert n p).moves (rules_of cert.version) refl);
     }
   where
-    ruled_by : (rom : List ℕ) (cert : Certificate) (n : Node) (base : ℕ) (row : Row) → IsStackRuled (rules_of cert.version) (stack_of cert n.procedure) rom row n.address n.state base
-        → IsStackRuled (stack_of cert n.procedure).setting.rules (stack_of cert n.procedure) rom row n.address n.state base
-    ruled_by rom cert n base row h = subst (λ (q : Rules). IsStackRuled q (stack_of cert n.procedure) rom row n.address n.state base) (rules_at cert n.procedure) h
+    ruled_by : (rom : List ℕ) (cert : Certificate) (n : Node) (base : ℕ) (row : Row) → IsStackRuled (rules_of cert.version) (stack_of cert n.procedure) (program_of rom cert) rom row n.address n.state base
+        → IsStackRuled (stack_of cert n.procedure).setting.rules (stack_of cert n.procedure) (program_of rom cert) rom row n.address n.state base
+    ruled_by rom cert n base row h = subst (λ (q : Rules). IsStackRuled q (stack_of cert n.procedure) (program_of rom cert) rom row n.address n.state base) (rules_at cert n.procedure) h
 
 -- ---- nothing is against a successor
 
@@ -404,9 +411,9 @@ callable cert n t base a (Some q) outside over room = fewer_bytes cert.region ba
     fits need held more h = grind (arith, nat_tests)
 
 -- what a return asks for: an exit, with nothing held
-returnable : (cert : Certificate) (n : Node) (t : Successor) (base : ℕ) (o : Option AbsState) → IsNodeState cert n → (n.procedure == 0 || is_exit_missed Simple t.state o) ≡ false
+returnable : (program : Program) (cert : Certificate) (n : Node) (t : Successor) (base : ℕ) (o : Option AbsState) → IsNodeState cert n → (n.procedure == 0 || is_exit_missed program Simple t.state o) ≡ false
     → (0 < n.procedure → base + 2 ≤ cert.region.last + 1) → AreInRegion cert.region base (need_of cert n.procedure) → IsReturnable cert.region n.state t base
-returnable cert n t base o state h word room =
+returnable program cert n t base o state h word room =
     let p = or_parts _ _ h in
     let other : 0 < n.procedure = not_zero n.procedure p.0 in
     let last = word other in
@@ -420,19 +427,19 @@ returnable cert n t base o state h word room =
     empty [] h = refl
     empty (i ∷ items) h = cc
 
-    no_items : (o : Option AbsState) (s : AbsState) → is_exit_missed Simple s o ≡ false → s.items ≡ []
+    no_items : (o : Option AbsState) (s : AbsState) → is_exit_missed program Simple s o ≡ false → s.items ≡ []
     no_items None s h = cc
     no_items (Some exit) s h = empty s.items (eqb-true _ _ (not-false _ (or_parts _ _ h).0))
 
 -- nothing is against it, by the certificate's rules
-pub record IsUnopposed (rules : Rules) (cert : Certificate) (n : Node) (t : Successor) : Type 0 where
+pub record IsUnopposed (program : Program) (rules : Rules) (cert : Certificate) (n : Node) (t : Successor) : Type 0 where
   pub found : is_unknown t.target ≡ false
-  pub covered : is_uncovered (record (setting_of cert n.procedure) { rules = rules }) cert n.procedure t ≡ false
-  pub callable : is_uncallable (record (setting_of cert n.procedure) { rules = rules }) cert n.procedure t ≡ false
-  pub shallow : calls_too_deep cert (record (setting_of cert n.procedure) { rules = rules }) (need_of cert n.procedure) t ≡ false
-  pub returnable : is_unreturnable rules cert n.procedure t ≡ false
+  pub covered : is_uncovered program (record (setting_of cert n.procedure) { rules = rules }) cert n.procedure t ≡ false
+  pub callable : is_uncallable program (record (setting_of cert n.procedure) { rules = rules }) cert n.procedure t ≡ false
+  pub shallow : calls_too_deep program cert (record (setting_of cert n.procedure) { rules = rules }) (need_of cert n.procedure) t ≡ false
+  pub returnable : is_unreturnable program rules cert n.procedure t ≡ false
 
-pub unopposed : (rules : Rules) (rom : List ℕ) (cert : Certificate) (n : Node) (p : Passes rom cert n) (t : Successor) → rules_of cert.version ≡ rules → IsOneOf (ways_of rom cert n p.row) t → IsUnopposed rules cert n t
+pub unopposed : (rules : Rules) (rom : List ℕ) (cert : Certificate) (n : Node) (p : Passes rom cert n) (t : Successor) → rules_of cert.version ≡ rules → IsOneOf (ways_of rom cert n p.row) t → IsUnopposed (program_of rom cert) rules cert n t
 unfolding leads_anywhere leads_uncovered calls_wrongly returns_wrongly any_of
 unopposed rules rom cert n p t is one =
     let z = ruled_by rules cert n is in
@@ -440,23 +447,23 @@ unopposed rules rom cert n p t is one =
     let own = setting_of cert n.procedure in
     record {
       found = none_of (λ w. is_unknown w.target) ways t p.jump one;
-      covered = subst (λ (q : Setting). is_uncovered q cert n.procedure t ≡ false) z (none_of (is_uncovered own cert n.procedure) ways t p.covered one);
-      callable = subst (λ (q : Setting). is_uncallable q cert n.procedure t ≡ false) z (none_of (is_uncallable own cert n.procedure) ways t p.calls one);
-      shallow = subst (λ (q : Setting). calls_too_deep cert q (need_of cert n.procedure) t ≡ false) z (none_of (calls_too_deep cert own (need_of cert n.procedure)) ways t (shallow rom cert n p).calls one);
-      returnable = subst (λ (q : Rules). is_unreturnable q cert n.procedure t ≡ false) is (none_of (is_unreturnable (rules_of cert.version) cert n.procedure) ways t p.returns one);
+      covered = subst (λ (q : Setting). is_uncovered (program_of rom cert) q cert n.procedure t ≡ false) z (none_of (is_uncovered (program_of rom cert) own cert n.procedure) ways t p.covered one);
+      callable = subst (λ (q : Setting). is_uncallable (program_of rom cert) q cert n.procedure t ≡ false) z (none_of (is_uncallable (program_of rom cert) own cert n.procedure) ways t p.calls one);
+      shallow = subst (λ (q : Setting). calls_too_deep (program_of rom cert) cert q (need_of cert n.procedure) t ≡ false) z (none_of (calls_too_deep (program_of rom cert) cert own (need_of cert n.procedure)) ways t (shallow rom cert n p).calls one);
+      returnable = subst (λ (q : Rules). is_unreturnable (program_of rom cert) q cert n.procedure t ≡ false) is (none_of (is_unreturnable (program_of rom cert) (rules_of cert.version) cert n.procedure) ways t p.returns one);
     }
 
 -- by the rules of versions 1 and 2 it goes on in the procedure, calls or returns
 pub followed : (rom : List ℕ) (cert : Certificate) (n : Node) (p : Passes rom cert n) (t : Successor) → rules_of cert.version ≡ Simple → IsOneOf (ways_of rom cert n p.row) t → is_followed Simple t.target ≡ true
 unfolding ways_of stack_of setting_of
-followed rom cert n p t simple is = way_followed (stack_of cert n.procedure) rom p.row n.address n.state t simple is (unopposed Simple rom cert n p t simple is).found
+followed rom cert n p t simple is = way_followed (stack_of cert n.procedure) (program_of rom cert) rom p.row n.address n.state t simple is (unopposed Simple rom cert n p t simple is).found
 
 -- by those of version 3 it is found
-pub found : (cert : Certificate) (n : Node) (t : Successor) → IsUnopposed Extended cert n t → IsFound t.target
+pub found : (program : Program) (cert : Certificate) (n : Node) (t : Successor) → IsUnopposed program Extended cert n t → IsFound t.target
 unfolding is_unreturnable
-found cert n t u = by t.target u.found u.returnable
+found program cert n t u = by t.target u.found u.returnable
   where
-    by : (w : Target) → is_unknown w ≡ false → is_unreturnable_at Extended cert n.procedure w t.state ≡ false → IsFound w
+    by : (w : Target) → is_unknown w ≡ false → is_unreturnable_at program Extended cert n.procedure w t.state ≡ false → IsFound w
     by (target.At a) known returns = tt
     by (target.Call a) known returns = tt
     by target.Return known returns = tt
@@ -465,17 +472,17 @@ found cert n t u = by t.target u.found u.returnable
     by target.Lost known returns = absurd (unlike returns)
 
 -- the stack has what it asks for
-fit_simply : (rom : List ℕ) (cert : Certificate) (n : Node) (base : ℕ) (t : Successor) → is_followed Simple t.target ≡ true → IsUnopposed Simple cert n t → IsNodeState cert n
+fit_simply : (program : Program) (rom : List ℕ) (cert : Certificate) (n : Node) (base : ℕ) (t : Successor) → is_followed Simple t.target ≡ true → IsUnopposed program Simple cert n t → IsNodeState cert n
     → (0 < n.procedure → base + 2 ≤ cert.region.last + 1) → AreInRegion cert.region base (need_of cert n.procedure) → IsStackFree cert.region t.target n.state t base
 unfolding is_uncallable is_unreturnable calls_too_deep callee_at
-fit_simply rom cert n base t known u state word room = by t.target known u.callable u.shallow u.returnable
+fit_simply program rom cert n base t known u state word room = by t.target known u.callable u.shallow u.returnable
   where
-    by : (w : Target) → is_followed Simple w ≡ true → is_uncallable_at (simple_at cert n) cert n.procedure w t.state ≡ false
-        → is_over Simple cert (need_of cert n.procedure) (length t.state.items) (callee_by cert (simple_at cert n) w t.state) ≡ false
-        → is_unreturnable_at Simple cert n.procedure w t.state ≡ false → IsStackFree cert.region w n.state t base
+    by : (w : Target) → is_followed Simple w ≡ true → is_uncallable_at program (simple_at cert n) cert n.procedure w t.state ≡ false
+        → is_over Simple cert (need_of cert n.procedure) (length t.state.items) (callee_by program cert (simple_at cert n) w t.state) ≡ false
+        → is_unreturnable_at program Simple cert n.procedure w t.state ≡ false → IsStackFree cert.region w n.state t base
     by (target.At a) known calls deep returns = tt
-    by (target.Call a) known calls deep returns = callable cert n t base a (callee_of cert (simple_at cert n) a t.state) calls deep room
-    by target.Return known calls deep returns = returnable cert n t base (exit_of cert n.procedure) state returns word room
+    by (target.Call a) known calls deep returns = callable cert n t base a (callee_of program cert (simple_at cert n) a t.state) calls deep room
+    by target.Return known calls deep returns = returnable program cert n t base (exit_of cert n.procedure) state returns word room
     by (target.Main a) known calls deep returns = cc
     by target.Unknown known calls deep returns = cc
     by target.Lost known calls deep returns = cc
@@ -484,8 +491,8 @@ fit : (rom : List ℕ) (cert : Certificate) (n : Node) (p : Passes rom cert n) (
     → HasReturnWord (rules_of cert.version) cert.region n.procedure base → AreInRegion cert.region base (need_of cert n.procedure) → (r : Rules) → rules_of cert.version ≡ r
     → IsStackFit r cert.region t.target n.state t base
 fit rom cert n p base t is state word room Simple simple =
-    fit_simply rom cert n base t (followed rom cert n p t simple is) (unopposed Simple rom cert n p t simple is) state (return_word_of (rules_of cert.version) cert.region n.procedure base simple word) room
-fit rom cert n p base t is state word room Extended extended = found cert n t (unopposed Extended rom cert n p t extended is)
+    fit_simply (program_of rom cert) rom cert n base t (followed rom cert n p t simple is) (unopposed Simple rom cert n p t simple is) state (return_word_of (rules_of cert.version) cert.region n.procedure base simple word) room
+fit rom cert n p base t is state word room Extended extended = found (program_of rom cert) cert n t (unopposed Extended rom cert n p t extended is)
 
 pub allowed : (rom : List ℕ) (cert : Certificate) (n : Node) (p : Passes rom cert n) (base : ℕ) (t : Successor) → IsOneOf (ways_of rom cert n p.row) t → IsNodeState cert n
     → HasReturnWord (rules_of cert.version) cert.region n.procedure base → AreInRegion cert.region base (need_of cert n.procedure)
@@ -542,30 +549,30 @@ pub one_interrupt : (test : ℕ → Bool) (n : Node) (i : ℕ) → any_interrupt
 one_interrupt test n i h lt may = both_false _ _ may (none_in (λ i. may_come i n.state.core && test i) interrupts i i h (interrupt_at i lt))
 
 -- what is known of an interrupt that may come
-pub record IsProvided (cert : Certificate) (n : Node) (i : ℕ) : Type 0 where
+pub record IsProvided (program : Program) (cert : Certificate) (n : Node) (i : ℕ) : Type 0 where
   pub stack_set : n.state.core.stack_set ≡ true
   pub clear : is_stack_limited cert.region n.state.core ≡ false
   pub handler : ℕ
-  pub is_handler : handler_of cert (simple_at cert n) i n.address n.state ≡ Some handler
+  pub is_handler : handler_of program cert (simple_at cert n) i n.address n.state ≡ Some handler
   pub inside : are_ranges_inside (ranges_of cert handler) (ranges_of cert n.procedure) ≡ true
   pub depth : length n.state.items + 2 + need_of cert handler ≤ need_of cert n.procedure
   pub resumes :
       (exit : AbsState) → exit_of cert handler ≡ Some exit
-      → IfSome (resumed Simple (taken_by cert handler) (ranges_of cert handler) (left_by_dispatch Simple n.address n.state) exit)
-      (λ after. covered_at Simple cert.nodes n.procedure n.address after ≡ true)
+      → IfSome (resumed program Simple (taken_by cert handler) (ranges_of cert handler) (left_by_dispatch Simple n.address n.state) exit)
+      (λ after. covered_at program Simple cert.nodes n.procedure n.address after ≡ true)
 
-pub covered_if : (cert : Certificate) (procedure a : ℕ) (o : Option AbsState) → is_uncovered_if Simple cert procedure a o ≡ false → IfSome o (λ s. covered_at Simple cert.nodes procedure a s ≡ true)
-covered_if cert procedure a None h = tt
-covered_if cert procedure a (Some s) h = not-false _ (or_parts _ _ h).1
+pub covered_if : (program : Program) (cert : Certificate) (procedure a : ℕ) (o : Option AbsState) → is_uncovered_if program Simple cert procedure a o ≡ false → IfSome o (λ s. covered_at program Simple cert.nodes procedure a s ≡ true)
+covered_if program cert procedure a None h = tt
+covered_if program cert procedure a (Some s) h = not-false _ (or_parts _ _ h).1
 
-provided : (cert : Certificate) (n : Node) (i : ℕ) (o : Option ℕ) → handler_of cert (simple_at cert n) i n.address n.state ≡ o → is_stack_limited cert.region n.state.core ≡ false
-    → is_unhandled (simple_at cert n) cert n i o ≡ false → is_over Simple cert (need_of cert n.procedure) (length n.state.items) o ≡ false → IsProvided cert n i
-provided cert n i None e clear handled over = absurd (none_out (not n.state.core.stack_set) handled)
+provided : (program : Program) (cert : Certificate) (n : Node) (i : ℕ) (o : Option ℕ) → handler_of program cert (simple_at cert n) i n.address n.state ≡ o → is_stack_limited cert.region n.state.core ≡ false
+    → is_unhandled program (simple_at cert n) cert n i o ≡ false → is_over Simple cert (need_of cert n.procedure) (length n.state.items) o ≡ false → IsProvided program cert n i
+provided program cert n i None e clear handled over = absurd (none_out (not n.state.core.stack_set) handled)
   where
     none_out : (a : Bool) → (a || true || false) ≡ false → ⊥
     none_out true h = cc
     none_out false h = cc
-provided cert n i (Some q) e clear handled over =
+provided program cert n i (Some q) e clear handled over =
     let p = or_parts _ _ handled in
     let r = or_parts _ _ p.0 in
     record {
@@ -576,8 +583,8 @@ provided cert n i (Some q) e clear handled over =
       inside = not-false _ r.1;
       depth = held (length n.state.items + 2 + need_of cert q) (need_of cert n.procedure) over;
       resumes = λ exit is.
-          covered_if cert n.procedure n.address _
-          (subst (λ o. is_resumed_uncovered Simple cert n.procedure n.address (left_by_dispatch Simple n.address n.state) q o ≡ false) is p.1);
+          covered_if program cert n.procedure n.address _
+          (subst (λ o. is_resumed_uncovered program Simple cert n.procedure n.address (left_by_dispatch Simple n.address n.state) q o ≡ false) is p.1);
     }
   where
     held : (m need : ℕ) → nat_lt need m ≡ false → m ≤ need
@@ -587,13 +594,13 @@ some_before : (cert : Certificate) (n : Node) → rules_of cert.version ≡ Simp
 unfolding product_before reduced
 some_before cert n simple = subst (λ (q : Rules). is_some (product_before q n.state) ≡ true) (sym simple) refl
 
-pub IsProvided-passed : (rom : List ℕ) (cert : Certificate) (n : Node) (p : Passes rom cert n) (i : ℕ) → rules_of cert.version ≡ Simple → lacks_handler cert n ≡ false → i < 5 → may_come i n.state.core ≡ true
-    → IsProvided cert n i
+pub IsProvided-passed : (rom : List ℕ) (cert : Certificate) (n : Node) (p : Passes rom cert n) (i : ℕ) → rules_of cert.version ≡ Simple → lacks_handler (program_of rom cert) cert n ≡ false → i < 5 → may_come i n.state.core ≡ true
+    → IsProvided (program_of rom cert) cert n i
 unfolding handles_too_deep is_dispatch_limited lacks_handler
 IsProvided-passed rom cert n p i simple handled lt may =
-    provided cert n i (handler_of cert (simple_at cert n) i n.address n.state) refl
+    provided (program_of rom cert) cert n i (handler_of (program_of rom cert) cert (simple_at cert n) i n.address n.state) refl
     (one_interrupt (λ i. is_stack_limited cert.region n.state.core) n i ((unlimited rom cert n p).dispatches (some_before cert n simple)) lt may)
-    (subst (λ (z : Setting). is_unhandled z cert n i (handler_of cert z i n.address n.state) ≡ false) (simply cert n simple)
-    (one_interrupt (λ i. is_unhandled (setting_of cert n.procedure) cert n i (handler_of cert (setting_of cert n.procedure) i n.address n.state)) n i handled lt may))
-    (subst (λ (z : Setting). is_dispatch_deep z cert (need_of cert n.procedure) n.state (handler_of cert z i n.address n.state) ≡ false) (simply cert n simple)
-    (one_interrupt (λ i. is_dispatch_deep (setting_of cert n.procedure) cert (need_of cert n.procedure) n.state (handler_of cert (setting_of cert n.procedure) i n.address n.state)) n i ((shallow rom cert n p).handles (some_before cert n simple)) lt may))
+    (subst (λ (z : Setting). is_unhandled (program_of rom cert) z cert n i (handler_of (program_of rom cert) cert z i n.address n.state) ≡ false) (simply cert n simple)
+    (one_interrupt (λ i. is_unhandled (program_of rom cert) (setting_of cert n.procedure) cert n i (handler_of (program_of rom cert) cert (setting_of cert n.procedure) i n.address n.state)) n i handled lt may))
+    (subst (λ (z : Setting). is_dispatch_deep z cert (need_of cert n.procedure) n.state (handler_of (program_of rom cert) cert z i n.address n.state) ≡ false) (simply cert n simple)
+    (one_interrupt (λ i. is_dispatch_deep (setting_of cert n.procedure) cert (need_of cert n.procedure) n.state (handler_of (program_of rom cert) cert (setting_of cert n.procedure) i n.address n.state)) n i ((shallow rom cert n p).handles (some_before cert n simple)) lt may))

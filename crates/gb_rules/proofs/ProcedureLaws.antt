@@ -20,7 +20,7 @@ use Rattle.gb_successors.specs.Below.gb_domain.Settings.{known_base, IsBase}
 use Rattle.gb_calls.specs.Below.gb_states.Rules.{is_base_of, IsRange, IsProcedure, IsState, IsCertificate, after_range, is_after, size}
 use Rattle.gb_successors.specs.Below.gb_abs.Span.{one}
 use Rattle.gb_successors.specs.Below.gb_abs.Stack.{AreInRegion}
-use Rattle.gb_code.specs.Below.gb_abs_memory.Access.{is_range}
+use Rattle.gb_successors.specs.Below.gb_code.Below.gb_abs_memory.Access.{is_range}
 use Rattle.gb_rules.specs.Safety.{HasReturnWord}
 use Rattle.gb_rules.specs.Procedures.{ranges_in, need_in, base_in, exit_in, ranges_of, need_of, setting_of, exit_of}
 

@@ -11,6 +11,7 @@ use Rattle.gb_successors.specs.Below.gb_domain.declared.rules.Rules.TheVariants.
 use Rattle.gb_successors.specs.Below.gb_domain.declared.types.Origin.TheVariants.{ReturnHigh, ReturnLow}
 use Rattle.gb_successors.specs.Below.gb_domain.Pairs.{ArePairs}
 use Rattle.gb_successors.specs.Below.gb_domain.Settings.{IsBase}
+use Rattle.gb_successors.specs.Below.gb_domain.Summaries.{Program}
 use Rattle.gb_successors.specs.Below.gb_domain.Types.{AbsState, ProcedureParts, Node}
 use Rattle.gb_successors.specs.Below.gb_domain.Certificate.{Certificate}
 use Rattle.gb_successors.specs.Below.gb_domain.Limits.{rules_of}
@@ -27,7 +28,7 @@ use Rattle.gb_calls.specs.Calls.{entered_by, fits, callee_of, are_ranges_inside}
 use Rattle.gb_calls.specs.Resuming.{resumed}
 use Rattle.gb_calls.proofs.CalleeLaws.{IsCallee-found, IsEntryNode-entry, fits-few, fits-base}
 use Rattle.gb_rules.specs.Covered.{covered_at}
-use Rattle.gb_rules.specs.Procedures.{ranges_of, need_of, setting_of, exit_of, items_in, entry_in, taken_by, base_in}
+use Rattle.gb_rules.specs.Procedures.{ranges_of, need_of, setting_of, program_of, exit_of, items_in, entry_in, taken_by, base_in}
 use Rattle.gb_rules.specs.Rules.{is_extended, is_over, is_resumed_uncovered, is_back_uncovered, is_call_uncovered, is_uncovered_if, is_outside_of, is_exit_missed}
 use Rattle.gb_rules.specs.Safety.{begun, IsMeant, HandsOver, GoesBack, LeadsBy}
 use Rattle.gb_rules.proofs.SearchLaws.{Contains-slice_get}
@@ -50,8 +51,8 @@ pub record IsReached (cert : Certificate) (procedure a : ℕ) (state : AbsState)
 
 -- it stays: behind an instruction, behind a jump to a known word, or where what is called has no callee
 pub IsMeant-reached : (rom : List ℕ) (cert : Certificate) (procedure a : ℕ) (state : AbsState) (entry : Activation) (base : ℕ) (y : MState) → rules_of cert.version ≡ Extended
-    → IsReached cert procedure a state entry base y → IsMarkHarmless rom y → covered_at Extended cert.nodes procedure a state ≡ true → IsMeant rom cert procedure entry base y
-IsMeant-reached rom cert procedure a state entry base y extended k mark covered =
+    → entry.program ≡ program_of rom cert → IsReached cert procedure a state entry base y → IsMarkHarmless rom y → covered_at entry.program Extended cert.nodes procedure a state ≡ true → IsMeant rom cert procedure entry base y
+IsMeant-reached rom cert procedure a state entry base y extended program k mark covered =
     let f = found_by Extended cert procedure a state entry base y k.pairs k.bytes covered k.means in
     let same = f.procedure_is in
     record {
@@ -60,6 +61,7 @@ IsMeant-reached rom cert procedure a state entry base y extended k mark covered 
       procedure_is = same;
       at = record {
         address = k.address ∙ sym f.address;
+        program = program;
         means = f.means;
         mark = mark;
         main = λ e. k.main (sym same ∙ e);
@@ -71,11 +73,11 @@ IsMeant-reached rom cert procedure a state entry base y extended k mark covered 
     }
 
 -- main begins anew, as if it were entered now
-pub IsMeant-anew : (rom : List ℕ) (cert : Certificate) (a : ℕ) (state : AbsState) (y : MState) → rules_of cert.version ≡ Extended → IsCertificate cert → Means state (begun y) (cert.region.last + 1) y
+pub IsMeant-anew : (rom : List ℕ) (cert : Certificate) (a : ℕ) (state : AbsState) (y : MState) → rules_of cert.version ≡ Extended → IsCertificate cert → Means state (begun rom cert y) (cert.region.last + 1) y
     → y.processor.pc ≡ a → AreBytes y.processor.registers → ArePairs state.relations.pairs → AreInRegion cert.region (cert.region.last + 1) (length state.items) → IsMarkHarmless rom y
-    → covered_at Extended cert.nodes 0 a state ≡ true → IsMeant rom cert 0 (begun y) (cert.region.last + 1) y
+    → covered_at (program_of rom cert) Extended cert.nodes 0 a state ≡ true → IsMeant rom cert 0 (begun rom cert y) (cert.region.last + 1) y
 IsMeant-anew rom cert a state y extended certificate means address bytes pairs held mark covered =
-    IsMeant-reached rom cert 0 a state (begun y) (cert.region.last + 1) y extended
+    IsMeant-reached rom cert 0 a state (begun rom cert y) (cert.region.last + 1) y extended refl
     (record {
       means = means;
       address = address;
@@ -121,9 +123,9 @@ ranges_inside e true inside is h = cc
 not_over : (need bytes : ℕ) → nat_lt need bytes ≡ false → bytes ≤ need
 not_over need bytes h = grind (arith, nat_tests)
 
-covered_if : (cert : Certificate) (procedure a : ℕ) (o : Option AbsState) → is_uncovered_if Extended cert procedure a o ≡ false → IfSome o (λ s. covered_at Extended cert.nodes procedure a s ≡ true)
-covered_if cert procedure a None h = tt
-covered_if cert procedure a (Some s) h = not-false _ (or_parts _ _ h).1
+covered_if : (program : Program) (cert : Certificate) (procedure a : ℕ) (o : Option AbsState) → is_uncovered_if program Extended cert procedure a o ≡ false → IfSome o (λ s. covered_at program Extended cert.nodes procedure a s ≡ true)
+covered_if program cert procedure a None h = tt
+covered_if program cert procedure a (Some s) h = not-false _ (or_parts _ _ h).1
 
 -- the address where the procedure will go on is on top of its stack, and its callee is at its first instruction
 pub record IsCalling (cert : Certificate) (procedure a back : ℕ) (state : AbsState) (entry : Activation) (base : ℕ) (y : MState) : Type 0 where
@@ -135,20 +137,20 @@ pub record IsCalling (cert : Certificate) (procedure a back : ℕ) (state : AbsS
   pub mark : y.processor.halt_mark ≡ false
 
 -- nothing is against the callee
-pub record IsCallable (cert : Certificate) (procedure back : ℕ) (state : AbsState) (q : ℕ) : Type 0 where
+pub record IsCallable (program : Program) (cert : Certificate) (procedure back : ℕ) (state : AbsState) (q : ℕ) : Type 0 where
   pub inside : is_outside_of (setting_of cert procedure) cert procedure (Some q) ≡ false
   pub depth : is_over Extended cert (need_of cert procedure) (length state.items) (Some q) ≡ false
-  pub resumes : is_back_uncovered Extended cert procedure back state q ≡ false
+  pub resumes : is_back_uncovered program Extended cert procedure back state q ≡ false
 
 -- the callee that is found takes the procedure's newest items over
 pub HandsOver-called : (cert : Certificate) (procedure a back : ℕ) (state : AbsState) (entry : Activation) (base : ℕ) (y : MState) (q : ℕ) → rules_of cert.version ≡ Extended → IsCertificate cert
-    → IsCalling cert procedure a back state entry base y → callee_of cert (setting_of cert procedure) a state ≡ Some q → IsCallable cert procedure back state q → HandsOver cert procedure entry base y
+    → IsCalling cert procedure a back state entry base y → callee_of entry.program cert (setting_of cert procedure) a state ≡ Some q → IsCallable entry.program cert procedure back state q → HandsOver cert procedure entry base y
 HandsOver-called cert procedure a back state entry base y q extended certificate k is may =
     let z = setting_of cert procedure in
     let rules = widely cert procedure extended in
-    let callee = IsCallee-found cert z a state q is in
+    let callee = IsCallee-found entry.program cert z a state q is in
     let p = callee.procedure in
-    let begin = IsEntryNode-entry cert z a state p callee.begins in
+    let begin = IsEntryNode-entry entry.program cert z a state p callee.begins in
     let number : begin.node.procedure ≡ q = same_number begin.node.procedure q (is_own 0 cert.procedures cert.nodes q p begin.node certificate.entries callee.is_procedure begin.is_node) in
     let count : taken_by cert begin.node.procedure ≡ length begin.node.state.items = ap (taken_by cert) number ∙ taken_by-entry cert q p begin.node callee.is_procedure begin.is_node in
     let own : p.base ≡ (setting_of cert begin.node.procedure).base = sym (ap (λ n. (setting_of cert n).base) number ∙ base_is cert q p callee.is_procedure) in
@@ -170,25 +172,25 @@ HandsOver-called cert procedure a back state entry base y q extended certificate
       address = k.reached.address ∙ sym begin.address;
       few = fits-few z (setting_of cert begin.node.procedure).base (taken_by cert begin.node.procedure) (length state.items) rules fitting;
       based = fits-base z (setting_of cert begin.node.procedure) (taken_by cert begin.node.procedure) state.items base rules fitting k.reached.based;
-      begins = subst (λ n. covers (entered_by Extended n state) begin.node.state ≡ true) (sym count)
-          (subst (λ (r : Rules). covers (entered_by r (length begin.node.state.items) state) begin.node.state ≡ true) rules begin.covering);
+      begins = subst (λ n. covers entry.program (entered_by Extended n state) begin.node.state ≡ true) (sym count)
+          (subst (λ (r : Rules). covers entry.program (entered_by r (length begin.node.state.items) state) begin.node.state ≡ true) rules begin.covering);
       mark = k.mark;
       depth = subst (λ n. (length state.items - taken_by cert n) + need_of cert n ≤ need_of cert procedure) (sym number) (not_over (need_of cert procedure) (length state.items - taken_by cert q + need_of cert q) may.depth);
       inside = λ some.
           subst (λ n. are_ranges_inside (ranges_of cert n) (ranges_of cert procedure) ≡ true) (sym number)
           (ranges_inside (is_extended z.rules) z.is_main (are_ranges_inside (ranges_of cert q) (ranges_of cert procedure)) (is_other cert procedure some) may.inside);
       resumes = λ exit at.
-          subst (λ n. IfSome (resumed Extended (taken_by cert n) (ranges_of cert n) state exit) (λ after. covered_at Extended cert.nodes procedure back after ≡ true)) (sym number)
-          (covered_if cert procedure back _ (subst (λ o. is_resumed_uncovered Extended cert procedure back state q o ≡ false) (subst (λ n. exit_of cert n ≡ Some exit) number at) may.resumes));
+          subst (λ n. IfSome (resumed entry.program Extended (taken_by cert n) (ranges_of cert n) state exit) (λ after. covered_at entry.program Extended cert.nodes procedure back after ≡ true)) (sym number)
+          (covered_if entry.program cert procedure back _ (subst (λ o. is_resumed_uncovered entry.program Extended cert procedure back state q o ≡ false) (subst (λ n. exit_of cert n ≡ Some exit) number at) may.resumes));
     }
 
 -- whatever is called: its callee takes over, or without one the procedure goes on there
 pub LeadsBy-called : (rom : List ℕ) (cert : Certificate) (procedure a back : ℕ) (state : AbsState) (entry : Activation) (base : ℕ) (x y : MState) (o : Option ℕ) → rules_of cert.version ≡ Extended → IsCertificate cert
-    → IsCalling cert procedure a back state entry base y → callee_of cert (setting_of cert procedure) a state ≡ o → is_outside_of (setting_of cert procedure) cert procedure o ≡ false
-    → is_over Extended cert (need_of cert procedure) (length state.items) o ≡ false → is_call_uncovered Extended cert procedure a back state o ≡ false → LeadsBy Extended rom cert procedure entry base x y
-LeadsBy-called rom cert procedure a back state entry base x y None extended certificate k is inside depth covered =
-    inl (IsMeant-reached rom cert procedure a state entry base y extended k.reached (inl k.mark) (not-false _ covered))
-LeadsBy-called rom cert procedure a back state entry base x y (Some q) extended certificate k is inside depth covered =
+    → entry.program ≡ program_of rom cert → IsCalling cert procedure a back state entry base y → callee_of entry.program cert (setting_of cert procedure) a state ≡ o → is_outside_of (setting_of cert procedure) cert procedure o ≡ false
+    → is_over Extended cert (need_of cert procedure) (length state.items) o ≡ false → is_call_uncovered entry.program Extended cert procedure a back state o ≡ false → LeadsBy Extended rom cert procedure entry base x y
+LeadsBy-called rom cert procedure a back state entry base x y None extended certificate program k is inside depth covered =
+    inl (IsMeant-reached rom cert procedure a state entry base y extended program k.reached (inl k.mark) (not-false _ covered))
+LeadsBy-called rom cert procedure a back state entry base x y (Some q) extended certificate program k is inside depth covered =
     inr (inl (HandsOver-called cert procedure a back state entry base y q extended certificate k is (record { inside = inside; depth = depth; resumes = covered })))
 
 -- ---- the procedure returns
@@ -196,22 +198,22 @@ LeadsBy-called rom cert procedure a back state entry base x y (Some q) extended 
 -- its exit stands for the states
 pub GoesBack-reached : (cert : Certificate) (procedure : ℕ) (state : AbsState) (entry : Activation) (base : ℕ) (y : MState) → 0 < procedure → Means state entry base y
     → AreInRegion cert.region base (length state.items) → y.processor.pc ≡ word (origin_value ReturnHigh entry) (origin_value ReturnLow entry) → y.processor.halt_mark ≡ false
-    → is_exit_missed Extended state (exit_of cert procedure) ≡ false → GoesBack cert procedure entry base y
+    → is_exit_missed entry.program Extended state (exit_of cert procedure) ≡ false → GoesBack cert procedure entry base y
 GoesBack-reached cert procedure state entry base y some means held address mark h = by (exit_of cert procedure) refl h
   where
     not_so : {X : Type 0} → true ≡ false → X
     not_so e = cc
 
-    by : (o : Option AbsState) → exit_of cert procedure ≡ o → is_exit_missed Extended state o ≡ false → GoesBack cert procedure entry base y
+    by : (o : Option AbsState) → exit_of cert procedure ≡ o → is_exit_missed entry.program Extended state o ≡ false → GoesBack cert procedure entry base y
     by None e missed = not_so missed
     by (Some exit) e missed =
-        let covering : covers state exit ≡ true = not-false _ missed in
+        let covering : covers entry.program state exit ≡ true = not-false _ missed in
         record {
           not_main = some;
           exit = exit;
           is_exit = e;
           means = Means-covered state exit entry base y covering means;
-          held = subst (λ n. AreInRegion cert.region base n) (sym (covered_items state exit covering)) held;
+          held = subst (λ n. AreInRegion cert.region base n) (sym (covered_items entry.program state exit covering)) held;
           address = address;
           mark = mark;
         }

@@ -27,6 +27,7 @@ use Rattle.gb_successors.specs.Stacks.{bytes_to, bytes_to_if, own_bytes, main_by
 use Rattle.gb_successors.specs.Successors.{pointer_in, taken_move, product_before, successors_of}
 use Rattle.gb_rules.specs.Rules.{is_lost_move, sets_lost, sets_lost_from, lacks_bytes, breaks_extended_stack, is_deep, bytes_after, is_deep_if, grows_over}
 use Rattle.gb_rules.proofs.RegionLaws.{fewer_bytes}
+use Rattle.gb_successors.specs.Below.gb_domain.Summaries.{Program}
 
 -- where a procedure's states stand by the rules of version 3: its bytes lie in the region, and so do main's
 pub record IsRoomy (k : Stack) (base : ℕ) : Type 0 where
@@ -179,9 +180,9 @@ not_deep true need o e h = h
 not_deep false need o e h = cc
 
 -- the stack is ready for what a node's instruction does to it, where that may be taken
-pub IsStackRuled-ready : (k : Stack) (rom : List ℕ) (row : Row) (n : Node) (base : ℕ) → IsRoomy k base → breaks_extended_stack k n row.op ≡ false
-    → grows_over k.need n row.op (successors_of k rom row n.address n.state).taken ≡ false → IsStackRuled Extended k rom row n.address n.state base
+pub IsStackRuled-ready : (k : Stack) (program : Program) (rom : List ℕ) (row : Row) (n : Node) (base : ℕ) → IsRoomy k base → breaks_extended_stack k n row.op ≡ false
+    → grows_over k.need n row.op (successors_of k program rom row n.address n.state).taken ≡ false → IsStackRuled Extended k program rom row n.address n.state base
 unfolding taken_move
-IsStackRuled-ready k rom row n base r breaks deep some p is =
+IsStackRuled-ready k program rom row n base r breaks deep some p is =
     ready k n row.op base _ p r (subst (λ (q : Rules). product_before q n.state ≡ Some p) (sym r.extended) is) breaks
-    (not_deep (is_some (successors_of k rom row n.address n.state).taken) k.need (bytes_after row.op (length n.state.items)) some deep)
+    (not_deep (is_some (successors_of k program rom row n.address n.state).taken) k.need (bytes_after row.op (length n.state.items)) some deep)

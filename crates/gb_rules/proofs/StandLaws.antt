@@ -1,5 +1,5 @@
 -- Where the machine stands at a node that passes: its successors are sound, one of them is there, and what it leads to is meant.
-use Rattle.std.proofs.Common.{◌≡◌, ℕ, ◌+◌, false, List, [], length, refl, arith}
+use Rattle.std.proofs.Common.{◌≡◌, ℕ, ◌+◌, false, List, [], length, refl, arith, subst, sym}
 use Rattle.std.specs.List.{Contains}
 use Rattle.gb_ops.specs.Play.{MState}
 use Rattle.gb_successors.specs.Below.gb_abs.Meaning.{Activation}
@@ -7,17 +7,22 @@ use Rattle.gb_successors.specs.Below.gb_domain.Types.{Node}
 use Rattle.gb_successors.specs.Below.gb_domain.Certificate.{Certificate}
 use Rattle.gb_successors.specs.Below.gb_domain.Limits.{rules_of}
 use Rattle.gb_successors.specs.Below.gb_domain.Settings.{IsBase}
+use Rattle.gb_successors.proofs.Below.gb_product_laws.SummaryLaws.{HoldSummary-same}
+use Rattle.gb_successors.specs.Below.gb_domain.Summaries.{no_summary}
+use Rattle.gb_successors.proofs.QuietLaws.{quiet_successor}
+use Rattle.gb_rules.proofs.ProgramLaws.{no_controller, is_program}
+use Rattle.gb_successors.specs.Below.gb_abs.Storage.{peek}
 use Rattle.gb_successors.specs.Below.gb_product.Meaning.{Means}
 use Rattle.gb_successors.specs.Below.gb_abs.Stack.{AreInRegion}
-use Rattle.gb_code.specs.Below.gb_abs_memory.Sound.{IsRom}
-use Rattle.gb_code.proofs.CodeLaws.{IsKnown, IsAt as IsAtCode}
+use Rattle.gb_successors.specs.Below.gb_code.Below.gb_abs_memory.Sound.{IsRom}
+use Rattle.gb_successors.proofs.Below.gb_code_laws.CodeLaws.{IsKnown, IsAt as IsAtCode}
 use Rattle.gb_successors.specs.Way.{Successor}
 use Rattle.gb_successors.specs.declared.stacks.Stack.{Stack}
-use Rattle.gb_successors.specs.Sound.{IsOneOf, Stands, IsRuled, AreSoundSuccessors}
+use Rattle.gb_successors.specs.Sound.{IsOneOf, Stands, IsRuled, AreSoundSuccessors, IsProgram}
 use Rattle.gb_successors.proofs.FormedLaws.{IsFormed, IsFormed-successor}
 use Rattle.gb_successors.proofs.WayLaws.{successors_of_sound}
 use Rattle.gb_calls.specs.Below.gb_states.Rules.{IsCertificate}
-use Rattle.gb_rules.specs.Procedures.{ranges_of, need_of, setting_of, stack_of}
+use Rattle.gb_rules.specs.Procedures.{ranges_of, need_of, setting_of, stack_of, program_of}
 use Rattle.gb_rules.specs.Rules.{ways_of}
 use Rattle.gb_rules.specs.Safety.{HasReturnWord}
 use Rattle.gb_rules.proofs.NodeLaws.{IsNodeState, Passes, IsHoused, ruled, known_by}
@@ -30,6 +35,7 @@ pub record OnNode (rom : List ℕ) (cert : Certificate) (n : Node) (entry : Acti
   pub state : IsNodeState cert n
   pub passes : Passes rom cert n
   pub address : x.processor.pc ≡ n.address
+  pub program : entry.program ≡ program_of rom cert
   pub means : Means n.state entry base x
   pub main : n.procedure ≡ 0 → base ≡ cert.region.last + 1
   pub return_word : HasReturnWord (rules_of cert.version) cert.region n.procedure base
@@ -49,6 +55,8 @@ stands rom cert n entry base x k = record {
   items = k.state.items;
   unset = k.state.unset;
   room = k.held;
+  program = subst (λ p. IsProgram rom cert.region p) (sym k.program) (is_program rom cert k.certificate);
+  apart = k.state.apart;
   means = k.means;
   based = k.based;
   at = k.address;
@@ -62,13 +70,13 @@ abbrev pub whole_stack : Certificate → ℕ → Stack
 whole_stack cert procedure = record { setting = setting_of cert procedure; region = cert.region; need = need_of cert procedure; main_need = need_of cert 0 }
 
 pub sound_ways : (rom : List ℕ) (cert : Certificate) (n : Node) (entry : Activation) (base : ℕ) (x : MState) (k : OnNode rom cert n entry base x)
-    → AreSoundSuccessors (whole_stack cert n.procedure) rom k.passes.row n.address n.state (ways_of rom cert n k.passes.row)
+    → AreSoundSuccessors (whole_stack cert n.procedure) (program_of rom cert) rom k.passes.row n.address n.state (ways_of rom cert n k.passes.row)
 unfolding ways_of stack_of
-sound_ways rom cert n entry base x k = successors_of_sound (whole_stack cert n.procedure) rom k.passes.row n.address n.state (ways_of rom cert n k.passes.row) refl
+sound_ways rom cert n entry base x k = successors_of_sound (whole_stack cert n.procedure) (program_of rom cert) rom k.passes.row n.address n.state (ways_of rom cert n k.passes.row) refl
 
 -- its instruction is one that may stand there
 pub is_ruled : (rom : List ℕ) (cert : Certificate) (n : Node) (entry : Activation) (base : ℕ) (x : MState) (k : OnNode rom cert n entry base x)
-    → IsRuled (whole_stack cert n.procedure) rom k.passes.row n.address n.state base
+    → IsRuled (whole_stack cert n.procedure) (program_of rom cert) rom k.passes.row n.address n.state base
 unfolding stack_of
 is_ruled rom cert n entry base x k = ruled rom cert n base k.passes k.cartridge k.certificate k.state (housed rom cert n entry base x k)
 
@@ -77,7 +85,15 @@ pub formed : (rom : List ℕ) (cert : Certificate) (n : Node) (entry : Activatio
     → IsFormed cert.region t.state
 unfolding ways_of stack_of
 formed rom cert n entry base x k t is =
-    IsFormed-successor (whole_stack cert n.procedure) rom k.passes.row n.address n.state t entry base x (stands rom cert n entry base x k) (is_ruled rom cert n entry base x k).operands is
+    IsFormed-successor (whole_stack cert n.procedure) (program_of rom cert) rom k.passes.row n.address n.state t entry base x (stands rom cert n entry base x k) (is_ruled rom cert n entry base x k).operands is
+
+-- by the rules of versions 1 to 3 they say nothing of the whole program
+pub quiet :
+    (rom : List ℕ) (cert : Certificate) (n : Node) (entry : Activation) (base : ℕ) (x : MState) (k : OnNode rom cert n entry base x) (t : Successor)
+    → IsOneOf (ways_of rom cert n k.passes.row) t → t.state.summary ≡ no_summary
+unfolding ways_of stack_of
+quiet rom cert n entry base x k t is =
+    quiet_successor (whole_stack cert n.procedure) (program_of rom cert) rom k.passes.row n.address n.state t (no_controller rom cert k.certificate) k.state.quiet is
 
 -- the same machine without the HALT mark
 abbrev pub unmarked : MState → MState
@@ -91,8 +107,10 @@ on_unmarked rom cert n entry base x k = record {
   state = k.state;
   passes = k.passes;
   address = k.address;
+  program = k.program;
   means = record {
     related = k.means.related;
+    summary = HoldSummary-same entry.program n.state.cells n.state.summary x.processor (unmarked x).processor (peek x.storage) (peek x.storage) x.storage.banks x.storage.banks refl refl refl refl (λ b. refl) k.means.summary;
     parts = record {
       core = record {
         registers = k.means.parts.core.registers;
@@ -123,7 +141,7 @@ pub some_way : (rom : List ℕ) (cert : Certificate) (n : Node) (entry : Activat
 unfolding on_unmarked
 some_way rom cert n entry base x k =
     let u = on_unmarked rom cert n entry base x k in
-    let done = (sound_ways rom cert n entry base (unmarked x) u).executes (ranges_of cert n.procedure) entry base (unmarked x) [] (stands rom cert n entry base (unmarked x) u)
+    let done = (sound_ways rom cert n entry base (unmarked x) u).executes (ranges_of cert n.procedure) entry base (unmarked x) [] u.program (stands rom cert n entry base (unmarked x) u)
     (is_ruled rom cert n entry base x k) refl (omega arith) in
     (done.successor, done.is_one)
 

@@ -30,6 +30,7 @@ use Rattle.gb_successors.specs.Sound.{IsFound, IsOneOf, is_followed}
 use Rattle.gb_successors.specs.Stacks.{stack_move}
 use Rattle.gb_successors.specs.Successors.{pointer_in, word_in, effect_in, with_product, taken_parts, taken_successor, untaken_successor, reduced_successor, taken_from, not_taken_from, product_before, staying_successor, may_stay, stays, successors_of}
 use Rattle.gb_successors.specs.Way.{Successor}
+use Rattle.gb_successors.specs.Below.gb_domain.Summaries.{Program}
 
 -- reducing leaves the target
 reduced_target : (rules : Rules) (u t : Successor) → reduced_successor rules u ≡ Some t → t.target ≡ u.target
@@ -48,23 +49,23 @@ record IsTakenTo (k : Stack) (o : Op) (next : ℕ) (t : Successor) : Type 0 wher
   write : AbsWrite
   is : t.target ≡ refined_target k.setting.rules k.setting o next word core pointer (stack_move k o write pointer) (target_of o next core)
 
-goes : (k : Stack) (rom : List ℕ) (row : Row) (next : ℕ) (s : AbsState) (b : Branch) → IsTakenTo k row.op next (taken_successor k rom row next s b)
+goes : (k : Stack) (program : Program) (rom : List ℕ) (row : Row) (next : ℕ) (s : AbsState) (b : Branch) → IsTakenTo k row.op next (taken_successor k program rom row next s b)
 unfolding taken_successor taken_parts
-goes k rom row next s b =
+goes k program rom row next s b =
     let p = product_of b.core b.relations in
     record { core = b.core; word = word_in k rom row.op s p; pointer = pointer_in k row.op p; write = (effect_in k rom row.op next s p).write; is = refl }
 
-is_taken_to : (k : Stack) (rom : List ℕ) (row : Row) (a : ℕ) (s : AbsState) (t : Successor) → (successors_of k rom row a s).taken ≡ Some t → IsTakenTo k row.op ((a + row.length) % 65536) t
+is_taken_to : (k : Stack) (program : Program) (rom : List ℕ) (row : Row) (a : ℕ) (s : AbsState) (t : Successor) → (successors_of k program rom row a s).taken ≡ Some t → IsTakenTo k row.op ((a + row.length) % 65536) t
 unfolding successors_of
-is_taken_to k rom row a s t h = from (product_before k.setting.rules s) h
+is_taken_to k program rom row a s t h = from (product_before k.setting.rules s) h
   where
-    at_side : (o : Option Branch) → option_and_then (λ b. reduced_successor k.setting.rules (taken_successor k rom row ((a + row.length) % 65536) s b)) o ≡ Some t → IsTakenTo k row.op ((a + row.length) % 65536) t
+    at_side : (o : Option Branch) → option_and_then (λ b. reduced_successor k.setting.rules (taken_successor k program rom row ((a + row.length) % 65536) s b)) o ≡ Some t → IsTakenTo k row.op ((a + row.length) % 65536) t
     at_side None e = cc
     at_side (Some b) e =
-        let g = goes k rom row ((a + row.length) % 65536) s b in
-        record { core = g.core; word = g.word; pointer = g.pointer; write = g.write; is = reduced_target k.setting.rules (taken_successor k rom row ((a + row.length) % 65536) s b) t e ∙ g.is }
+        let g = goes k program rom row ((a + row.length) % 65536) s b in
+        record { core = g.core; word = g.word; pointer = g.pointer; write = g.write; is = reduced_target k.setting.rules (taken_successor k program rom row ((a + row.length) % 65536) s b) t e ∙ g.is }
 
-    from : (o : Option Product) → option_and_then (taken_from k rom row ((a + row.length) % 65536) s) o ≡ Some t → IsTakenTo k row.op ((a + row.length) % 65536) t
+    from : (o : Option Product) → option_and_then (taken_from k program rom row ((a + row.length) % 65536) s) o ≡ Some t → IsTakenTo k row.op ((a + row.length) % 65536) t
     from None e = cc
     from (Some p) e = at_side (taken_side row.op s.cells p.core p.relations) e
 
@@ -74,10 +75,10 @@ unfolding refined_target
 by_row rules z o next w core hl m simple = subst (λ q. refined_target q z o next w core hl m (target_of o next core) ≡ target_of o next core) (sym simple) refl
 
 -- by the rules of versions 1 and 2 it goes on where the row says
-taken_target : (k : Stack) (rom : List ℕ) (row : Row) (a : ℕ) (s : AbsState) (t : Successor) → k.setting.rules ≡ Simple → (successors_of k rom row a s).taken ≡ Some t
+taken_target : (k : Stack) (program : Program) (rom : List ℕ) (row : Row) (a : ℕ) (s : AbsState) (t : Successor) → k.setting.rules ≡ Simple → (successors_of k program rom row a s).taken ≡ Some t
     → (core : Core) × (t.target ≡ target_of row.op ((a + row.length) % 65536) core)
-taken_target k rom row a s t simple h =
-    let g = is_taken_to k rom row a s t h in
+taken_target k program rom row a s t simple h =
+    let g = is_taken_to k program rom row a s t h in
     (g.core, g.is ∙ by_row k.setting.rules k.setting row.op _ g.word g.core g.pointer _ simple)
 
 -- HALT goes on behind itself
@@ -87,16 +88,16 @@ unfolding refined_target stack_move target_of
 halts_behind Simple k z next w core hl what = refl
 halts_behind Extended k z next w core hl what = refl
 
-pub halt_target : (k : Stack) (rom : List ℕ) (row : Row) (a : ℕ) (s : AbsState) (t : Successor) → row.op ≡ op.Halt → (successors_of k rom row a s).taken ≡ Some t → t.target ≡ target.At ((a + row.length) % 65536)
-halt_target k rom row a s t halt h =
-    let g = is_taken_to k rom row a s t h in
+pub halt_target : (k : Stack) (program : Program) (rom : List ℕ) (row : Row) (a : ℕ) (s : AbsState) (t : Successor) → row.op ≡ op.Halt → (successors_of k program rom row a s).taken ≡ Some t → t.target ≡ target.At ((a + row.length) % 65536)
+halt_target k program rom row a s t halt h =
+    let g = is_taken_to k program rom row a s t h in
     let next = (a + row.length) % 65536 in
     g.is ∙ (ap (λ (o : Op). refined_target k.setting.rules k.setting o next g.word g.core g.pointer (stack_move k o g.write g.pointer) (target_of o next g.core)) halt ∙ halts_behind k.setting.rules k k.setting next g.word g.core g.pointer g.write)
 
 -- one that isn't goes on behind the instruction
-untaken_target : (k : Stack) (rom : List ℕ) (row : Row) (a : ℕ) (s : AbsState) (t : Successor) → (successors_of k rom row a s).not_taken ≡ Some t → t.target ≡ target.At ((a + row.length) % 65536)
+untaken_target : (k : Stack) (program : Program) (rom : List ℕ) (row : Row) (a : ℕ) (s : AbsState) (t : Successor) → (successors_of k program rom row a s).not_taken ≡ Some t → t.target ≡ target.At ((a + row.length) % 65536)
 unfolding successors_of untaken_successor
-untaken_target k rom row a s t h = from (product_before k.setting.rules s) h
+untaken_target k program rom row a s t h = from (product_before k.setting.rules s) h
   where
     at_side : (o : Option Branch) → option_and_then (λ b. reduced_successor k.setting.rules (untaken_successor k row ((a + row.length) % 65536) s b)) o ≡ Some t
         → t.target ≡ target.At ((a + row.length) % 65536)
@@ -107,9 +108,9 @@ untaken_target k rom row a s t h = from (product_before k.setting.rules s) h
     from None e = cc
     from (Some p) e = at_side (not_taken_side row.op s.cells p.core p.relations) e
 
-staying_target : (k : Stack) (rom : List ℕ) (row : Row) (a : ℕ) (s : AbsState) (t : Successor) → (successors_of k rom row a s).stays ≡ Some t → t.target ≡ target.At a
+staying_target : (k : Stack) (program : Program) (rom : List ℕ) (row : Row) (a : ℕ) (s : AbsState) (t : Successor) → (successors_of k program rom row a s).stays ≡ Some t → t.target ≡ target.At a
 unfolding successors_of stays staying_successor
-staying_target k rom row a s t h = from (product_before k.setting.rules s) h
+staying_target k program rom row a s t h = from (product_before k.setting.rules s) h
   where
     by : (b : Bool) → cond b (Some (staying_successor a s)) None ≡ Some t → t.target ≡ target.At a
     by true e = sym (ap (λ (w : Successor). w.target) (same_Some _ _ e))
@@ -147,13 +148,13 @@ at_followed : (w : Target) (a : ℕ) → w ≡ target.At a → is_followed Simpl
 at_followed w a e = ap (is_followed Simple) e
 
 -- by the rules of versions 1 and 2 each successor that doesn't lead anywhere is followed: none goes on in main or gets lost
-pub way_followed : (k : Stack) (rom : List ℕ) (row : Row) (a : ℕ) (s : AbsState) (t : Successor) → k.setting.rules ≡ Simple → IsOneOf (successors_of k rom row a s) t
+pub way_followed : (k : Stack) (program : Program) (rom : List ℕ) (row : Row) (a : ℕ) (s : AbsState) (t : Successor) → k.setting.rules ≡ Simple → IsOneOf (successors_of k program rom row a s) t
     → is_unknown t.target ≡ false → is_followed Simple t.target ≡ true
-way_followed k rom row a s t simple (inl e) known =
-    let goes = taken_target k rom row a s t simple e in
+way_followed k program rom row a s t simple (inl e) known =
+    let goes = taken_target k program rom row a s t simple e in
     ap (is_followed Simple) goes.1 ∙ row_followed row.op ((a + row.length) % 65536) goes.0 (sym (ap is_unknown goes.1) ∙ known)
-way_followed k rom row a s t simple (inr (inl e)) known = at_followed t.target _ (untaken_target k rom row a s t e)
-way_followed k rom row a s t simple (inr (inr e)) known = at_followed t.target _ (staying_target k rom row a s t e)
+way_followed k program rom row a s t simple (inr (inl e)) known = at_followed t.target _ (untaken_target k program rom row a s t e)
+way_followed k program rom row a s t simple (inr (inr e)) known = at_followed t.target _ (staying_target k program rom row a s t e)
 
 -- by those of version 3 what is found
 pub found_followed : (w : Target) → IsFound w → is_followed Extended w ≡ true

@@ -10,7 +10,8 @@ use Rattle.gb_successors.specs.Below.gb_domain.Types.{AbsState, ProcedureParts, 
 use Rattle.gb_successors.specs.Below.gb_domain.Certificate.{Certificate}
 use Rattle.gb_calls.specs.Below.gb_states.Rules.{IsCertificate, is_of, have_entries}
 use Rattle.gb_successors.specs.Below.gb_abs.Mark.{IsMarkHarmless}
-use Rattle.gb_successors.specs.Below.gb_product.Meaning.{AreRelated, Means}
+use Rattle.gb_successors.specs.Below.gb_domain.Summaries.{Program, no_summary}
+use Rattle.gb_successors.specs.Below.gb_product.Meaning.{AreRelated, IsSummarized, Means}
 use Rattle.gb_successors.specs.Below.gb_abs.Stack.{AreInRegion, pushed}
 use Rattle.gb_successors.specs.Below.gb_abs.Meaning.{Activation, MeansParts}
 use Rattle.gb_successors.specs.Below.gb_domain.declared.types.Halves.{Halves}
@@ -33,7 +34,7 @@ use Rattle.gb_rules.specs.Safety.{HasReturnWord, IsMeant, Calls, Returns, LeadsB
 use Rattle.gb_rules.proofs.SearchLaws.{Contains-slice_get}
 use Rattle.gb_rules.proofs.CoveringLaws.{found_at}
 use Rattle.gb_rules.proofs.NodeLaws.{simple_at, covered_if, IsUnopposed, unopposed, followed}
-use Rattle.gb_rules.proofs.StandLaws.{OnNode}
+use Rattle.gb_rules.proofs.StandLaws.{OnNode, quiet}
 
 not_so : {X : Type 0} → true ≡ false → X
 not_so h = cc
@@ -65,31 +66,32 @@ not_over cert need held q h = by (held + 2 + need_of cert q) h
     by : (m : ℕ) → nat_lt need m ≡ false → m ≤ need
     by m h = grind (arith, nat_tests)
 
-resumed_covered : (cert : Certificate) (procedure back : ℕ) (s : AbsState) (q : ℕ) → is_back_uncovered Simple cert procedure back s q ≡ false → (exit : AbsState) → exit_of cert q ≡ Some exit
-    → IfSome (resumed Simple (taken_by cert q) (ranges_of cert q) s exit) (λ after. covered_at Simple cert.nodes procedure back after ≡ true)
-resumed_covered cert procedure back s q h exit is = covered_if cert procedure back _ (subst (λ o. is_resumed_uncovered Simple cert procedure back s q o ≡ false) is h)
+resumed_covered : (program : Program) (cert : Certificate) (procedure back : ℕ) (s : AbsState) (q : ℕ) → is_back_uncovered program Simple cert procedure back s q ≡ false → (exit : AbsState) → exit_of cert q ≡ Some exit
+    → IfSome (resumed program Simple (taken_by cert q) (ranges_of cert q) s exit) (λ after. covered_at program Simple cert.nodes procedure back after ≡ true)
+resumed_covered program cert procedure back s q h exit is = covered_if program cert procedure back _ (subst (λ o. is_resumed_uncovered program Simple cert procedure back s q o ≡ false) is h)
 
-means_pushed : (w : Halves) (s : AbsState) (entry : Activation) (base : ℕ) (x : MState) → MeansParts (pushed w s) entry base x → AreRelated s.relations x → Means (pushed w s) entry base x
+means_pushed : (w : Halves) (s : AbsState) (entry : Activation) (base : ℕ) (x : MState) → MeansParts (pushed w s) entry base x → AreRelated s.relations x → IsSummarized s entry x → Means (pushed w s) entry base x
 unfolding pushed
-means_pushed w s entry base x parts related = record { parts = parts; related = related }
+means_pushed w s entry base x parts related said = record { parts = parts; related = related; summary = said }
 
-calls_at : (rom : List ℕ) (cert : Certificate) (n : Node) (t : Successor) (a : ℕ) (entry : Activation) (base : ℕ) (y : MState) → IsCertificate cert → CallsAt cert.region a t entry base y → AreRelated t.state.relations y
-    → y.processor.halt_mark ≡ false → is_outside_of (simple_at cert n) cert n.procedure (callee_of cert (simple_at cert n) a t.state) ≡ false → is_over Simple cert (need_of cert n.procedure) (length t.state.items) (callee_of cert (simple_at cert n) a t.state) ≡ false
-    → is_call_uncovered Simple cert n.procedure a t.next t.state (callee_of cert (simple_at cert n) a t.state) ≡ false → Calls cert n.procedure entry base y
-calls_at rom cert n t a entry base y certificate c related mark outside over uncovered = by (callee_of cert (simple_at cert n) a t.state) refl outside over uncovered
+calls_at : (rom : List ℕ) (cert : Certificate) (n : Node) (t : Successor) (a : ℕ) (entry : Activation) (base : ℕ) (y : MState) → IsCertificate cert → CallsAt cert.region a t entry base y → AreRelated t.state.relations y → IsSummarized t.state entry y → t.state.summary ≡ no_summary
+    → y.processor.halt_mark ≡ false → is_outside_of (simple_at cert n) cert n.procedure (callee_of entry.program cert (simple_at cert n) a t.state) ≡ false → is_over Simple cert (need_of cert n.procedure) (length t.state.items) (callee_of entry.program cert (simple_at cert n) a t.state) ≡ false
+    → is_call_uncovered entry.program Simple cert n.procedure a t.next t.state (callee_of entry.program cert (simple_at cert n) a t.state) ≡ false → Calls cert n.procedure entry base y
+calls_at rom cert n t a entry base y certificate c related said quiet mark outside over uncovered = by (callee_of entry.program cert (simple_at cert n) a t.state) refl outside over uncovered
   where
-    by : (o : Option ℕ) → callee_of cert (simple_at cert n) a t.state ≡ o → is_outside_of (simple_at cert n) cert n.procedure o ≡ false → is_over Simple cert (need_of cert n.procedure) (length t.state.items) o ≡ false
-        → is_call_uncovered Simple cert n.procedure a t.next t.state o ≡ false → Calls cert n.procedure entry base y
+    by : (o : Option ℕ) → callee_of entry.program cert (simple_at cert n) a t.state ≡ o → is_outside_of (simple_at cert n) cert n.procedure o ≡ false → is_over Simple cert (need_of cert n.procedure) (length t.state.items) o ≡ false
+        → is_call_uncovered entry.program Simple cert n.procedure a t.next t.state o ≡ false → Calls cert n.procedure entry base y
     by None e out deep back = not_so out
     by (Some q) e out deep back =
-        let callee = IsCallee-found cert (simple_at cert n) a t.state q e in
-        let begin = IsEntryNode-entry cert (simple_at cert n) a t.state callee.procedure callee.begins in
+        let callee = IsCallee-found entry.program cert (simple_at cert n) a t.state q e in
+        let begin = IsEntryNode-entry entry.program cert (simple_at cert n) a t.state callee.procedure callee.begins in
         let number : begin.node.procedure ≡ q = same_number begin.node.procedure q (is_own 0 cert.procedures cert.nodes q callee.procedure begin.node certificate.entries callee.is_procedure begin.is_node) in
         record {
           state = t.state;
           back = t.next;
           back_small = c.next;
-          means = means_pushed (known_word t.next) t.state entry base y c.means related;
+          means = means_pushed (known_word t.next) t.state entry base y c.means related said;
+          quiet = quiet;
           stack_set = c.stack_set;
           placed = c.placed;
           node = begin.node;
@@ -101,26 +103,26 @@ calls_at rom cert n t a entry base y certificate c related mark outside over unc
           depth = subst (λ m. length t.state.items + 2 + need_of cert m ≤ need_of cert n.procedure) (sym number) (not_over cert (need_of cert n.procedure) (length t.state.items) q deep);
           inside = subst (λ m. are_ranges_inside (ranges_of cert m) (ranges_of cert n.procedure) ≡ true) (sym number) (not-false _ out);
           resumes = λ exit is.
-              subst (λ m. IfSome (resumed Simple (taken_by cert m) (ranges_of cert m) t.state exit) (λ after. covered_at Simple cert.nodes n.procedure t.next after ≡ true)) (sym number)
-              (resumed_covered cert n.procedure t.next t.state q back exit (subst (λ m. exit_of cert m ≡ Some exit) number is));
+              subst (λ m. IfSome (resumed entry.program Simple (taken_by cert m) (ranges_of cert m) t.state exit) (λ after. covered_at entry.program Simple cert.nodes n.procedure t.next after ≡ true)) (sym number)
+              (resumed_covered entry.program cert n.procedure t.next t.state q back exit (subst (λ m. exit_of cert m ≡ Some exit) number is));
         }
 
 -- ---- returns
 
-returns_to : (cert : Certificate) (n : Node) (t : Successor) (entry : Activation) (base : ℕ) (x y : MState) → ReturnsTo t entry base x y → AreRelated t.state.relations y → y.processor.halt_mark ≡ false
-    → (n.procedure == 0 || is_exit_missed Simple t.state (exit_of cert n.procedure)) ≡ false → Returns cert n.procedure entry base x y
-returns_to cert n t entry base x y r related mark h = by (exit_of cert n.procedure) refl (or_parts _ _ h).1
+returns_to : (cert : Certificate) (n : Node) (t : Successor) (entry : Activation) (base : ℕ) (x y : MState) → ReturnsTo t entry base x y → AreRelated t.state.relations y → IsSummarized t.state entry y → y.processor.halt_mark ≡ false
+    → (n.procedure == 0 || is_exit_missed entry.program Simple t.state (exit_of cert n.procedure)) ≡ false → Returns cert n.procedure entry base x y
+returns_to cert n t entry base x y r related said mark h = by (exit_of cert n.procedure) refl (or_parts _ _ h).1
   where
     not_zero : (m : ℕ) → (m == 0) ≡ false → 0 < m
     not_zero m h = grind (arith, nat_tests)
 
-    by : (o : Option AbsState) → exit_of cert n.procedure ≡ o → is_exit_missed Simple t.state o ≡ false → Returns cert n.procedure entry base x y
+    by : (o : Option AbsState) → exit_of cert n.procedure ≡ o → is_exit_missed entry.program Simple t.state o ≡ false → Returns cert n.procedure entry base x y
     by None e missed = not_so missed
     by (Some exit) e missed = record {
       not_main = not_zero n.procedure (or_parts _ _ h).0;
       exit = exit;
       is_exit = e;
-      means = Means-covered t.state exit entry (base + 2) y (not-false _ (or_parts _ _ missed).1) (record { parts = r.means; related = related });
+      means = Means-covered t.state exit entry (base + 2) y (not-false _ (or_parts _ _ missed).1) (record { parts = r.means; related = related; summary = said });
       address = r.goes;
       mark = mark;
     }
@@ -140,15 +142,16 @@ pub record IsMarked (rom : List ℕ) (w : Target) (y : MState) : Type 0 where
 
 -- a successor leads on in the same procedure
 stays_at : (rom : List ℕ) (cert : Certificate) (n : Node) (entry : Activation) (base : ℕ) (x : MState) (k : OnNode rom cert n entry base x) (t : Successor) (a : ℕ) (y : MState)
-    → StaysAt cert.region a t entry base y → AreRelated t.state.relations y → covered_at Simple cert.nodes n.procedure a t.state ≡ true → IsMarkHarmless rom y → IsMeant rom cert n.procedure entry base y
-stays_at rom cert n entry base x k t a y to related covered mark =
-    let f = found_at cert n.procedure a t.state entry base y covered (record { parts = to.means; related = related }) in
+    → StaysAt cert.region a t entry base y → AreRelated t.state.relations y → IsSummarized t.state entry y → covered_at entry.program Simple cert.nodes n.procedure a t.state ≡ true → IsMarkHarmless rom y → IsMeant rom cert n.procedure entry base y
+stays_at rom cert n entry base x k t a y to related said covered mark =
+    let f = found_at cert n.procedure a t.state entry base y covered (record { parts = to.means; related = related; summary = said }) in
     record {
       node = f.node;
       is_node = f.is_node;
       procedure_is = f.procedure_is;
       at = record {
         address = to.goes ∙ sym f.address;
+        program = k.program;
         means = f.means;
         mark = mark;
         main = λ is. k.main (sym f.procedure_is ∙ is);
@@ -165,23 +168,26 @@ pub simply_leads : (rom : List ℕ) (cert : Certificate) (procedure : ℕ) (entr
 simply_leads rom cert procedure entry base s t simple h = subst (λ r. LeadsBy r rom cert procedure entry base s t) (sym simple) h
 
 pub Leads-simply : (rom : List ℕ) (cert : Certificate) (n : Node) (entry : Activation) (base : ℕ) (x : MState) (k : OnNode rom cert n entry base x) (t : Successor) → rules_of cert.version ≡ Simple
-    → IsOneOf (ways_of rom cert n k.passes.row) t → (y : MState) → LeadsSimply cert.region t.target t entry base x y → (is_followed Simple t.target ≡ true → AreRelated t.state.relations y) → IsMarked rom t.target y
+    → IsOneOf (ways_of rom cert n k.passes.row) t → (y : MState) → LeadsSimply cert.region t.target t entry base x y → (is_followed Simple t.target ≡ true → AreRelated t.state.relations y) → IsSummarized t.state entry y → IsMarked rom t.target y
     → LeadsBy Simple rom cert n.procedure entry base x y
 unfolding is_uncovered is_uncallable is_unreturnable calls_too_deep callee_at
-Leads-simply rom cert n entry base x k t simple is y leads related_if mark = by t.target leads (followed rom cert n k.passes t simple is) u.covered u.callable u.shallow u.returnable mark
+Leads-simply rom cert n entry base x k t simple is y leads related_if said mark = by t.target leads (followed rom cert n k.passes t simple is) u.covered u.callable u.shallow u.returnable mark
   where
-    u : IsUnopposed Simple cert n t
-    u = unopposed Simple rom cert n k.passes t simple is
+    u : IsUnopposed entry.program Simple cert n t
+    u = subst (λ p. IsUnopposed p Simple cert n t) (sym k.program) (unopposed Simple rom cert n k.passes t simple is)
 
     related : AreRelated t.state.relations y
     related = related_if (followed rom cert n k.passes t simple is)
 
-    by : (w : Target) → LeadsSimply cert.region w t entry base x y → is_followed Simple w ≡ true → is_uncovered_at (simple_at cert n) cert n.procedure w t.next t.state ≡ false
-        → is_uncallable_at (simple_at cert n) cert n.procedure w t.state ≡ false → is_over Simple cert (need_of cert n.procedure) (length t.state.items) (callee_by cert (simple_at cert n) w t.state) ≡ false
-        → is_unreturnable_at Simple cert n.procedure w t.state ≡ false → IsMarked rom w y → LeadsBy Simple rom cert n.procedure entry base x y
-    by (target.At a) to known covered callable shallow returnable marked = inl (stays_at rom cert n entry base x k t a y to related (not-false _ covered) marked.harmless)
-    by (target.Call a) to known covered callable shallow returnable marked = inr (inl (calls_at rom cert n t a entry base y k.certificate to related (marked.clear tt) callable shallow covered))
-    by target.Return to known covered callable shallow returnable marked = inr (inr (inl (returns_to cert n t entry base x y to related (marked.clear tt) returnable)))
+    still : t.state.summary ≡ no_summary
+    still = quiet rom cert n entry base x k t is
+
+    by : (w : Target) → LeadsSimply cert.region w t entry base x y → is_followed Simple w ≡ true → is_uncovered_at entry.program (simple_at cert n) cert n.procedure w t.next t.state ≡ false
+        → is_uncallable_at entry.program (simple_at cert n) cert n.procedure w t.state ≡ false → is_over Simple cert (need_of cert n.procedure) (length t.state.items) (callee_by entry.program cert (simple_at cert n) w t.state) ≡ false
+        → is_unreturnable_at entry.program Simple cert n.procedure w t.state ≡ false → IsMarked rom w y → LeadsBy Simple rom cert n.procedure entry base x y
+    by (target.At a) to known covered callable shallow returnable marked = inl (stays_at rom cert n entry base x k t a y to related said (not-false _ covered) marked.harmless)
+    by (target.Call a) to known covered callable shallow returnable marked = inr (inl (calls_at rom cert n t a entry base y k.certificate to related said still (marked.clear tt) callable shallow covered))
+    by target.Return to known covered callable shallow returnable marked = inr (inr (inl (returns_to cert n t entry base x y to related said (marked.clear tt) returnable)))
     by (target.Main a) to known covered callable shallow returnable marked = not_so (sym known)
     by target.Unknown to known covered callable shallow returnable marked = not_so (sym known)
     by target.Lost to known covered callable shallow returnable marked = not_so (sym known)

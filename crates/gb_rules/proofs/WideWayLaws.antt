@@ -12,7 +12,9 @@ use Rattle.gb_successors.specs.Below.gb_domain.Types.{Node}
 use Rattle.gb_successors.specs.Below.gb_domain.Certificate.{Certificate}
 use Rattle.gb_successors.specs.Below.gb_abs.Meaning.{Activation, MeansParts}
 use Rattle.gb_successors.specs.Below.gb_abs.Stack.{AreInRegion}
-use Rattle.gb_successors.specs.Below.gb_product.Meaning.{AreRelated}
+use Rattle.gb_successors.specs.Below.gb_abs.Storage.{peek}
+use Rattle.gb_successors.specs.Below.gb_product.Below.gb_summaries.Meaning.{HoldSummary}
+use Rattle.gb_successors.specs.Below.gb_product.Meaning.{AreRelated, IsSummarized}
 use Rattle.gb_successors.proofs.Below.gb_product_laws.MeaningLaws.{AreBytes-core}
 use Rattle.gb_calls.specs.Calls.{callee_of}
 use Rattle.gb_successors.specs.Below.gb_abs_effects.declared.targets.Target.{Target}
@@ -21,6 +23,7 @@ use Rattle.gb_successors.proofs.FormedLaws.{IsFormed}
 use Rattle.gb_successors.specs.Way.{Successor}
 use Rattle.gb_successors.specs.Sound.{is_followed, IsFound, IsOneOf, StaysAt, CalledAt, ReturnsBy, BeginsAnew, LeadsSimply, LeadsWidely, LeadsTo}
 use Rattle.gb_successors.specs.Sound as successors
+use Rattle.gb_rules.specs.Covered.{covered_at}
 use Rattle.gb_rules.specs.Procedures.{ranges_of, need_of, setting_of}
 use Rattle.gb_rules.specs.Rules.{ways_of, callee_by, callee_at, is_over, calls_too_deep, is_uncovered, is_uncovered_at, is_outside_of, is_uncallable, is_uncallable_at, is_unreturnable, is_unreturnable_at}
 use Rattle.gb_rules.specs.Safety.{begun, LeadsBy, Leads}
@@ -37,9 +40,9 @@ wide_at cert n = record (setting_of cert n.procedure) { rules = Extended }
 -- ---- in the same procedure
 
 reached : (rom : List ℕ) (cert : Certificate) (n : Node) (entry : Activation) (base : ℕ) (x : MState) (k : OnNode rom cert n entry base x) (t : Successor) (a : ℕ) (y : MState) → IsFormed cert.region t.state
-    → MeansParts t.state entry base y → AreRelated t.state.relations y → y.processor.pc ≡ a → AreInRegion cert.region base (length t.state.items) → IsReached cert n.procedure a t.state entry base y
-reached rom cert n entry base x k t a y f means related goes held = record {
-  means = record { parts = means; related = related };
+    → MeansParts t.state entry base y → AreRelated t.state.relations y → IsSummarized t.state entry y → y.processor.pc ≡ a → AreInRegion cert.region base (length t.state.items) → IsReached cert n.procedure a t.state entry base y
+reached rom cert n entry base x k t a y f means related said goes held = record {
+  means = record { parts = means; related = related; summary = said };
   address = goes;
   bytes = AreBytes-core t.state.core entry y f.core means.core;
   pairs = f.pairs;
@@ -52,11 +55,11 @@ reached rom cert n entry base x k t a y f means related goes held = record {
 -- ---- calls, with a callee or inlined
 
 calling : (rom : List ℕ) (cert : Certificate) (n : Node) (entry : Activation) (base : ℕ) (x : MState) (k : OnNode rom cert n entry base x) (t : Successor) (a : ℕ) (y : MState) → IsFormed cert.region t.state
-    → CalledAt cert.region a t entry base y → AreRelated t.state.relations y → y.processor.halt_mark ≡ false → IsCalling cert n.procedure a t.next t.state entry base y
-calling rom cert n entry base x k t a y f to related mark = record {
-  reached = reached rom cert n entry base x k t a y f to.means related to.goes to.room;
+    → CalledAt cert.region a t entry base y → AreRelated t.state.relations y → IsSummarized t.state entry y → y.processor.halt_mark ≡ false → IsCalling cert n.procedure a t.next t.state entry base y
+calling rom cert n entry base x k t a y f to related said mark = record {
+  reached = reached rom cert n entry base x k t a y f to.means related said to.goes to.room;
   stack_set = to.stack_set;
-  placed = record { cells = to.placed; byte = f.free };
+  placed = record { cells = to.placed; byte = f.free; summary = f.apart };
   back_small = to.next;
   return_word = to.top;
   mark = mark;
@@ -69,36 +72,41 @@ not_main m h = grind (arith, nat_tests)
 
 Leads-widely : (rom : List ℕ) (cert : Certificate) (n : Node) (entry : Activation) (base : ℕ) (x : MState) (k : OnNode rom cert n entry base x) (t : Successor) → rules_of cert.version ≡ Extended
     → IsOneOf (ways_of rom cert n k.passes.row) t → (y : MState) → LeadsWidely (setting_of cert n.procedure) cert.region t.target t entry base y → (is_followed Extended t.target ≡ true → AreRelated t.state.relations y)
-    → IsMarked rom t.target y → LeadsBy Extended rom cert n.procedure entry base x y
+    → IsSummarized t.state entry y → IsMarked rom t.target y → LeadsBy Extended rom cert n.procedure entry base x y
 unfolding is_uncovered is_uncallable is_unreturnable calls_too_deep callee_at
-Leads-widely rom cert n entry base x k t extended is y leads related_if mark = by t.target leads (found cert n t u) u.covered u.callable u.shallow u.returnable mark
+Leads-widely rom cert n entry base x k t extended is y leads related_if said mark = by t.target leads (found entry.program cert n t u) u.covered u.callable u.shallow u.returnable mark
   where
-    u : IsUnopposed Extended cert n t
-    u = unopposed Extended rom cert n k.passes t extended is
+    u : IsUnopposed entry.program Extended cert n t
+    u = subst (λ p. IsUnopposed p Extended cert n t) (sym k.program) (unopposed Extended rom cert n k.passes t extended is)
 
     f : IsFormed cert.region t.state
     f = formed rom cert n entry base x k t is
 
     related : AreRelated t.state.relations y
-    related = related_if (found_followed t.target (found cert n t u))
+    related = related_if (found_followed t.target (found entry.program cert n t u))
+
+    -- main begins anew in the same program
+    anew : IsSummarized t.state (begun rom cert y) y
+    anew = subst (λ p. HoldSummary p t.state.cells t.state.summary y.processor (peek y.storage) y.storage.banks) k.program said
 
     own : wide_at cert n ≡ setting_of cert n.procedure
     own = sym (ruled_by Extended cert n extended)
 
-    by : (w : Target) → LeadsWidely (setting_of cert n.procedure) cert.region w t entry base y → IsFound w → is_uncovered_at (wide_at cert n) cert n.procedure w t.next t.state ≡ false
-        → is_uncallable_at (wide_at cert n) cert n.procedure w t.state ≡ false → is_over Extended cert (need_of cert n.procedure) (length t.state.items) (callee_by cert (wide_at cert n) w t.state) ≡ false
-        → is_unreturnable_at Extended cert n.procedure w t.state ≡ false → IsMarked rom w y → LeadsBy Extended rom cert n.procedure entry base x y
+    by : (w : Target) → LeadsWidely (setting_of cert n.procedure) cert.region w t entry base y → IsFound w → is_uncovered_at entry.program (wide_at cert n) cert n.procedure w t.next t.state ≡ false
+        → is_uncallable_at entry.program (wide_at cert n) cert n.procedure w t.state ≡ false → is_over Extended cert (need_of cert n.procedure) (length t.state.items) (callee_by entry.program cert (wide_at cert n) w t.state) ≡ false
+        → is_unreturnable_at entry.program Extended cert n.procedure w t.state ≡ false → IsMarked rom w y → LeadsBy Extended rom cert n.procedure entry base x y
     by (target.At a) to known covered callable shallow returnable marked =
-        inl (IsMeant-reached rom cert n.procedure a t.state entry base y extended (reached rom cert n entry base x k t a y f to.means related to.goes to.room) marked.harmless (not-false _ covered))
+        inl (IsMeant-reached rom cert n.procedure a t.state entry base y extended k.program (reached rom cert n entry base x k t a y f to.means related said to.goes to.room) marked.harmless (not-false _ covered))
     by (target.Call a) to known covered callable shallow returnable marked =
-        LeadsBy-called rom cert n.procedure a t.next t.state entry base x y (callee_of cert (wide_at cert n) a t.state) extended k.certificate (calling rom cert n entry base x k t a y f to related (marked.clear tt))
-        (ap (λ (z : Setting). callee_of cert z a t.state) (sym own)) (subst (λ (z : Setting). is_outside_of z cert n.procedure (callee_of cert (wide_at cert n) a t.state) ≡ false) own callable) shallow covered
+        LeadsBy-called rom cert n.procedure a t.next t.state entry base x y (callee_of entry.program cert (wide_at cert n) a t.state) extended k.certificate k.program (calling rom cert n entry base x k t a y f to related said (marked.clear tt))
+        (ap (λ (z : Setting). callee_of entry.program cert z a t.state) (sym own)) (subst (λ (z : Setting). is_outside_of z cert n.procedure (callee_of entry.program cert (wide_at cert n) a t.state) ≡ false) own callable) shallow covered
     by target.Return to known covered callable shallow returnable marked =
         let parts = or_parts _ _ returnable in
-        inr (inr (inl (GoesBack-reached cert n.procedure t.state entry base y (not_main n.procedure parts.0) (record { parts = to.means; related = related }) to.room to.goes (marked.clear tt) parts.1)))
+        inr (inr (inl (GoesBack-reached cert n.procedure t.state entry base y (not_main n.procedure parts.0) (record { parts = to.means; related = related; summary = said }) to.room to.goes (marked.clear tt) parts.1)))
     by (target.Main a) to known covered callable shallow returnable marked =
-        let means = to.means (begun y) in
-        inr (inr (inr (IsMeant-anew rom cert a t.state y extended k.certificate (record { parts = means; related = related }) to.goes (AreBytes-core t.state.core (begun y) y f.core means.core) f.pairs to.room marked.harmless (not-false _ covered))))
+        let means = to.means (begun rom cert y) in
+        inr (inr (inr (IsMeant-anew rom cert a t.state y extended k.certificate (record { parts = means; related = related; summary = anew }) to.goes (AreBytes-core t.state.core (begun rom cert y) y f.core means.core) f.pairs to.room marked.harmless
+        (subst (λ p. covered_at p Extended cert.nodes 0 a t.state ≡ true) k.program (not-false _ covered)))))
     by target.Unknown to known covered callable shallow returnable marked = absurd known
     by target.Lost to known covered callable shallow returnable marked = absurd known
 
@@ -112,8 +120,8 @@ Leads-way rom cert n entry base x k t is y leads mark = by (rules_of cert.versio
     by Simple e =
         simply_leads rom cert n.procedure entry base x y e
         (Leads-simply rom cert n entry base x k t e is y (subst (λ (r : Rules). LeadsTo r (setting_of cert n.procedure) cert.region t.target t entry base x y) e leads.to)
-        (λ known. leads.related (subst (λ (r : Rules). is_followed r t.target ≡ true) (sym e) known)) mark)
+        (λ known. leads.related (subst (λ (r : Rules). is_followed r t.target ≡ true) (sym e) known)) leads.summary mark)
     by Extended e =
         subst (λ r. LeadsBy r rom cert n.procedure entry base x y) (sym e)
         (Leads-widely rom cert n entry base x k t e is y (subst (λ (r : Rules). LeadsTo r (setting_of cert n.procedure) cert.region t.target t entry base x y) e leads.to)
-        (λ known. leads.related (subst (λ (r : Rules). is_followed r t.target ≡ true) (sym e) known)) mark)
+        (λ known. leads.related (subst (λ (r : Rules). is_followed r t.target ≡ true) (sym e) known)) leads.summary mark)

@@ -10,7 +10,7 @@ use Rattle.gb_successors.specs.Below.gb_abs.declared.reason.Reason.TheVariants a
 use Rattle.gb_successors.specs.Below.gb_abs.Reason.{reason_number}
 use Rattle.gb_successors.specs.Way.{Successor}
 use Rattle.gb_successors.specs.Refused.{is_unstorable, meets_closed, meets_oam_transfer, is_unknown}
-use Rattle.gb_rules.specs.Procedures.{ranges_of, need_of}
+use Rattle.gb_rules.specs.Procedures.{ranges_of, need_of, program_of}
 use Rattle.gb_rules.specs.Rules.{is_code_limited, node_setting, calls_too_deep, handles_too_deep, is_dispatch_limited, is_possible, is_uncovered, is_uncallable, is_unreturnable, moves_alone_too_deep, taken_too_deep, way_reasons}
 
 -- the lower one of two reasons, where there are some
@@ -29,14 +29,14 @@ behind a row = (a + row.length) % 65536
 
 -- whether a reason applies to one successor of a node's instruction
 unfoldable pub applies_to_way : List ℕ → Certificate → Node → Row → Successor → Reason → Bool
-applies_to_way rom cert n row t reason.Depth = calls_too_deep cert (node_setting cert n) (need_of cert n.procedure) t
+applies_to_way rom cert n row t reason.Depth = calls_too_deep (program_of rom cert) cert (node_setting cert n) (need_of cert n.procedure) t
 applies_to_way rom cert n row t reason.Store = is_unstorable (node_setting cert n) (kind_of rom) cert.region (ranges_of cert n.procedure) t.write
 applies_to_way rom cert n row t reason.CartridgeRam = meets_closed rom n.state.core t
 applies_to_way rom cert n row t reason.OamTransfer = is_code_limited n.state.core n.address row.length || meets_oam_transfer cert.region n.state.core t
 applies_to_way rom cert n row t reason.JumpHl = is_unknown t.target
-applies_to_way rom cert n row t reason.Uncovered = is_uncovered (node_setting cert n) cert n.procedure t
-applies_to_way rom cert n row t reason.Callee = is_uncallable (node_setting cert n) cert n.procedure t
-applies_to_way rom cert n row t reason.Return = is_unreturnable (rules_of cert.version) cert n.procedure t
+applies_to_way rom cert n row t reason.Uncovered = is_uncovered (program_of rom cert) (node_setting cert n) cert n.procedure t
+applies_to_way rom cert n row t reason.Callee = is_uncallable (program_of rom cert) (node_setting cert n) cert n.procedure t
+applies_to_way rom cert n row t reason.Return = is_unreturnable (program_of rom cert) (rules_of cert.version) cert n.procedure t
 applies_to_way rom cert n row t _ = false
 
 -- the same where the instruction is taken, how far it moves the stack with it
@@ -51,8 +51,9 @@ lowest_in test None = None
 lowest_in test (Some t) = lowest (test t)
 
 -- whether a reason applies that isn't one successor's: how far the instruction moves the stack wherever it leads, and dispatches
-unfoldable pub applies_alone : Certificate → Node → Row → Reason → Bool
-applies_alone cert n row reason.Depth =
-    moves_alone_too_deep (rules_of cert.version) (need_of cert n.procedure) n row.op || (handles_too_deep cert n && is_possible cert n)
-applies_alone cert n row reason.OamTransfer = is_dispatch_limited cert.region n && is_possible cert n
-applies_alone cert n row _ = false
+unfoldable pub applies_alone : List ℕ → Certificate → Node → Row → Reason → Bool
+applies_alone rom cert n row reason.Depth =
+    moves_alone_too_deep (rules_of cert.version) (need_of cert n.procedure) n row.op
+    || (handles_too_deep (program_of rom cert) cert n && is_possible cert n)
+applies_alone rom cert n row reason.OamTransfer = is_dispatch_limited cert.region n && is_possible cert n
+applies_alone rom cert n row _ = false

@@ -1,8 +1,12 @@
 -- What a certificate claims of its procedures (own format).
-use Rattle.std.specs.Prelude.{ℕ, false, ◌==◌, List, [], length, slice_get, Option, Some, None}
+use Rattle.std.specs.Prelude.{ℕ, false, ◌==◌, if◌then◌else◌, List, [], length, slice_get, Option, Some, None}
+use Rattle.gb_ops.specs.declared.machine.Kind.{Kind}
+use Rattle.gb_ops.specs.declared.machine.Kind.TheVariants as kind
+use Rattle.gb_ops.specs.Cartridge.{kind_of}
 use Rattle.gb_successors.specs.Below.gb_domain.declared.setting.Setting.{Setting}
 use Rattle.gb_successors.specs.Below.gb_domain.declared.types.Range.{Range}
 use Rattle.gb_successors.specs.Below.gb_domain.Limits.{rules_of}
+use Rattle.gb_successors.specs.Below.gb_domain.Summaries.{Program}
 use Rattle.gb_successors.specs.Below.gb_domain.Types.{AbsState, ProcedureParts, Node}
 use Rattle.gb_successors.specs.Below.gb_domain.Certificate.{Certificate}
 use Rattle.gb_successors.specs.declared.stacks.Stack.{Stack}
@@ -35,6 +39,14 @@ base_in (Some p) = p.base
 unfoldable pub setting_of : Certificate → ℕ → Setting
 setting_of cert procedure =
     record { rules = rules_of cert.version; is_whole = false; is_main = procedure == 0; base = base_in (slice_get cert.procedures procedure) }
+
+-- the cartridge's controller, of which states of these versions speak: those of versions 1 to 3 say nothing
+abbrev pub kind_in : ℕ → Kind → Kind
+kind_in version k = if version == 4 then k else kind.Rom
+
+-- what its states may speak of beside themselves
+unfoldable pub program_of : List ℕ → Certificate → Program
+program_of rom cert = record { kind = kind_in cert.version (kind_of rom); facts = cert.facts }
 
 -- what it returns with, if it returns
 unfoldable pub exit_of : Certificate → ℕ → Option AbsState

@@ -14,6 +14,7 @@ use Rattle.gb_successors.specs.Below.gb_domain.declared.rules.Rules.TheVariants.
 use Rattle.gb_successors.specs.Below.gb_domain.declared.pairs.Bounds.{Bounds}
 use Rattle.gb_successors.specs.Below.gb_domain.declared.setting.Setting.{Setting}
 use Rattle.gb_successors.specs.Below.gb_domain.Limits.{rules_of, item_room}
+use Rattle.gb_successors.specs.Below.gb_domain.Summaries.{Program}
 use Rattle.gb_successors.specs.Below.gb_domain.Types.{AbsState, Node}
 use Rattle.gb_successors.specs.Below.gb_domain.Certificate.{Certificate}
 use Rattle.gb_successors.specs.Below.gb_abs.declared.reason.Reason.{Reason}
@@ -24,8 +25,8 @@ use Rattle.gb_successors.specs.Below.gb_abs_effects.declared.writes.AbsWrite.The
 use Rattle.gb_successors.specs.Below.gb_abs_effects.declared.targets.Target.{Target}
 use Rattle.gb_successors.specs.Below.gb_abs_effects.declared.targets.Target.TheVariants as target
 use Rattle.gb_successors.specs.Below.gb_abs_effects.Targets.{moves_sp, is_push}
-use Rattle.gb_code.specs.Below.gb_abs_memory.Shown.{known_bank}
-use Rattle.gb_code.specs.Code.{area_end, leaves_area, is_other_bank, lies_in_high_ram, known_byte, known_bytes}
+use Rattle.gb_successors.specs.Below.gb_code.Below.gb_abs_memory.Shown.{known_bank}
+use Rattle.gb_successors.specs.Below.gb_code.Code.{area_end, leaves_area, is_other_bank, lies_in_high_ram, known_byte, known_bytes}
 use Rattle.gb_successors.specs.Way.{Successor}
 use Rattle.gb_successors.specs.declared.successors.Successors.{Successors}
 use Rattle.gb_successors.specs.declared.stacks.Stack.{Stack}
@@ -40,7 +41,7 @@ use Rattle.gb_calls.specs.Resuming.{resumed}
 use Rattle.gb_calls.specs.Interrupts.{left_by_dispatch, may_come, handler_of}
 use Rattle.gb_rules.specs.declared.procedures.Called.{Called}
 use Rattle.gb_rules.specs.Covered.{covered_at}
-use Rattle.gb_rules.specs.Procedures.{ranges_of, need_of, setting_of, stack_of, exit_of, taken_by}
+use Rattle.gb_rules.specs.Procedures.{ranges_of, need_of, setting_of, stack_of, program_of, exit_of, taken_by}
 
 -- ---- the instruction alone
 
@@ -176,13 +177,13 @@ is_code_limited core a n = not (core.bound == 0) && not (lies_in_high_ram a n)
 
 -- ---- calls and returns
 
-abbrev pub callee_by : Certificate → Setting → Target → AbsState → Option ℕ
-callee_by cert z (target.Call a) s = callee_of cert z a s
-callee_by cert z _ s = None
+abbrev pub callee_by : Program → Certificate → Setting → Target → AbsState → Option ℕ
+callee_by program cert z (target.Call a) s = callee_of program cert z a s
+callee_by program cert z _ s = None
 
 -- the procedure that a successor calls
-unfoldable pub callee_at : Certificate → Setting → Successor → Option ℕ
-callee_at cert z t = callee_by cert z t.target t.state
+unfoldable pub callee_at : Program → Certificate → Setting → Successor → Option ℕ
+callee_at program cert z t = callee_by program cert z t.target t.state
 
 -- the bytes of a caller that wait below a callee: those that were held and the return address, or, by the rules of version 3,
 -- those that the callee doesn't take over
@@ -195,63 +196,63 @@ is_over rules cert need held None = false
 is_over rules cert need held (Some callee) = nat_lt need (waiting_below rules cert held callee + need_of cert callee)
 
 -- the bytes that wait and the callee's need are more than the procedure's need
-unfoldable pub calls_too_deep : Certificate → Setting → ℕ → Successor → Bool
-calls_too_deep cert z need t = is_over z.rules cert need (length t.state.items) (callee_at cert z t)
+unfoldable pub calls_too_deep : Program → Certificate → Setting → ℕ → Successor → Bool
+calls_too_deep program cert z need t = is_over z.rules cert need (length t.state.items) (callee_at program cert z t)
 
 -- more bytes are on the stack than a state can hold
 abbrev pub is_overfull : AbsState → Bool
 is_overfull s = nat_lt (item_room Extended) (length s.items)
 
 -- where nothing is meant, no node is asked for; where more is on the stack than a state can hold, none stands for it
-abbrev pub is_uncovered_if : Rules → Certificate → ℕ → ℕ → Option AbsState → Bool
-is_uncovered_if rules cert procedure a None = false
-is_uncovered_if rules cert procedure a (Some s) = is_overfull s || not (covered_at rules cert.nodes procedure a s)
+abbrev pub is_uncovered_if : Program → Rules → Certificate → ℕ → ℕ → Option AbsState → Bool
+is_uncovered_if program rules cert procedure a None = false
+is_uncovered_if program rules cert procedure a (Some s) = is_overfull s || not (covered_at program rules cert.nodes procedure a s)
 
-abbrev pub is_resumed_uncovered : Rules → Certificate → ℕ → ℕ → AbsState → ℕ → Option AbsState → Bool
-is_resumed_uncovered rules cert procedure back s callee None = false
-is_resumed_uncovered rules cert procedure back s callee (Some exit) =
-    is_uncovered_if rules cert procedure back (resumed rules (taken_by cert callee) (ranges_of cert callee) s exit)
+abbrev pub is_resumed_uncovered : Program → Rules → Certificate → ℕ → ℕ → AbsState → ℕ → Option AbsState → Bool
+is_resumed_uncovered program rules cert procedure back s callee None = false
+is_resumed_uncovered program rules cert procedure back s callee (Some exit) =
+    is_uncovered_if program rules cert procedure back (resumed program rules (taken_by cert callee) (ranges_of cert callee) s exit)
 
 -- no node stands for what the caller goes on with when the callee returns
-abbrev pub is_back_uncovered : Rules → Certificate → ℕ → ℕ → AbsState → ℕ → Bool
-is_back_uncovered rules cert procedure back s callee = is_resumed_uncovered rules cert procedure back s callee (exit_of cert callee)
+abbrev pub is_back_uncovered : Program → Rules → Certificate → ℕ → ℕ → AbsState → ℕ → Bool
+is_back_uncovered program rules cert procedure back s callee = is_resumed_uncovered program rules cert procedure back s callee (exit_of cert callee)
 
 -- By the rules of version 3 what is called goes on in the same procedure, where there is no callee.
-abbrev pub is_inlined_uncovered : Rules → Certificate → ℕ → ℕ → AbsState → Bool
-is_inlined_uncovered Simple cert procedure a s = false
-is_inlined_uncovered Extended cert procedure a s = not (covered_at Extended cert.nodes procedure a s)
+abbrev pub is_inlined_uncovered : Program → Rules → Certificate → ℕ → ℕ → AbsState → Bool
+is_inlined_uncovered program Simple cert procedure a s = false
+is_inlined_uncovered program Extended cert procedure a s = not (covered_at program Extended cert.nodes procedure a s)
 
-abbrev pub is_call_uncovered : Rules → Certificate → ℕ → ℕ → ℕ → AbsState → Option ℕ → Bool
-is_call_uncovered rules cert procedure a back s None = is_inlined_uncovered rules cert procedure a s
-is_call_uncovered rules cert procedure a back s (Some callee) = is_back_uncovered rules cert procedure back s callee
+abbrev pub is_call_uncovered : Program → Rules → Certificate → ℕ → ℕ → ℕ → AbsState → Option ℕ → Bool
+is_call_uncovered program rules cert procedure a back s None = is_inlined_uncovered program rules cert procedure a s
+is_call_uncovered program rules cert procedure a back s (Some callee) = is_back_uncovered program rules cert procedure back s callee
 
-abbrev pub is_uncovered_at : Setting → Certificate → ℕ → Target → ℕ → AbsState → Bool
-is_uncovered_at z cert procedure (target.At a) back s = not (covered_at z.rules cert.nodes procedure a s)
-is_uncovered_at z cert procedure (target.Call a) back s = is_call_uncovered z.rules cert procedure a back s (callee_of cert z a s)
-is_uncovered_at z cert procedure (target.Main a) back s = not (covered_at z.rules cert.nodes 0 a s)
-is_uncovered_at z cert procedure _ back s = false
+abbrev pub is_uncovered_at : Program → Setting → Certificate → ℕ → Target → ℕ → AbsState → Bool
+is_uncovered_at program z cert procedure (target.At a) back s = not (covered_at program z.rules cert.nodes procedure a s)
+is_uncovered_at program z cert procedure (target.Call a) back s = is_call_uncovered program z.rules cert procedure a back s (callee_of program cert z a s)
+is_uncovered_at program z cert procedure (target.Main a) back s = not (covered_at program z.rules cert.nodes 0 a s)
+is_uncovered_at program z cert procedure _ back s = false
 
 -- no node stands for the states behind, where they go on in the same procedure, at once or when the callee returns, or in main
-unfoldable pub is_uncovered : Setting → Certificate → ℕ → Successor → Bool
-is_uncovered z cert procedure t = is_uncovered_at z cert procedure t.target t.next t.state
+unfoldable pub is_uncovered : Program → Setting → Certificate → ℕ → Successor → Bool
+is_uncovered program z cert procedure t = is_uncovered_at program z cert procedure t.target t.next t.state
 
 -- what a successor's call asks of the certificate, told together: its callee, whether the stack grows too deep, and whether no
 -- node stands for what it leads to
-abbrev pub called_by : Certificate → Stack → ℕ → ℕ → ℕ → AbsState → Called
-called_by cert k procedure a back s =
-    let callee = callee_of cert k.setting a s in
+abbrev pub called_by : Program → Certificate → Stack → ℕ → ℕ → ℕ → AbsState → Called
+called_by program cert k procedure a back s =
+    let callee = callee_of program cert k.setting a s in
     record {
       callee = callee;
       is_deep = is_over k.setting.rules cert k.need (length s.items) callee;
-      is_uncovered = is_call_uncovered k.setting.rules cert procedure a back s callee;
+      is_uncovered = is_call_uncovered program k.setting.rules cert procedure a back s callee;
     }
 
 abbrev pub no_call : Called
 no_call = record { callee = None; is_deep = false; is_uncovered = false }
 
-abbrev pub called_to : Certificate → Stack → ℕ → Target → ℕ → AbsState → Called
-called_to cert k procedure (target.Call a) back s = called_by cert k procedure a back s
-called_to cert k procedure _ back s = no_call
+abbrev pub called_to : Program → Certificate → Stack → ℕ → Target → ℕ → AbsState → Called
+called_to program cert k procedure (target.Call a) back s = called_by program cert k procedure a back s
+called_to program cert k procedure _ back s = no_call
 
 -- By the rules of versions 1 and 2 a callee is asked for, and that it writes where its caller may alone. By those of version 3
 -- main may write anywhere, and what has no callee is inlined.
@@ -260,32 +261,32 @@ is_outside_of z cert procedure None = not (is_extended z.rules)
 is_outside_of z cert procedure (Some callee) =
     not (is_extended z.rules && z.is_main) && not (are_ranges_inside (ranges_of cert callee) (ranges_of cert procedure))
 
-abbrev pub is_uncallable_at : Setting → Certificate → ℕ → Target → AbsState → Bool
-is_uncallable_at z cert procedure (target.Call a) s = is_outside_of z cert procedure (callee_of cert z a s)
-is_uncallable_at z cert procedure _ s = false
+abbrev pub is_uncallable_at : Program → Setting → Certificate → ℕ → Target → AbsState → Bool
+is_uncallable_at program z cert procedure (target.Call a) s = is_outside_of z cert procedure (callee_of program cert z a s)
+is_uncallable_at program z cert procedure _ s = false
 
 -- a call of no procedure, or of one that may write where its caller may not
-unfoldable pub is_uncallable : Setting → Certificate → ℕ → Successor → Bool
-is_uncallable z cert procedure t = is_uncallable_at z cert procedure t.target t.state
+unfoldable pub is_uncallable : Program → Setting → Certificate → ℕ → Successor → Bool
+is_uncallable program z cert procedure t = is_uncallable_at program z cert procedure t.target t.state
 
 -- by the rules of versions 1 and 2 something is left on the stack; those of version 3 compare it with the exit's items
 abbrev pub leaves_items : Rules → AbsState → Bool
 leaves_items Simple s = not (length s.items == 0)
 leaves_items Extended s = false
 
-abbrev pub is_exit_missed : Rules → AbsState → Option AbsState → Bool
-is_exit_missed rules s None = true
-is_exit_missed rules s (Some exit) = leaves_items rules s || not (covers s exit)
+abbrev pub is_exit_missed : Program → Rules → AbsState → Option AbsState → Bool
+is_exit_missed program rules s None = true
+is_exit_missed program rules s (Some exit) = leaves_items rules s || not (covers program s exit)
 
-abbrev pub is_unreturnable_at : Rules → Certificate → ℕ → Target → AbsState → Bool
-is_unreturnable_at rules cert procedure target.Return s = procedure == 0 || is_exit_missed rules s (exit_of cert procedure)
-is_unreturnable_at rules cert procedure target.Lost s = true
-is_unreturnable_at rules cert procedure _ s = false
+abbrev pub is_unreturnable_at : Program → Rules → Certificate → ℕ → Target → AbsState → Bool
+is_unreturnable_at program rules cert procedure target.Return s = procedure == 0 || is_exit_missed program rules s (exit_of cert procedure)
+is_unreturnable_at program rules cert procedure target.Lost s = true
+is_unreturnable_at program rules cert procedure _ s = false
 
 -- a return from main, from a procedure that doesn't return, with something on the stack, or in a state that the exit doesn't
 -- stand for; or one to a word that isn't known
-unfoldable pub is_unreturnable : Rules → Certificate → ℕ → Successor → Bool
-is_unreturnable rules cert procedure t = is_unreturnable_at rules cert procedure t.target t.state
+unfoldable pub is_unreturnable : Program → Rules → Certificate → ℕ → Successor → Bool
+is_unreturnable program rules cert procedure t = is_unreturnable_at program rules cert procedure t.target t.state
 
 -- ---- interrupts
 
@@ -306,10 +307,10 @@ is_dispatch_deep z cert need s handler =
     else is_over Simple cert need (length s.items) handler
 
 -- an interrupt may come whose dispatch makes the stack too deep
-unfoldable pub handles_too_deep : Certificate → Node → Bool
-handles_too_deep cert n =
+unfoldable pub handles_too_deep : Program → Certificate → Node → Bool
+handles_too_deep program cert n =
     let z = setting_of cert n.procedure in
-    any_interrupt (λ i. is_dispatch_deep z cert (need_of cert n.procedure) n.state (handler_of cert z i n.address n.state)) n
+    any_interrupt (λ i. is_dispatch_deep z cert (need_of cert n.procedure) n.state (handler_of program cert z i n.address n.state)) n
 
 -- a dispatch may come while an OAM transfer may close the stack region
 unfoldable pub is_dispatch_limited : Region → Node → Bool
@@ -321,22 +322,22 @@ is_dispatch_overfull Simple s = false
 is_dispatch_overfull Extended s = nat_lt (item_room Extended) (length s.items + 2)
 
 -- what a dispatch leaves isn't covered: at the vector, where it is inlined, or at the node, where its handler returns to
-abbrev pub is_dispatch_uncovered : Rules → Certificate → Node → ℕ → AbsState → Option ℕ → Bool
-is_dispatch_uncovered rules cert n i s handler =
-    is_dispatch_overfull rules n.state || is_call_uncovered rules cert n.procedure (vector i) n.address s handler
+abbrev pub is_dispatch_uncovered : Program → Rules → Certificate → Node → ℕ → AbsState → Option ℕ → Bool
+is_dispatch_uncovered program rules cert n i s handler =
+    is_dispatch_overfull rules n.state || is_call_uncovered program rules cert n.procedure (vector i) n.address s handler
 
 -- no handler is there, or one that may write where the procedure may not; or what the procedure goes on with behind it
 -- isn't covered where it was left
-abbrev pub is_unhandled : Setting → Certificate → Node → ℕ → Option ℕ → Bool
-is_unhandled z cert n i handler =
+abbrev pub is_unhandled : Program → Setting → Certificate → Node → ℕ → Option ℕ → Bool
+is_unhandled program z cert n i handler =
     not n.state.core.stack_set || is_outside_of z cert n.procedure handler
-    || is_dispatch_uncovered z.rules cert n i (left_by_dispatch z.rules n.address n.state) handler
+    || is_dispatch_uncovered program z.rules cert n i (left_by_dispatch z.rules n.address n.state) handler
 
 -- an interrupt may come that isn't provided for
-unfoldable pub lacks_handler : Certificate → Node → Bool
-lacks_handler cert n =
+unfoldable pub lacks_handler : Program → Certificate → Node → Bool
+lacks_handler program cert n =
     let z = setting_of cert n.procedure in
-    any_interrupt (λ i. is_unhandled z cert n i (handler_of cert z i n.address n.state)) n
+    any_interrupt (λ i. is_unhandled program z cert n i (handler_of program cert z i n.address n.state)) n
 
 -- ---- the reasons
 
@@ -362,7 +363,7 @@ node_setting cert n = setting_of cert n.procedure
 
 -- the successors of a node's instruction
 unfoldable pub ways_of : List ℕ → Certificate → Node → Row → Successors
-ways_of rom cert n row = successors_of (stack_of cert n.procedure) rom row n.address n.state
+ways_of rom cert n row = successors_of (stack_of cert n.procedure) (program_of rom cert) rom row n.address n.state
 
 -- a test of them
 unfoldable pub any_of : (Successor → Bool) → List ℕ → Certificate → Node → Row → Bool
@@ -376,8 +377,8 @@ is_possible cert n = is_some (product_before (rules_of cert.version) n.state)
 unfoldable pub grows_too_deep : List ℕ → Certificate → Node → Row → Bool
 grows_too_deep rom cert n row =
     moves_too_deep (rules_of cert.version) (need_of cert n.procedure) n row.op (ways_of rom cert n row).taken
-    || any_of (calls_too_deep cert (node_setting cert n) (need_of cert n.procedure)) rom cert n row
-    || (handles_too_deep cert n && is_possible cert n)
+    || any_of (calls_too_deep (program_of rom cert) cert (node_setting cert n) (need_of cert n.procedure)) rom cert n row
+    || (handles_too_deep (program_of rom cert) cert n && is_possible cert n)
 
 -- a successor may store where no store is allowed
 unfoldable pub stores_outside : List ℕ → Certificate → Node → Row → Bool
@@ -400,15 +401,15 @@ leads_anywhere rom cert n row = any_of (λ t. is_unknown t.target) rom cert n ro
 
 -- the states behind one aren't covered
 unfoldable pub leads_uncovered : List ℕ → Certificate → Node → Row → Bool
-leads_uncovered rom cert n row = any_of (is_uncovered (node_setting cert n) cert n.procedure) rom cert n row
+leads_uncovered rom cert n row = any_of (is_uncovered (program_of rom cert) (node_setting cert n) cert n.procedure) rom cert n row
 
 -- one calls what it may not
 unfoldable pub calls_wrongly : List ℕ → Certificate → Node → Row → Bool
-calls_wrongly rom cert n row = any_of (is_uncallable (node_setting cert n) cert n.procedure) rom cert n row
+calls_wrongly rom cert n row = any_of (is_uncallable (program_of rom cert) (node_setting cert n) cert n.procedure) rom cert n row
 
 -- one returns as it may not
 unfoldable pub returns_wrongly : List ℕ → Certificate → Node → Row → Bool
-returns_wrongly rom cert n row = any_of (is_unreturnable (rules_of cert.version) cert n.procedure) rom cert n row
+returns_wrongly rom cert n row = any_of (is_unreturnable (program_of rom cert) (rules_of cert.version) cert n.procedure) rom cert n row
 
 -- whether a reason applies to a node whose instruction is known
 unfoldable pub applies_to_row : List ℕ → Certificate → Node → Row → Reason → Bool
@@ -458,9 +459,9 @@ abbrev pub reason_at : List ℕ → Certificate → ℕ → Option Reason
 reason_at rom cert i = option_and_then (reason_of rom cert) (slice_get cert.nodes i)
 
 -- whether an interrupt may come at the node with a number that isn't provided for
-abbrev pub lacks_in : Certificate → Option Node → Bool
-lacks_in cert None = false
-lacks_in cert (Some n) = lacks_handler cert n
+abbrev pub lacks_in : Program → Certificate → Option Node → Bool
+lacks_in program cert None = false
+lacks_in program cert (Some n) = lacks_handler program cert n
 
-abbrev pub lacks_handler_at : Certificate → ℕ → Bool
-lacks_handler_at cert i = lacks_in cert (slice_get cert.nodes i)
+abbrev pub lacks_handler_at : List ℕ → Certificate → ℕ → Bool
+lacks_handler_at rom cert i = lacks_in (program_of rom cert) cert (slice_get cert.nodes i)

@@ -9,15 +9,14 @@ ghost use Rattle.gb_rules.specs.Rules as Ruled;
 ghost use Rattle.gb_rules.specs.Safety.{IsWhollySafeAt};
 
 use crate::depth::is_deep;
-use crate::procedures::{Call, is_call_uncovered, is_outside_of, is_over, stack_of};
+use crate::procedures::{Call, is_call_uncovered, is_outside_of, is_over, program_of, stack_of};
 use crate::room::Room;
 use gb_calls::interrupts::{handler, left_by_dispatch, may_come};
 use gb_calls::{Cert, NodeRef};
-use gb_code::{Rom, holds_bytes};
 use gb_ops::machine::Region;
 use gb_successors::refused::is_stack_limited;
 use gb_successors::stacks::Stack;
-use gb_successors::{Abs, Core, Reason, Rules, Setting};
+use gb_successors::{Abs, Core, Program, Reason, Rom, Rules, Setting, holds_bytes};
 
 /// Whether the bytes that a dispatch leaves are too many, or those that wait and the handler's need are.
 fn is_dispatch_deep(
@@ -42,6 +41,7 @@ fn is_dispatch_deep(
 
 /// Whether interrupt `i`, 0 to 4, may come, and its dispatch makes the stack too deep.
 fn is_deep_at(
+    program: &Program<'_>,
     cert: &Cert<'_>,
     setting: Setting,
     need: u16,
@@ -50,7 +50,7 @@ fn is_deep_at(
     i: u8,
 ) -> bool
     requires { i < 5 }
-    ensures { result ≡ (may_come i state.now.core && Ruled.is_dispatch_deep setting cert.now need state.now (handler_of cert.now setting i address state.now)) }
+    ensures { result ≡ (may_come i state.now.core && Ruled.is_dispatch_deep setting cert.now need state.now (handler_of program.now cert.now setting i address state.now)) }
 {
     may_come(i, state.core())
         && is_dispatch_deep(
@@ -58,13 +58,14 @@ fn is_deep_at(
             cert,
             need,
             state,
-            handler(cert, setting, i, address, state),
+            handler(program, cert, setting, i, address, state),
         )
 }
 
 /// Whether an interrupt may come whose dispatch makes the stack too deep.
 #[tactic(auto, unfolding(crate::specs::Rules::handles_too_deep, crate::specs::Procedures::stack_of))]
 pub(crate) fn handles_too_deep(
+    program: &Program<'_>,
     cert: &Cert<'_>,
     stack: Stack,
     node: &NodeRef<'_>,
@@ -72,18 +73,18 @@ pub(crate) fn handles_too_deep(
 ) -> bool
     requires stack { stack ≡ stack_of cert.now node.now.procedure }
     requires state { state.now ≡ node.now.state }
-    ensures { result ≡ Ruled.handles_too_deep cert.now node.now }
+    ensures { result ≡ Ruled.handles_too_deep program.now cert.now node.now }
 {
     if !state.core().ime.on {
         return false;
     }
     let (setting, need) = (stack.setting, stack.need);
     let address = node.address();
-    is_deep_at(cert, setting, need, address, state, 0)
-        || is_deep_at(cert, setting, need, address, state, 1)
-        || is_deep_at(cert, setting, need, address, state, 2)
-        || is_deep_at(cert, setting, need, address, state, 3)
-        || is_deep_at(cert, setting, need, address, state, 4)
+    is_deep_at(program, cert, setting, need, address, state, 0)
+        || is_deep_at(program, cert, setting, need, address, state, 1)
+        || is_deep_at(program, cert, setting, need, address, state, 2)
+        || is_deep_at(program, cert, setting, need, address, state, 3)
+        || is_deep_at(program, cert, setting, need, address, state, 4)
 }
 
 /// Whether interrupt `i`, 0 to 4, may come while an OAM transfer may close the stack region.
@@ -127,6 +128,7 @@ fn is_dispatch_overfull(rules: Rules, state: &Abs) -> bool
 /// Whether a handler can't be entered from a node, or what its procedure goes on with behind it isn't covered there; where an
 /// interrupt is handled in the procedure itself, whether that isn't covered at its vector.
 fn is_unhandled(
+    program: &Program<'_>,
     cert: &Cert<'_>,
     near: u32,
     setting: Setting,
@@ -138,7 +140,7 @@ fn is_unhandled(
 ) -> bool
     requires small { i < 5 }
     requires state { state.now ≡ node.now.state }
-    ensures { result ≡ Ruled.is_unhandled setting cert.now node.now i handler }
+    ensures { result ≡ Ruled.is_unhandled program.now setting cert.now node.now i handler }
 {
     let procedure = node.procedure();
     let call = Call {
@@ -149,6 +151,7 @@ fn is_unhandled(
         || is_outside_of(cert, setting, procedure, handler)
         || (is_dispatch_overfull(setting.rules, state)
             || is_call_uncovered(
+                program,
                 setting.rules,
                 cert,
                 near,
@@ -163,6 +166,7 @@ fn is_unhandled(
 
 /// Whether interrupt `i`, 0 to 4, may come at a node and isn't provided for.
 fn is_unhandled_at(
+    program: &Program<'_>,
     cert: &Cert<'_>,
     near: u32,
     setting: Setting,
@@ -173,17 +177,18 @@ fn is_unhandled_at(
 ) -> bool
     requires small { i < 5 }
     requires state { state.now ≡ node.now.state }
-    ensures { result ≡ (may_come i node.now.state.core && Ruled.is_unhandled setting cert.now node.now i (handler_of cert.now setting i node.now.address node.now.state)) }
+    ensures { result ≡ (may_come i node.now.state.core && Ruled.is_unhandled program.now setting cert.now node.now i (handler_of program.now cert.now setting i node.now.address node.now.state)) }
 {
     may_come(i, state.core())
         && is_unhandled(
+            program,
             cert,
             near,
             setting,
             node,
             state,
             i,
-            handler(cert, setting, i, node.address(), state),
+            handler(program, cert, setting, i, node.address(), state),
             room,
         )
 }
@@ -194,6 +199,7 @@ fn is_unhandled_at(
 /// cover are looked for from the node with the number `near` on.
 #[tactic(auto, unfolding(crate::specs::Rules::lacks_handler, crate::specs::Procedures::stack_of))]
 pub fn lacks_handler(
+    program: &Program<'_>,
     cert: &Cert<'_>,
     near: u32,
     stack: Stack,
@@ -203,17 +209,17 @@ pub fn lacks_handler(
 ) -> bool
     requires stack { stack ≡ stack_of cert.now node.now.procedure }
     requires state { state.now ≡ node.now.state }
-    ensures { result ≡ Ruled.lacks_handler cert.now node.now }
+    ensures { result ≡ Ruled.lacks_handler program.now cert.now node.now }
 {
     if !state.core().ime.on {
         return false;
     }
     let setting = stack.setting;
-    is_unhandled_at(cert, near, setting, node, state, 0, room)
-        || is_unhandled_at(cert, near, setting, node, state, 1, room)
-        || is_unhandled_at(cert, near, setting, node, state, 2, room)
-        || is_unhandled_at(cert, near, setting, node, state, 3, room)
-        || is_unhandled_at(cert, near, setting, node, state, 4, room)
+    is_unhandled_at(program, cert, near, setting, node, state, 0, room)
+        || is_unhandled_at(program, cert, near, setting, node, state, 1, room)
+        || is_unhandled_at(program, cert, near, setting, node, state, 2, room)
+        || is_unhandled_at(program, cert, near, setting, node, state, 3, room)
+        || is_unhandled_at(program, cert, near, setting, node, state, 4, room)
 }
 
 /// Checks that each interrupt that may come at the node with a number is provided for.
@@ -224,7 +230,7 @@ pub fn lacks_handler(
 pub fn check_irqs(rom: &Rom<'_>, cert: &Cert<'_>, i: u32) -> Result<(), Reason>
     requires { i < length cert.now.nodes }
     // Ok exactly where each interrupt is provided for.
-    ensures exact { MatchResult result (λ _. Ruled.lacks_handler_at cert.now i ≡ false) (λ r. (Ruled.lacks_handler_at cert.now i ≡ true) × (r ≡ Interrupt)) }
+    ensures exact { MatchResult result (λ _. Ruled.lacks_handler_at rom.now cert.now i ≡ false) (λ r. (Ruled.lacks_handler_at rom.now cert.now i ≡ true) × (r ≡ Interrupt)) }
     // Where no other reason is against the node either, each event, a dispatch among them, from a state of
     // the node, has no fault, fetches certified places, leaves a state that some node of the procedure
     // means, or enters another one, or returns, and changes nothing that the procedure keeps.
@@ -233,18 +239,19 @@ pub fn check_irqs(rom: &Rom<'_>, cert: &Cert<'_>, i: u32) -> Result<(), Reason>
     // Behind the promise stand that a cartridge holds bytes, and the rules of certificates.
     holds_bytes(rom);
     let _region = cert.region();
-    provided_at(cert, i)
+    provided_at(rom, cert, i)
 }
 
-fn provided_at(cert: &Cert<'_>, i: u32) -> Result<(), Reason>
+fn provided_at(rom: &Rom<'_>, cert: &Cert<'_>, i: u32) -> Result<(), Reason>
     requires { i < length cert.now.nodes }
-    ensures { MatchResult result (λ _. Ruled.lacks_handler_at cert.now i ≡ false) (λ r. (Ruled.lacks_handler_at cert.now i ≡ true) × (r ≡ Interrupt)) }
+    ensures { MatchResult result (λ _. Ruled.lacks_handler_at rom.now cert.now i ≡ false) (λ r. (Ruled.lacks_handler_at rom.now cert.now i ≡ true) × (r ≡ Interrupt)) }
 {
     let node = cert.node(i);
     let state = node.state();
     let stack = stack_of(cert, node.procedure());
     let mut room = Room::new(*state.core());
-    if lacks_handler(cert, i, stack, &node, &state, &mut room) {
+    let program = program_of(rom, cert);
+    if lacks_handler(&program, cert, i, stack, &node, &state, &mut room) {
         Err(Reason::Interrupt)
     } else {
         Ok(())

@@ -28,20 +28,18 @@ pub use gb_calls::interrupts::{handler, left_by_dispatch, may_come};
 pub use gb_calls::ranges::are_ranges_inside;
 pub use gb_calls::resuming::{Resumed, resume};
 pub use gb_calls::{
-    Cert, CertFault, NodeRef, ProcedureRef, StateRef, covers_relations, test_alone,
-};
-pub use gb_code::code::{area_end, known_byte, known_bytes, leaves_area, lies_in_high_ram};
-pub use gb_code::{
-    Halves, covers_controller, covers_core, covers_ime, covers_may, covers_origin, covers_val,
-    holds_bytes, is_limited, known_bank, meets_closed_ram,
+    BankShadows, Cert, CertFault, NodeRef, ProcedureRef, Shadows, StateRef, States, Summary,
+    byte_of, covers_relations, covers_said, test_alone,
 };
 pub use gb_successors::refused::is_stack_limited;
 pub use gb_successors::stacks::Stack;
 pub use gb_successors::successor::Successor;
 pub use gb_successors::successors::{Successors, successors_of};
 pub use gb_successors::{
-    ANY_BOUNDS, Abs, AbsRead, AbsWrite, Bounds, Cell, Core, Ctl, Flg, ImeSet, KeptBanks, Link, May,
-    NO_REGISTER, NOTHING_KNOWN, OneByte, Origin, Other, PairFacts, Pairs, RANGES, Range, Reason,
-    Relations, Rules, Setting, Span, Target, Test, Val, WordPair, any, cell_at, covers, is_ram,
-    known, length_of, reduced, with_value,
+    ANY_BOUNDS, Abs, AbsRead, AbsWrite, Bounds, Cell, Core, Ctl, Flg, Halves, ImeSet, KeptBanks,
+    Link, May, NO_REGISTER, NOTHING_KNOWN, OneByte, Origin, Other, PairFacts, Pairs, Program,
+    RANGES, Range, Reason, Relations, Rules, Setting, Span, Target, Test, Val, WordPair, any,
+    area_end, cell_at, covers, covers_controller, covers_core, covers_ime, covers_may,
+    covers_origin, covers_val, holds_bytes, is_limited, is_ram, known, known_bank, known_byte,
+    known_bytes, leaves_area, length_of, lies_in_high_ram, meets_closed_ram, reduced, with_value,
 };

@@ -13,13 +13,14 @@ use crate::covered::{covered_near, is_state_covered};
 use crate::room::Room;
 use arrayvec::ArrayVec;
 use gb_calls::callees::{callee, callee_in};
-use gb_calls::covering::{States, covers_states};
+use gb_calls::covering::covers_states;
 use gb_calls::ranges::are_ranges_inside;
 use gb_calls::resuming::{Return, resume_in};
-use gb_calls::{Cert, StateRef};
+use gb_calls::{Cert, StateRef, States};
+use gb_ops::machine::Kind;
 use gb_successors::stacks::Stack;
 use gb_successors::successor::Successor;
-use gb_successors::{Abs, Range, Rules, Setting, Target};
+use gb_successors::{Abs, Program, Range, Rom, Rules, Setting, Target};
 
 /// What a procedure may write; nothing where there is none with the number.
 #[tactic(auto, unfolding(crate::specs::Procedures::ranges_of))]
@@ -74,6 +75,21 @@ pub fn setting_of(cert: &Cert<'_>, procedure: u8) -> Setting
         is_whole: false,
         is_main: procedure == 0,
         base: base_of(cert, procedure),
+    }
+}
+
+/// What a certificate's states may speak of beside themselves: the cartridge's controller and the facts, in versions 1 to 3 nothing.
+#[tactic(auto, unfolding(crate::specs::Procedures::program_of))]
+pub fn program_of<'c>(rom: &Rom<'_>, cert: &'c Cert<'_>) -> Program<'c>
+    ensures { result ≡ Procedures.program_of rom.now cert.now }
+{
+    Program {
+        kind: if cert.version() == 4 {
+            rom.kind()
+        } else {
+            Kind::Rom
+        },
+        facts: cert.facts(),
     }
 }
 
@@ -139,23 +155,29 @@ pub fn exit_of(cert: &Cert<'_>, procedure: u8) -> Option<Abs>
 /// The procedure that is called at an address.
 #[inline(never)]
 fn callee_from(
+    program: &Program<'_>,
     cert: &Cert<'_>,
     setting: Setting,
     address: u16,
     successor: &Successor<'_>,
 ) -> Option<u8>
-    ensures { result ≡ callee_of cert.now setting address successor.now.state }
+    ensures { result ≡ callee_of program.now cert.now setting address successor.now.state }
 {
-    callee(cert, setting, address, &successor.state())
+    callee(program, cert, setting, address, &successor.state())
 }
 
 /// The procedure that a successor calls.
 #[tactic(auto, unfolding(crate::specs::Rules::callee_at))]
-pub fn callee_at(cert: &Cert<'_>, setting: Setting, successor: &Successor<'_>) -> Option<u8>
-    ensures { result ≡ Ruled.callee_at cert.now setting successor.now }
+pub fn callee_at(
+    program: &Program<'_>,
+    cert: &Cert<'_>,
+    setting: Setting,
+    successor: &Successor<'_>,
+) -> Option<u8>
+    ensures { result ≡ Ruled.callee_at program.now cert.now setting successor.now }
 {
     match successor.target {
-        Target::Call(address) => callee_from(cert, setting, address, successor),
+        Target::Call(address) => callee_from(program, cert, setting, address, successor),
         Target::At(_) | Target::Main(_) | Target::Return | Target::Unknown | Target::Lost => None,
     }
 }
@@ -206,6 +228,7 @@ fn is_overfull(state: &Abs) -> bool
 /// Whether no node stands for what the caller goes on with when the callee returns by this exit. The exit's states and those
 /// that the caller goes on with are written in the place of others.
 fn is_return_uncovered(
+    program: &Program<'_>,
     rules: Rules,
     cert: &Cert<'_>,
     near: u32,
@@ -216,21 +239,31 @@ fn is_return_uncovered(
     exit: &Abs,
     resumed: &mut Abs,
 ) -> bool
-    ensures { result ≡ Ruled.is_resumed_uncovered rules cert.now procedure back state.now callee (Some exit.now) }
+    ensures { result ≡ Ruled.is_resumed_uncovered program.now rules cert.now procedure back state.now callee (Some exit.now) }
 {
     let ranges = ranges_of(cert, callee);
     let taken = taken_by(cert, callee);
-    match resume_in(rules, taken, ranges.as_slice(), state, exit, resumed) {
+    match resume_in(
+        program,
+        rules,
+        taken,
+        ranges.as_slice(),
+        state,
+        exit,
+        resumed,
+    ) {
         Return::Nothing => false,
         Return::TooDeep => true,
         Return::States => {
-            is_overfull(resumed) || !is_state_covered(rules, cert, near, procedure, back, resumed)
+            is_overfull(resumed)
+                || !is_state_covered(program, rules, cert, near, procedure, back, resumed)
         }
     }
 }
 
 /// Whether no node covers what the caller continues with, by the callee's exit, if it has one.
 pub(crate) fn is_back_uncovered(
+    program: &Program<'_>,
     rules: Rules,
     cert: &Cert<'_>,
     near: u32,
@@ -241,19 +274,20 @@ pub(crate) fn is_back_uncovered(
     exit: &mut Abs,
     other: &mut Abs,
 ) -> bool
-    ensures { result ≡ Ruled.is_back_uncovered rules cert.now procedure back state.now callee }
+    ensures { result ≡ Ruled.is_back_uncovered program.now rules cert.now procedure back state.now callee }
 {
     let Some(lent) = lent_exit_of(cert, callee) else {
         return false;
     };
     lent.read(exit);
     is_return_uncovered(
-        rules, cert, near, procedure, back, state, callee, exit, other,
+        program, rules, cert, near, procedure, back, state, callee, exit, other,
     )
 }
 
 /// Whether what is called, and has no callee, isn't covered in the same procedure either.
 fn is_inlined_uncovered(
+    program: &Program<'_>,
     rules: Rules,
     cert: &Cert<'_>,
     near: u32,
@@ -261,16 +295,17 @@ fn is_inlined_uncovered(
     address: u16,
     state: &Abs,
 ) -> bool
-    ensures { result ≡ Ruled.is_inlined_uncovered rules cert.now procedure address state.now }
+    ensures { result ≡ Ruled.is_inlined_uncovered program.now rules cert.now procedure address state.now }
 {
     match rules {
         Rules::Simple => false,
-        Rules::Extended => !is_state_covered(rules, cert, near, procedure, address, state),
+        Rules::Extended => !is_state_covered(program, rules, cert, near, procedure, address, state),
     }
 }
 
 /// Whether no node stands for what a call at an address leads to: where the callee returns to, or where it is inlined.
 pub(crate) fn is_call_uncovered(
+    program: &Program<'_>,
     rules: Rules,
     cert: &Cert<'_>,
     near: u32,
@@ -281,12 +316,12 @@ pub(crate) fn is_call_uncovered(
     exit: &mut Abs,
     other: &mut Abs,
 ) -> bool
-    ensures { result ≡ Ruled.is_call_uncovered rules cert.now procedure call.address call.back state.now callee }
+    ensures { result ≡ Ruled.is_call_uncovered program.now rules cert.now procedure call.address call.back state.now callee }
 {
     match callee {
-        None => is_inlined_uncovered(rules, cert, near, procedure, call.address, state),
+        None => is_inlined_uncovered(program, rules, cert, near, procedure, call.address, state),
         Some(callee) => is_back_uncovered(
-            rules, cert, near, procedure, call.back, state, callee, exit, other,
+            program, rules, cert, near, procedure, call.back, state, callee, exit, other,
         ),
     }
 }
@@ -302,6 +337,7 @@ pub(crate) struct Call {
 /// cells.
 #[inline(never)]
 fn is_covered_moved(
+    program: &Program<'_>,
     rules: Rules,
     cert: &Cert<'_>,
     near: u32,
@@ -310,14 +346,16 @@ fn is_covered_moved(
     successor: &Successor<'_>,
     room: &mut Room,
 ) -> bool
-    ensures { result ≡ Covered.covered_at rules cert.now.nodes procedure address successor.now.state }
+    ensures { result ≡ Covered.covered_at program.now rules cert.now.nodes procedure address successor.now.state }
 {
     successor.put_state(&mut room.behind);
-    is_state_covered(rules, cert, near, procedure, address, &room.behind)
+    is_state_covered(program, rules, cert, near, procedure, address, &room.behind)
 }
 
 /// Whether a node of the procedure at the address stands for the states behind an instruction.
+#[tactic(auto, using(crate::proofs::CoveredLaws::covered_alike))]
 fn is_covered(
+    program: &Program<'_>,
     rules: Rules,
     cert: &Cert<'_>,
     near: u32,
@@ -326,10 +364,11 @@ fn is_covered(
     successor: &Successor<'_>,
     room: &mut Room,
 ) -> bool
-    ensures { result ≡ Covered.covered_at rules cert.now.nodes procedure address successor.now.state }
+    ensures { result ≡ Covered.covered_at program.now rules cert.now.nodes procedure address successor.now.state }
 {
     match successor.unmoved() {
         Some(lists) => covered_near(
+            program,
             rules,
             cert,
             near,
@@ -338,10 +377,13 @@ fn is_covered(
             &States {
                 core: successor.core(),
                 relations: successor.relations(),
+                summary: successor.summary(),
                 lists,
             },
         ),
-        None => is_covered_moved(rules, cert, near, procedure, address, successor, room),
+        None => is_covered_moved(
+            program, rules, cert, near, procedure, address, successor, room,
+        ),
     }
 }
 
@@ -390,6 +432,7 @@ const NO_CALL: Called = Called {
 /// What a call at an address asks: the states behind it are built once.
 #[inline(never)]
 fn called_from(
+    program: &Program<'_>,
     cert: &Cert<'_>,
     near: u32,
     stack: Stack,
@@ -398,13 +441,13 @@ fn called_from(
     successor: &Successor<'_>,
     room: &mut Room,
 ) -> Called
-    ensures { result ≡ Ruled.called_by cert.now stack procedure address successor.now.next successor.now.state }
+    ensures { result ≡ Ruled.called_by program.now cert.now stack procedure address successor.now.next successor.now.state }
 {
     let setting = stack.setting;
     let rules = setting.rules;
     successor.put_state(&mut room.behind);
     let state = &room.behind;
-    let callee = callee_in(cert, setting, address, state, &mut room.other);
+    let callee = callee_in(program, cert, setting, address, state, &mut room.other);
     let call = Call {
         address,
         back: successor.next,
@@ -413,6 +456,7 @@ fn called_from(
         callee,
         is_deep: is_over(rules, cert, stack.need, state.items().len(), callee),
         is_uncovered: is_call_uncovered(
+            program,
             rules,
             cert,
             near,
@@ -428,6 +472,7 @@ fn called_from(
 
 /// What a successor's call asks.
 pub(crate) fn called_by(
+    program: &Program<'_>,
     cert: &Cert<'_>,
     near: u32,
     stack: Stack,
@@ -435,11 +480,11 @@ pub(crate) fn called_by(
     successor: &Successor<'_>,
     room: &mut Room,
 ) -> Called
-    ensures { result ≡ Ruled.called_to cert.now stack procedure successor.now.target successor.now.next successor.now.state }
+    ensures { result ≡ Ruled.called_to program.now cert.now stack procedure successor.now.target successor.now.next successor.now.state }
 {
     match successor.target {
         Target::Call(address) => called_from(
-            cert, near, stack, procedure, address, successor, room,
+            program, cert, near, stack, procedure, address, successor, room,
         ),
         Target::At(_) | Target::Main(_) | Target::Return | Target::Unknown | Target::Lost => {
             NO_CALL
@@ -450,14 +495,15 @@ pub(crate) fn called_by(
 /// Whether a successor and its callee hold more bytes than the need.
 #[tactic(auto, unfolding(crate::specs::Rules::calls_too_deep, crate::specs::Rules::callee_at))]
 pub(crate) fn calls_too_deep(
+    program: &Program<'_>,
     cert: &Cert<'_>,
     stack: Stack,
     procedure: u8,
     successor: &Successor<'_>,
     called: Called,
 ) -> bool
-    requires { called ≡ Ruled.called_to cert.now stack procedure successor.now.target successor.now.next successor.now.state }
-    ensures { result ≡ Ruled.calls_too_deep cert.now stack.setting stack.need successor.now }
+    requires { called ≡ Ruled.called_to program.now cert.now stack procedure successor.now.target successor.now.next successor.now.state }
+    ensures { result ≡ Ruled.calls_too_deep program.now cert.now stack.setting stack.need successor.now }
 {
     match successor.target {
         Target::Call(_) => called.is_deep,
@@ -469,6 +515,7 @@ pub(crate) fn calls_too_deep(
 /// callee returns, or in main.
 #[tactic(auto, unfolding(crate::specs::Rules::is_uncovered))]
 pub(crate) fn is_uncovered(
+    program: &Program<'_>,
     cert: &Cert<'_>,
     near: u32,
     stack: Stack,
@@ -477,14 +524,18 @@ pub(crate) fn is_uncovered(
     called: Called,
     room: &mut Room,
 ) -> bool
-    requires { called ≡ Ruled.called_to cert.now stack procedure successor.now.target successor.now.next successor.now.state }
-    ensures { result ≡ Ruled.is_uncovered stack.setting cert.now procedure successor.now }
+    requires { called ≡ Ruled.called_to program.now cert.now stack procedure successor.now.target successor.now.next successor.now.state }
+    ensures { result ≡ Ruled.is_uncovered program.now stack.setting cert.now procedure successor.now }
 {
     let rules = stack.setting.rules;
     match successor.target {
-        Target::At(address) => !is_covered(rules, cert, near, procedure, address, successor, room),
+        Target::At(address) => !is_covered(
+            program, rules, cert, near, procedure, address, successor, room,
+        ),
         Target::Call(_) => called.is_uncovered,
-        Target::Main(address) => !is_covered(rules, cert, near, 0, address, successor, room),
+        Target::Main(address) => !is_covered(
+            program, rules, cert, near, 0, address, successor, room,
+        ),
         Target::Return | Target::Unknown | Target::Lost => false,
     }
 }
@@ -492,14 +543,15 @@ pub(crate) fn is_uncovered(
 /// Whether a successor calls what it may not.
 #[tactic(auto, unfolding(crate::specs::Rules::is_uncallable))]
 pub(crate) fn is_uncallable(
+    program: &Program<'_>,
     cert: &Cert<'_>,
     stack: Stack,
     procedure: u8,
     successor: &Successor<'_>,
     called: Called,
 ) -> bool
-    requires { called ≡ Ruled.called_to cert.now stack procedure successor.now.target successor.now.next successor.now.state }
-    ensures { result ≡ Ruled.is_uncallable stack.setting cert.now procedure successor.now }
+    requires { called ≡ Ruled.called_to program.now cert.now stack procedure successor.now.target successor.now.next successor.now.state }
+    ensures { result ≡ Ruled.is_uncallable program.now stack.setting cert.now procedure successor.now }
 {
     match successor.target {
         Target::Call(_) => is_outside_of(cert, stack.setting, procedure, called.callee),
@@ -520,52 +572,59 @@ fn leaves_items(rules: Rules, state: &Abs) -> bool
 }
 
 /// Whether an exit doesn't stand for a state.
-fn is_beyond(state: &Abs, exit: &StateRef<'_>) -> bool
-    ensures { result ≡ not (covers state.now exit.now) }
+fn is_beyond(program: &Program<'_>, state: &Abs, exit: &StateRef<'_>) -> bool
+    ensures { result ≡ not (covers program.now state.now exit.now) }
 {
-    !covers_states(&States::of(state), exit)
+    !covers_states(program, &States::of(state), exit)
 }
 
 /// Whether a procedure returns with something on the stack, in a state that its exit doesn't stand for, or
 /// doesn't return at all.
-fn is_exit_missed(rules: Rules, state: &Abs, exit: Option<StateRef<'_>>) -> bool
-    ensures { result ≡ Ruled.is_exit_missed rules state.now exit.entry }
+fn is_exit_missed(
+    program: &Program<'_>,
+    rules: Rules,
+    state: &Abs,
+    exit: Option<StateRef<'_>>,
+) -> bool
+    ensures { result ≡ Ruled.is_exit_missed program.now rules state.now exit.entry }
 {
     match exit {
         None => true,
-        Some(exit) => leaves_items(rules, state) || is_beyond(state, &exit),
+        Some(exit) => leaves_items(rules, state) || is_beyond(program, state, &exit),
     }
 }
 
 /// Whether a successor returns as its procedure's exit doesn't say.
 #[inline(never)]
 fn is_exit_missed_from(
+    program: &Program<'_>,
     rules: Rules,
     cert: &Cert<'_>,
     procedure: u8,
     successor: &Successor<'_>,
     room: &mut Room,
 ) -> bool
-    ensures { result ≡ Ruled.is_exit_missed rules successor.now.state (Procedures.exit_of cert.now procedure) }
+    ensures { result ≡ Ruled.is_exit_missed program.now rules successor.now.state (Procedures.exit_of cert.now procedure) }
 {
     successor.put_state(&mut room.behind);
-    is_exit_missed(rules, &room.behind, lent_exit_of(cert, procedure))
+    is_exit_missed(program, rules, &room.behind, lent_exit_of(cert, procedure))
 }
 
 /// Whether a successor returns as its procedure may not. Main may not at all.
 #[tactic(auto, unfolding(crate::specs::Rules::is_unreturnable))]
 pub(crate) fn is_unreturnable(
+    program: &Program<'_>,
     rules: Rules,
     cert: &Cert<'_>,
     procedure: u8,
     successor: &Successor<'_>,
     room: &mut Room,
 ) -> bool
-    ensures { result ≡ Ruled.is_unreturnable rules cert.now procedure successor.now }
+    ensures { result ≡ Ruled.is_unreturnable program.now rules cert.now procedure successor.now }
 {
     match successor.target {
         Target::Return => {
-            procedure == 0 || is_exit_missed_from(rules, cert, procedure, successor, room)
+            procedure == 0 || is_exit_missed_from(program, rules, cert, procedure, successor, room)
         }
         Target::Lost => true,
         Target::At(_) | Target::Call(_) | Target::Main(_) | Target::Unknown => false,

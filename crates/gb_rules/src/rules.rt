@@ -11,12 +11,13 @@ use crate::room::Room;
 use crate::stacks::breaks_stack;
 use crate::ways::{Site, reason_of_ways};
 use gb_calls::{Cert, NodeRef};
-use gb_code::code::{area_end, is_other_bank, known_byte, known_bytes_from, leaves_area};
-use gb_code::{Rom, holds_bytes, known_bank};
 use gb_ops::decode::decode;
 use gb_ops::op::{Op, Row};
 use gb_successors::stacks::Stack;
-use gb_successors::{Abs, Reason};
+use gb_successors::{
+    Abs, Reason, Rom, area_end, holds_bytes, is_other_bank, known_bank, known_byte,
+    known_bytes_from, leaves_area,
+};
 
 fn is_stop(op: Op) -> bool
     ensures { result ≡ Ruled.is_stop op }

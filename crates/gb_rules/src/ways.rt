@@ -9,27 +9,26 @@ ghost use Rattle.gb_successors.specs.Refused.{is_unstorable};
 ghost use Rattle.gb_successors.specs.Successors.{product_before, taken_from, not_taken_from, staying_successor, stays, reduced_successor};
 ghost use Rattle.gb_rules.specs.Lowest as Lowest;
 ghost use Rattle.gb_rules.specs.Lowest.{behind, lowest, lowest_in, applies_alone, applies_to_way, applies_to_taken};
-ghost use Rattle.gb_rules.specs.Procedures.{stack_of, ranges_of};
+ghost use Rattle.gb_rules.specs.Procedures.{stack_of, program_of, ranges_of};
 ghost use Rattle.gb_rules.specs.Rules as Ruled;
 ghost use Rattle.gb_rules.specs.Rules.{target_reasons};
 
 use crate::depth::{moves_alone_too_deep, taken_too_deep};
 use crate::interrupts::{handles_too_deep, is_dispatch_limited};
 use crate::procedures::{
-    Called, called_by, calls_too_deep, is_uncallable, is_uncovered, is_unreturnable, ranges_of,
+    Called, called_by, calls_too_deep, is_uncallable, is_uncovered, is_unreturnable, program_of,
+    ranges_of,
 };
 use crate::room::Room;
 use gb_calls::{Cert, NodeRef};
-use gb_code::Rom;
-use gb_code::code::lies_in_high_ram;
 use gb_ops::op::Row;
 use gb_successors::refused::{is_unknown, is_unstorable, meets_closed, meets_oam_transfer};
 use gb_successors::stacks::Stack;
 use gb_successors::successor::{Successor, staying_successor, taken_successor, untaken_successor};
 use gb_successors::successors::{has_condition, may_stay, side_successor};
 use gb_successors::{
-    Abs, AbsWrite, Core, Reason, Relations, Rules, Setting, not_taken_side, reduce, settle,
-    taken_side,
+    Abs, AbsWrite, Core, Program, Reason, Relations, Rom, Rules, Setting, lies_in_high_ram,
+    not_taken_side, reduce, settle, taken_side,
 };
 
 /// A node's instruction, whose successors are judged.
@@ -97,23 +96,34 @@ fn stores_outside(
 #[tactic(auto, unfolding(crate::specs::Lowest::applies_to_way, crate::specs::Procedures::stack_of, crate::specs::Procedures::setting_of))]
 fn reason_of_target(
     site: &Site<'_>,
+    program: &Program<'_>,
     successor: &Successor<'_>,
     called: Called,
     room: &mut Room,
 ) -> Option<Reason>
     requires stack { site.now.stack.now ≡ stack_of site.now.cert.now site.now.node.now.procedure }
-    requires called { called ≡ Ruled.called_to site.now.cert.now site.now.stack.now site.now.node.now.procedure successor.now.target successor.now.next successor.now.state }
+    requires program { program.now ≡ program_of site.now.rom.now site.now.cert.now }
+    requires called { called ≡ Ruled.called_to program.now site.now.cert.now site.now.stack.now site.now.node.now.procedure successor.now.target successor.now.next successor.now.state }
     ensures { result ≡ find (applies_to_way site.now.rom.now site.now.cert.now site.now.node.now site.now.row.now successor.now) target_reasons }
 {
     let (cert, stack) = (site.cert, *site.stack);
     let procedure = site.node.procedure();
     if is_unknown(successor.target) {
         Some(Reason::JumpHl)
-    } else if is_uncovered(cert, site.near, stack, procedure, successor, called, room) {
+    } else if is_uncovered(
+        program, cert, site.near, stack, procedure, successor, called, room,
+    ) {
         Some(Reason::Uncovered)
-    } else if is_uncallable(cert, stack, procedure, successor, called) {
+    } else if is_uncallable(program, cert, stack, procedure, successor, called) {
         Some(Reason::Callee)
-    } else if is_unreturnable(stack.setting.rules, cert, procedure, successor, room) {
+    } else if is_unreturnable(
+        program,
+        stack.setting.rules,
+        cert,
+        procedure,
+        successor,
+        room,
+    ) {
         Some(Reason::Return)
     } else {
         None
@@ -130,8 +140,9 @@ fn reason_of_way(site: &Site<'_>, successor: &Successor<'_>, room: &mut Room) ->
     let (rom, cert, stack) = (site.rom, site.cert, *site.stack);
     let (core, row) = (site.state.core(), site.row);
     let procedure = site.node.procedure();
-    let called = called_by(cert, site.near, stack, procedure, successor, room);
-    if calls_too_deep(cert, stack, procedure, successor, called) {
+    let program = &program_of(rom, cert);
+    let called = called_by(program, cert, site.near, stack, procedure, successor, room);
+    if calls_too_deep(program, cert, stack, procedure, successor, called) {
         Some(Reason::Depth)
     } else if stores_outside(rom, cert, procedure, stack.setting, successor.write) {
         Some(Reason::Store)
@@ -142,7 +153,7 @@ fn reason_of_way(site: &Site<'_>, successor: &Successor<'_>, room: &mut Room) ->
     {
         Some(Reason::OamTransfer)
     } else {
-        reason_of_target(site, successor, called, room)
+        reason_of_target(site, program, successor, called, room)
     }
 }
 
@@ -195,16 +206,17 @@ fn reason_on_side(
 ) -> Option<Reason>
     requires stack { site.now.stack.now ≡ stack_of site.now.cert.now site.now.node.now.procedure }
     requires state { site.now.state.now ≡ site.now.node.now.state }
-    ensures { result ≡ lowest_in (applies_to_taken site.now.rom.now site.now.cert.now site.now.node.now site.now.row.now) (taken_from site.now.stack.now site.now.rom.now site.now.row.now (behind site.now.node.now.address site.now.row.now) site.now.state.now (product_of core.now relations.now)) }
+    ensures { result ≡ lowest_in (applies_to_taken site.now.rom.now site.now.cert.now site.now.node.now site.now.row.now) (taken_from site.now.stack.now (program_of site.now.rom.now site.now.cert.now) site.now.rom.now site.now.row.now (behind site.now.node.now.address site.now.row.now) site.now.state.now (product_of core.now relations.now)) }
 {
     let (rom, stack, row, state) = (site.rom, site.stack, site.row, site.state);
     let Some(side) = taken_side(row.op, state.cells(), core, relations) else {
         return None;
     };
     let next = behind(site);
+    let program = program_of(site.rom, site.cert);
     reason_of_possible(
         site,
-        &mut side_successor(*stack, rom, *row, next, state, &side),
+        &mut side_successor(*stack, &program, rom, *row, next, state, &side),
         room,
     )
 }
@@ -220,16 +232,19 @@ fn reason_if_taken(
 ) -> Option<Reason>
     requires stack { site.now.stack.now ≡ stack_of site.now.cert.now site.now.node.now.procedure }
     requires state { site.now.state.now ≡ site.now.node.now.state }
-    ensures { result ≡ lowest_in (applies_to_taken site.now.rom.now site.now.cert.now site.now.node.now site.now.row.now) (taken_from site.now.stack.now site.now.rom.now site.now.row.now (behind site.now.node.now.address site.now.row.now) site.now.state.now (product_of core.now relations.now)) }
+    ensures { result ≡ lowest_in (applies_to_taken site.now.rom.now site.now.cert.now site.now.node.now site.now.row.now) (taken_from site.now.stack.now (program_of site.now.rom.now site.now.cert.now) site.now.rom.now site.now.row.now (behind site.now.node.now.address site.now.row.now) site.now.state.now (product_of core.now relations.now)) }
 {
     let (rom, stack, row, state) = (site.rom, site.stack, site.row, site.state);
     if has_condition(row.op) {
         return reason_on_side(site, core, relations, room);
     }
     let next = behind(site);
+    let program = program_of(site.rom, site.cert);
     reason_of_possible(
         site,
-        &mut taken_successor(stack, rom, row, next, state, core, relations, &None),
+        &mut taken_successor(
+            stack, &program, rom, row, next, state, core, relations, &None,
+        ),
         room,
     )
 }
@@ -311,11 +326,17 @@ fn reason_alone(site: &Site<'_>) -> Option<Reason>
     requires stack { site.now.stack.now ≡ stack_of site.now.cert.now site.now.node.now.procedure }
     requires state { site.now.state.now ≡ site.now.node.now.state }
     requires possible { Ruled.is_possible site.now.cert.now site.now.node.now ≡ true }
-    ensures { result ≡ lowest (applies_alone site.now.cert.now site.now.node.now site.now.row.now) }
+    ensures { result ≡ lowest (applies_alone site.now.rom.now site.now.cert.now site.now.node.now site.now.row.now) }
 {
     let (stack, node, state) = (*site.stack, site.node, site.state);
     if moves_alone_too_deep(stack.setting.rules, stack.need, node, state, site.row.op)
-        || handles_too_deep(site.cert, stack, node, state)
+        || handles_too_deep(
+            &program_of(site.rom, site.cert),
+            site.cert,
+            stack,
+            node,
+            state,
+        )
     {
         Some(Reason::Depth)
     } else if is_dispatch_limited(site.cert.region(), node, state.core()) {

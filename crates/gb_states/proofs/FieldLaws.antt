@@ -1,5 +1,5 @@
 -- The fields of a state: what is read is spelled so, and what is spelled so is read.
-use Rattle.std.proofs.Common.{◌≡◌, ℕ, zero, suc, ◌+◌, ◌*◌, ◌/◌, ◌%◌, ◌<◌, ◌≤◌, Bool, true, false, ◌&&◌, ◌||◌, not, ◌==◌, nat_le, List, [], ◌∷◌, ◌⊎◌, inl, inr, Option, Some, None, refl, sym, ap, arith}
+use Rattle.std.proofs.Common.{◌≡◌, ℕ, zero, suc, ◌+◌, ◌*◌, ◌/◌, ◌%◌, ◌<◌, ◌≤◌, Bool, true, false, ◌&&◌, ◌||◌, not, ◌==◌, nat_le, List, [], ◌∷◌, ◌++◌, ◌⊎◌, inl, inr, Option, Some, None, refl, sym, ap, arith}
 use Rattle.std.specs.Prelude.{IfSome}
 use Rattle.std.proofs.lemmas.Bool.Decides.{nat_tests}
 use Rattle.gb_ops.specs.declared.op.Register.{Register}
@@ -15,9 +15,9 @@ use Rattle.gb_domain.specs.declared.types.Flg.{Flg}
 use Rattle.gb_domain.specs.declared.types.ImeSet.{ImeSet}
 use Rattle.gb_domain.specs.declared.types.Ctl.{Ctl}
 use Rattle.gb_domain.specs.declared.types.KeptBanks.{KeptBanks}
-use Rattle.gb_domain.specs.Types.{all_or_none, are_all_kept, is_some_kept}
+use Rattle.gb_domain.specs.Types.{all_or_none, are_all_kept}
 use Rattle.gb_states.specs.declared.role.Role.{Role}
-use Rattle.gb_fields.specs.Format.{both, mapped, checked, byte}
+use Rattle.gb_fields.specs.Format.{Read, both, mapped, checked, byte}
 use Rattle.gb_domain.specs.declared.rules.Rules.{Rules}
 use Rattle.gb_domain.specs.declared.rules.Rules.TheVariants.{Simple, Extended}
 use Rattle.gb_domain.specs.Areas.{is_area}
@@ -25,7 +25,7 @@ use Rattle.gb_domain.specs.Rules.{has_value, IsVal, IsFlg, IsCtl, may_be_any, Is
 use Rattle.gb_fields.specs.Limits.{origin_limit}
 use Rattle.gb_states.specs.Rules.{is_return_origin, is_declared_origin, may_be_of, is_sayable, are_sayable, is_all_or_none, is_core_sayable}
 use Rattle.gb_fields.specs.Reading.{is_between, is_ordered, word_of, word, quad_of, quad, node_number_by, node_number, byte_between, word_between, count_within, is_one, yes_no}
-use Rattle.gb_states.specs.Reading.{origin_of, origin_at, to_val, val_at, to_may, may_at, to_ime, ime_at, is_test, to_test, test_at, to_flags, have_values, is_own_number, is_two, to_flg, flg_at, to_ctl, ctl_at, to_vals, vals_at, Tested, to_core, is_stack_right, core_at}
+use Rattle.gb_states.specs.Reading.{origin_of, origin_at, to_val, val_at, to_may, may_at, to_ime, ime_at, is_test, to_test, test_at, to_flags, have_values, is_own_number, is_two, to_flg, flg_at, to_ctl_by, ctl_by, ctl_at, to_vals, vals_at, Tested, to_core, is_stack_right, core_at}
 use Rattle.gb_states.specs.Spelling as spelled
 use Rattle.gb_states.proofs.Formats.{IsFormat, IsFormat-byte, IsFormat-both, IsFormat-checked, IsFormat-mapped, IsFormat-onto, IsFormat-as, IsFormat-spelled}
 
@@ -438,10 +438,10 @@ is_ime m h = by m.off m.pending m.on h
     by false false true h = (omega arith, refl)
     by false false false h = absurd cc
 
-abbrev spelled_ime : ImeSet → List ℕ
+abbrev pub spelled_ime : ImeSet → List ℕ
 spelled_ime m = spelled.ime_number m ∷ []
 
-IsFormat-ime : IsFormat ime_at spelled_ime (λ m. may_be_any m ≡ true)
+pub IsFormat-ime : IsFormat ime_at spelled_ime (λ m. may_be_any m ≡ true)
 unfolding ime_at
 IsFormat-ime =
     IsFormat-as ime_at spelled_ime IsImeNumber (λ m. may_be_any m ≡ true) ime_is is_ime
@@ -484,7 +484,7 @@ unfolding from_test
 test-spelled None = refl
 test-spelled (Some a) = refl
 
-IsFormat-test : IsFormat test_at spelled.test (λ o. IfSome o (λ a. a < 256))
+pub IsFormat-test : IsFormat test_at spelled.test (λ o. IfSome o (λ a. a < 256))
 unfolding test_at
 IsFormat-test =
     IsFormat-spelled test_at (λ o. spelled.flag (from_test o).0 ∷ (from_test o).1 ∷ []) spelled.test (λ o. IfSome o (λ a. a < 256)) (λ o h. test-spelled o)
@@ -563,7 +563,7 @@ is-flg : (f : Flg) → IsFlg f → IsFlgPair (from_flg f)
 unfolding from_flg
 is-flg f h = ((flags_small (f.zero, (f.subtract, (f.half_carry, f.carry))), both_and _ _ h.zero (both_and _ _ h.subtract (both_and _ _ h.half_carry h.carry))), own-fits f.is_own)
 
-IsFormat-flg : IsFormat flg_at spelled.flg IsFlg
+pub IsFormat-flg : IsFormat flg_at spelled.flg IsFlg
 unfolding flg_at from_flg spelled.flg
 IsFormat-flg =
     IsFormat-as flg_at spelled.flg (λ f. IsFlgPair (from_flg f)) IsFlg flg-is is-flg
@@ -574,11 +574,11 @@ IsFormat-flg =
 
 -- ---- the controller and the registers
 
-abbrev CtlParts : Type 0
-CtlParts = (ℕ × ℕ) × ((ℕ × ℕ) × (May × (May × Bool)))
+abbrev CtlParts : Type 0 → Type 0
+CtlParts K = (ℕ × ℕ) × ((ℕ × ℕ) × (May × (May × K)))
 
-from_ctl : Ctl → CtlParts
-from_ctl c = ((c.bank_lo, c.bank_hi), ((c.second_lo, c.second_hi), (c.gate, (c.mode, are_all_kept c.kept))))
+from_ctl : {K : Type 0} → (KeptBanks → K) → Ctl → CtlParts K
+from_ctl back c = ((c.bank_lo, c.bank_hi), ((c.second_lo, c.second_hi), (c.gate, (c.mode, back c.kept))))
 
 abbrev IsBank : ℕ → Type 0
 IsBank n = (n < 65536) × (is_between 0 511 n ≡ true)
@@ -586,8 +586,8 @@ IsBank n = (n < 65536) × (is_between 0 511 n ≡ true)
 is_bank : (n : ℕ) → n ≤ 511 → IsBank n
 is_bank n h = (omega arith, is_within 511 n h)
 
-abbrev AreCtl : CtlParts → Type 0
-AreCtl p = ((IsBank p.0.0 × IsBank p.0.1) × (nat_le p.0.0 p.0.1 ≡ true)) × (AreOrdered p.1.0.0 p.1.0.1 × ((has_value p.1.1.0 ≡ true) × ((has_value p.1.1.1.0 ≡ true) × Unit {0})))
+abbrev AreCtl : {K : Type 0} → (K → Type 0) → CtlParts K → Type 0
+AreCtl g p = ((IsBank p.0.0 × IsBank p.0.1) × (nat_le p.0.0 p.0.1 ≡ true)) × (AreOrdered p.1.0.0 p.1.0.1 × ((has_value p.1.1.0 ≡ true) × ((has_value p.1.1.1.0 ≡ true) × g p.1.1.1.1)))
 
 -- a controller of which all is kept or nothing
 abbrev pub IsCtlFor : Ctl → Type 0
@@ -619,40 +619,54 @@ kept-again k h = by k.bank k.second k.gate k.mode k.high_bank h
     by false false false false true h = absurd cc
     by false false false false false h = refl
 
-ctl-there : (p : CtlParts) → AreCtl p → (from_ctl (to_ctl p) ≡ p) × IsCtlFor (to_ctl p)
-unfolding from_ctl
-ctl-there p h = (
-  ap (λ (b : Bool). (let q : CtlParts = (p.0, (p.1.0, (p.1.1.0, (p.1.1.1.0, b)))) in q)) (all-kept p.1.1.1.1),
-  (
-    record {
-      bank = le_is p.0.0 p.0.1 h.0.1;
-      bank_hi = within 511 p.0.1 h.0.0.1.1;
-      second = le_is p.1.0.0 p.1.0.1 h.1.0.1;
-      second_hi = h.1.0.0.1;
-      gate = h.1.1.0;
-      mode = h.1.1.1.0;
-    },
-    kept_by-all p.1.1.1.1,
-  ),
-)
+-- a controller of which this is kept
+abbrev pub IsCtlBy : (KeptBanks → Type 0) → Ctl → Type 0
+IsCtlBy h c = IsCtl c × h c.kept
 
-ctl-again : (c : Ctl) → IsCtlFor c → AreCtl (from_ctl c) × (to_ctl (from_ctl c) ≡ c)
+pub IsFormat-ctl_by : {K : Type 0} (f : K → KeptBanks) (back : KeptBanks → K) (r : Read K) (number : KeptBanks → ℕ) (g : K → Type 0) (h : KeptBanks → Type 0) → ((x : K) → g x → (back (f x) ≡ x) × h (f x)) → ((k : KeptBanks) → h k → g (back k) × (f (back k) ≡ k))
+    → (w : K → List ℕ) → ((k : KeptBanks) → w (back k) ≡ number k ∷ []) → IsFormat r w g → IsFormat (ctl_by f r) (spelled.ctl_by number) (IsCtlBy h)
 unfolding from_ctl
-ctl-again c h =
-    let low : c.bank_lo ≤ 511 = omega (arith, h.0.bank, h.0.bank_hi) in (
-      (((is_bank c.bank_lo low, is_bank c.bank_hi h.0.bank_hi), is_le c.bank_lo c.bank_hi h.0.bank), (are_ordered c.second_lo c.second_hi h.0.second h.0.second_hi, (h.0.gate, (h.0.mode, tt)))),
-      ap (λ (k : KeptBanks). record c { kept = k }) (kept-again c.kept h.1),
-    )
-
-IsFormat-ctl : IsFormat ctl_at spelled.ctl IsCtlFor
-unfolding ctl_at from_ctl spelled.ctl
-IsFormat-ctl =
-    IsFormat-onto to_ctl from_ctl _ _ AreCtl IsCtlFor ctl-there ctl-again
+IsFormat-ctl_by {K} f back r number g h there again w told a =
+    IsFormat-spelled (ctl_by f r) (λ c. spelled_parts (from_ctl back c)) (spelled.ctl_by number) (IsCtlBy h) (λ c k. ap (λ (b : List ℕ). spelled.word c.bank_lo ++ (spelled.word c.bank_hi ++ (c.second_lo ∷ c.second_hi ∷ spelled.may_number c.gate ∷ spelled.may_number c.mode ∷ b))) (told c.kept))
+    (IsFormat-onto (to_ctl_by f) (from_ctl back) _ spelled_parts (AreCtl g) (IsCtlBy h) ctl-there ctl-again
     (IsFormat-both _ _ _ _ _ _ (IsFormat-checked fault.Field is_ordered _ _ _ (IsFormat-both _ _ _ _ _ _ (IsFormat-word_between 0 511) (IsFormat-word_between 0 511)))
     (IsFormat-both _ _ _ _ _ _ (IsFormat-checked fault.Field is_ordered _ _ _ (IsFormat-both byte byte _ _ _ _ IsFormat-byte IsFormat-byte))
-    (IsFormat-both _ _ _ _ _ _ IsFormat-may (IsFormat-both _ _ _ _ _ _ IsFormat-may IsFormat-yes_no))))
+    (IsFormat-both _ _ _ _ _ _ IsFormat-may (IsFormat-both _ _ _ _ _ _ IsFormat-may a)))))
+  where
+    spelled_parts : CtlParts K → List ℕ
+    spelled_parts p = (spelled.word p.0.0 ++ spelled.word p.0.1) ++ ((p.1.0.0 ∷ p.1.0.1 ∷ []) ++ ((spelled.may_number p.1.1.0 ∷ []) ++ ((spelled.may_number p.1.1.1.0 ∷ []) ++ w p.1.1.1.1)))
 
-from_vals : Registers Val → Val × (Val × (Val × (Val × (Val × (Val × Val)))))
+    ctl-there : (p : CtlParts K) → AreCtl g p → (from_ctl back (to_ctl_by f p) ≡ p) × IsCtlBy h (to_ctl_by f p)
+    ctl-there p k =
+        let t = there p.1.1.1.1 k.1.1.1.1 in (
+          ap (λ (b : K). (let q : CtlParts K = (p.0, (p.1.0, (p.1.1.0, (p.1.1.1.0, b)))) in q)) t.0,
+          (
+            record {
+              bank = le_is p.0.0 p.0.1 k.0.1;
+              bank_hi = within 511 p.0.1 k.0.0.1.1;
+              second = le_is p.1.0.0 p.1.0.1 k.1.0.1;
+              second_hi = k.1.0.0.1;
+              gate = k.1.1.0;
+              mode = k.1.1.1.0;
+            },
+            t.1,
+          ),
+        )
+
+    ctl-again : (c : Ctl) → IsCtlBy h c → AreCtl g (from_ctl back c) × (to_ctl_by f (from_ctl back c) ≡ c)
+    ctl-again c k =
+        let low : c.bank_lo ≤ 511 = omega (arith, k.0.bank, k.0.bank_hi) in
+        let t = again c.kept k.1 in (
+          (((is_bank c.bank_lo low, is_bank c.bank_hi k.0.bank_hi), is_le c.bank_lo c.bank_hi k.0.bank), (are_ordered c.second_lo c.second_hi k.0.second k.0.second_hi, (k.0.gate, (k.0.mode, t.0)))),
+          ap (λ (b : KeptBanks). record c { kept = b }) t.1,
+        )
+
+IsFormat-ctl : IsFormat ctl_at spelled.ctl IsCtlFor
+unfolding ctl_at spelled.ctl
+IsFormat-ctl =
+    IsFormat-ctl_by all_or_none are_all_kept yes_no spelled.all_number (λ b. Unit {0}) (λ k. is_all_or_none k ≡ true) (λ b h. (all-kept b, kept_by-all b)) (λ k h. (tt, kept-again k h)) spelled_flag (λ k. refl) IsFormat-yes_no
+
+unfoldable pub from_vals : Registers Val → Val × (Val × (Val × (Val × (Val × (Val × Val)))))
 from_vals r = (r.a, (r.b, (r.c, (r.d, (r.e, (r.h, r.l))))))
 
 abbrev AreVals : Rules → Registers Val → Type 0
@@ -694,7 +708,7 @@ IsFormat-vals rules =
     (IsFormat-both _ _ _ _ _ _ val (IsFormat-both _ _ _ _ _ _ val (IsFormat-both _ _ _ _ _ _ val
     (IsFormat-both _ _ _ _ _ _ val (IsFormat-both _ _ _ _ _ _ val (IsFormat-both _ _ _ _ _ _ val val)))))))
 
-from_core : Tested → ImeSet × (ℕ × (Bool × (Option ℕ × (Ctl × (Flg × (Val × Registers Val))))))
+unfoldable pub from_core : Tested → ImeSet × (ℕ × (Bool × (Option ℕ × (Ctl × (Flg × (Val × Registers Val))))))
 from_core k = let c = k.0 in (c.ime, (c.bound, (c.stack_set, (k.1, (c.ctl, (c.flags, (c.ie, c.registers)))))))
 
 abbrev IsTest : Option ℕ → Type 0

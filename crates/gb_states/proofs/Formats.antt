@@ -5,7 +5,7 @@ use Rattle.std.specs.List.{flat_map, AllByRecursion, list_all}
 use Rattle.std.proofs.lemmas.List.Concat.{flat_map-cons}
 use Rattle.std.proofs.Math.Nat.{mod-eq-sub-mul-div, mul-div-le, mul-div_cancel_left}
 use Rattle.gb_fields.specs.declared.fault.CertFault.{CertFault}
-use Rattle.gb_fields.specs.Format.{Read, go_on, followed, both, mapped, if_passes, checked, optional, several, counted, byte}
+use Rattle.gb_fields.specs.Format.{Read, go_on, followed, both, mapped, if_passes, checked, if_faultless, faultless, optional, several, counted, byte}
 use Rattle.gb_fields.specs.Reading.{nothing}
 use Rattle.gb_domain.specs.Rules.{IsChain}
 
@@ -89,6 +89,21 @@ IsFormat-checked {X} d p r w g a = record {
       let first = a.takes bytes c.0 c.1 i c.2 in
       let made : Takes w (λ x. g x × (p x ≡ true)) bytes c.0 c.1 = record { parts = first.parts; is_good = (first.is_good, t.0); are_bytes = first.are_bytes } in
       moved w (λ x. g x × (p x ≡ true)) bytes c.0 x c.1 rest t.1 t.2 made;
+  again = λ x rest good. rw (a.again x rest good.0, good.1) refl;
+}
+
+rightly : {X : Type 0} (o : Option CertFault) (x y : X) (rest end : List ℕ) → if_faultless o x rest ≡ Ok (y, end) → (o ≡ None) × (x ≡ y) × (rest ≡ end)
+rightly None x y rest end e = let p = same_pair x y rest end e in (refl, p.0, p.1)
+rightly (Some d) x y rest end e = cc
+
+pub IsFormat-faultless : {X : Type 0} (p : X → Option CertFault) (r : Read X) (w : X → List ℕ) (g : X → Type 0) → IsFormat r w g → IsFormat (faultless p r) w (λ x. g x × (p x ≡ None))
+IsFormat-faultless {X} p r w g a = record {
+  takes = λ bytes x rest i e.
+      let c = went_on (r bytes) (λ x rest. if_faultless (p x) x rest) (x, rest) e in
+      let t = rightly (p c.0) c.0 x c.1 rest c.3 in
+      let first = a.takes bytes c.0 c.1 i c.2 in
+      let made : Takes w (λ x. g x × (p x ≡ None)) bytes c.0 c.1 = record { parts = first.parts; is_good = (first.is_good, t.0); are_bytes = first.are_bytes } in
+      moved w (λ x. g x × (p x ≡ None)) bytes c.0 x c.1 rest t.1 t.2 made;
   again = λ x rest good. rw (a.again x rest good.0, good.1) refl;
 }
 

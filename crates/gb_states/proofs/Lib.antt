@@ -4,3 +4,10 @@ pub mod ListedLaws
 pub mod RelationLaws
 pub mod Several
 pub mod StateLaws
+pub mod SummaryLaws
+pub mod WholeFactLaws
+pub mod WholeLaws
+pub mod WholeNodeLaws
+pub mod WholeShadowLaws
+pub mod WholeStateLaws
+pub mod WholeSummaryLaws

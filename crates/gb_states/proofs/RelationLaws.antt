@@ -28,7 +28,7 @@ use Rattle.gb_fields.specs.Reading.{is_between, is_ordered, word, byte_between, 
 use Rattle.gb_states.specs.declared.relations.Present.{Present}
 use Rattle.gb_domain.specs.RelationRules.{is_some_register, has_place, operand, compared, bits_of, IsOneByte, is_known, IsRelations, test_byte, test_alone, is_a_alone, is_test_byte, are_unknown, is_test_alone}
 use Rattle.gb_states.specs.Rules.{may_be_known}
-use Rattle.gb_states.specs.RelationReading.{defaulted, to_present, is_present, present_at, to_registers, have_place, registers_at, address_at, test_of, to_byte, byte_at, pair_of, pair_at, to_bounds, bounds_at, other_of, other_at, to_factor, factor_at, to_link, link_of, link_at, to_facts, facts_at, to_pairs, pairs_at, to_relations, relations_at, relations_by}
+use Rattle.gb_states.specs.RelationReading.{defaulted, to_present, is_present, present_at, to_registers, have_place, registers_at, address_at, test_of, to_byte, byte_at, pair_of, pair_at, to_bounds, bounds_at, other_of, other_at, to_factor, factor_at, to_link, link_of, link_at, to_facts, facts_at, to_pairs, pairs_at, to_relations, parts_at, relations_at, relations_by}
 use Rattle.gb_states.specs.Spelling as spelled
 use Rattle.gb_states.specs.RelationSpelling as told
 use Rattle.gb_states.proofs.Formats.{IsFormat, IsFormat-byte, IsFormat-nothing, IsFormat-both, IsFormat-followed, IsFormat-checked, IsFormat-onto, IsFormat-mapped, IsFormat-as, IsFormat-spelled, IsFormat-optional, spelled_option, is_there}
@@ -37,11 +37,11 @@ use Rattle.gb_states.proofs.FieldLaws.{le_is, is_le, and_both, is_within, all_be
 -- ---- what may be there
 
 -- right where it is there, and else what stands for it
-abbrev IsWhere : {X : Type 0} → X → (X → Type 0) → Bool → X → Type 0
+abbrev pub IsWhere : {X : Type 0} → X → (X → Type 0) → Bool → X → Type 0
 IsWhere n g true x = g x
 IsWhere n g false x = x ≡ n
 
-IsFormat-defaulted : {X : Type 0} (n : X) (shows : X → Bool) (there : Bool) (r : Read X) (w : X → List ℕ) (g : X → Type 0) → shows n ≡ false → ((x : X) → g x → shows x ≡ true)
+pub IsFormat-defaulted : {X : Type 0} (n : X) (shows : X → Bool) (there : Bool) (r : Read X) (w : X → List ℕ) (g : X → Type 0) → shows n ≡ false → ((x : X) → g x → shows x ≡ true)
     → IsFormat r w g → IsFormat (defaulted n there r) (λ x. told.where_there (shows x) (w x)) (IsWhere n g there)
 IsFormat-defaulted n shows true r w g hidden shown a = IsFormat-spelled r w (λ x. told.where_there (shows x) (w x)) g (λ x h. sym (ap (λ b. told.where_there b (w x)) (shown x h))) a
 IsFormat-defaulted n shows false r w g hidden shown a = IsFormat-nothing n (λ x. told.where_there (shows x) (w x)) (ap (λ b. told.where_there b (w n)) hidden)
@@ -54,7 +54,7 @@ option-told : {X : Type 0} (w : X → List ℕ) (o : Option X) → spelled_optio
 option-told w None = refl
 option-told w (Some x) = refl
 
-IsFormat-option : {X : Type 0} (there : Bool) (r : Read X) (w : X → List ℕ) (g : X → Type 0) → IsFormat r w g → IsFormat (optional there r) (told.optional w) (λ o. (is_some o ≡ there) × IfSome o g)
+pub IsFormat-option : {X : Type 0} (there : Bool) (r : Read X) (w : X → List ℕ) (g : X → Type 0) → IsFormat r w g → IsFormat (optional there r) (told.optional w) (λ o. (is_some o ≡ there) × IfSome o g)
 IsFormat-option {X} there r w g a =
     IsFormat-as (optional there r) (told.optional w) (λ o. (is_there o ≡ there) × IfSome o g) (λ o. (is_some o ≡ there) × IfSome o g) (λ o h. (some-there o ∙ h.0, h.1)) (λ o h. (sym (some-there o) ∙ h.0, h.1))
     (IsFormat-spelled (optional there r) (spelled_option w) (told.optional w) (λ o. (is_there o ≡ there) × IfSome o g) (λ o h. option-told w o) (IsFormat-optional there r w g a))
@@ -75,10 +75,10 @@ seven-bits a b c d e f g n same =
     (one-flag _ a k.0, one-flag _ b k.1, one-flag _ c k.2, one-flag _ d k.3, one-flag _ e k.4, one-flag _ f k.5, one-flag _ g k.6, k.7)
 
 -- so small a byte
-abbrev IsSeven : ℕ → Type 0
+abbrev pub IsSeven : ℕ → Type 0
 IsSeven n = (n < 256) × (is_between 0 127 n ≡ true)
 
-is_seven : (n : ℕ) → n ≤ 127 → IsSeven n
+pub is_seven : (n : ℕ) → n ≤ 127 → IsSeven n
 is_seven n h = (omega arith, is_within 127 n h)
 
 below_seven : (n : ℕ) → is_between 0 127 n ≡ true → n < 128
@@ -103,10 +103,10 @@ number-present : (n : ℕ) → IsSeven n → told.present_number (to_present n) 
 unfolding all_below
 number-present n h = same _ _ (below 128 (λ c. told.present_number (to_present c) == c) refl n (below_seven n h.1))
 
-abbrev spelled_present : Present → List ℕ
+abbrev pub spelled_present : Present → List ℕ
 spelled_present p = told.byte (told.present_number p)
 
-IsFormat-present : (test : Option ℕ) → IsFormat (present_at test) spelled_present (λ p. is_present test p ≡ true)
+pub IsFormat-present : (test : Option ℕ) → IsFormat (present_at test) spelled_present (λ p. is_present test p ≡ true)
 unfolding present_at
 IsFormat-present test =
     IsFormat-as (present_at test) spelled_present (λ p. IsSeven (told.present_number p) × (is_present test p ≡ true)) (λ p. is_present test p ≡ true) (λ p h. h.1) (λ p h. (is_seven (told.present_number p) (present-number p).1, h))
@@ -120,7 +120,7 @@ registers a b c d e f g = record { a = a; b = b; c = c; d = d; e = e; h = f; l =
 registers-same : (a b c d e f g a2 b2 c2 d2 e2 f2 g2 : Bool) → a ≡ a2 → b ≡ b2 → c ≡ c2 → d ≡ d2 → e ≡ e2 → f ≡ f2 → g ≡ g2 → registers a b c d e f g ≡ registers a2 b2 c2 d2 e2 f2 g2
 registers-same a b c d e f g a2 b2 c2 d2 e2 f2 g2 ea eb ec ed ee ef eg = rw (ea, eb, ec, ed, ee, ef, eg) refl
 
-registers-number : (s : Registers Bool) → (to_registers (told.registers_number s) ≡ s) × (told.registers_number s ≤ 127)
+pub registers-number : (s : Registers Bool) → (to_registers (told.registers_number s) ≡ s) × (told.registers_number s ≤ 127)
 registers-number s = by s.a s.b s.c s.d s.e s.h s.l
   where
     by : (a b c d e f g : Bool) → (to_registers (seven a b c d e f g) ≡ registers a b c d e f g) × (seven a b c d e f g ≤ 127)
@@ -129,7 +129,7 @@ registers-number s = by s.a s.b s.c s.d s.e s.h s.l
         let k = seven-bits a b c d e f g n refl in
         (registers-same (n % 2 == 1) (n / 2 % 2 == 1) (n / 4 % 2 == 1) (n / 8 % 2 == 1) (n / 16 % 2 == 1) (n / 32 % 2 == 1) (n / 64 == 1) a b c d e f g k.0 k.1 k.2 k.3 k.4 k.5 k.6, k.7)
 
-number-registers : (n : ℕ) → IsSeven n → told.registers_number (to_registers n) ≡ n
+pub number-registers : (n : ℕ) → IsSeven n → told.registers_number (to_registers n) ≡ n
 unfolding all_below
 number-registers n h = same _ _ (below 128 (λ c. told.registers_number (to_registers c) == c) refl n (below_seven n h.1))
 
@@ -142,7 +142,7 @@ IsFormat-registers address =
     IsFormat-as (registers_at address) spelled_registers (λ s. IsSeven (told.registers_number s) × (have_place address s ≡ true)) (λ s. have_place address s ≡ true) (λ s h. h.1) (λ s h. (is_seven (told.registers_number s) (registers-number s).1, h))
     (IsFormat-checked fault.Field (have_place address) _ spelled_registers _ (IsFormat-mapped to_registers told.registers_number (byte_between 0 127) spelled_byte _ number-registers (λ s h. (registers-number s).0) (IsFormat-byte_between 0 127)))
 
-IsFormat-address : (region : Region) → IsFormat (address_at region) spelled.word (λ a. is_free_byte region a ≡ true)
+pub IsFormat-address : (region : Region) → IsFormat (address_at region) spelled.word (λ a. is_free_byte region a ≡ true)
 unfolding address_at
 IsFormat-address region =
     IsFormat-as (address_at region) spelled.word (λ a. (a < 65536) × (is_free_byte region a ≡ true)) (λ a. is_free_byte region a ≡ true) (λ a h. h.1) (λ a h. ((area_small a a (and_both (is_area a a) (not (meets region a a)) h).0).0, h))
@@ -227,12 +227,12 @@ IsFormat-places region test address bits one small =
     (IsFormat-both (optional address (address_at region)) (optional bits byte) _ _ _ _ (IsFormat-option address (address_at region) spelled.word _ (IsFormat-address region)) (IsFormat-option bits byte spelled_byte (λ m. m < 256) IsFormat-byte)))
 
 -- what holds of one byte where these parts are there
-record IsByteFor (region : Region) (test : Option ℕ) (there address bits : Bool) (b : OneByte) : Type 0 where
-  is_byte : IsOneByte region b
-  place : has_place b ≡ there
-  has_address : is_some b.address ≡ address
-  has_bits : is_some (bits_of b.test) ≡ bits
-  compares : compared b.test ≡ test
+pub record IsByteFor (region : Region) (test : Option ℕ) (there address bits : Bool) (b : OneByte) : Type 0 where
+  pub is_byte : IsOneByte region b
+  pub place : has_place b ≡ there
+  pub has_address : is_some b.address ≡ address
+  pub has_bits : is_some (bits_of b.test) ≡ bits
+  pub compares : compared b.test ≡ test
 
 -- there are a byte's parts only with the byte, and not two tests
 abbrev AreParts : Option ℕ → Bool → Bool → Bool → Type 0
@@ -252,7 +252,7 @@ neither : (a b : Bool) → (a || b) ≡ false → (a ≡ false) × (b ≡ false)
 neither true b h = cc
 neither false b h = (refl, h)
 
-no-registers : (s : Registers Bool) → is_some_register s ≡ false → s ≡ registers false false false false false false false
+pub no-registers : (s : Registers Bool) → is_some_register s ≡ false → s ≡ registers false false false false false false false
 no-registers s h =
     let l = neither (s.a || s.b || s.c || s.d || s.e || s.h) s.l h in
     let k = neither (s.a || s.b || s.c || s.d || s.e) s.h l.0 in
@@ -266,7 +266,7 @@ none-is : {X : Type 0} (o : Option X) → is_some o ≡ false → o ≡ None
 none-is None h = refl
 none-is (Some x) h = absurd cc
 
-none_is : {X : Type 0} (o : Option X) → is_none o ≡ true → o ≡ None
+pub none_is : {X : Type 0} (o : Option X) → is_none o ≡ true → o ≡ None
 none_is None h = refl
 none_is (Some x) h = absurd cc
 
@@ -296,7 +296,7 @@ is-byte : (region : Region) (test : Option ℕ) (there address bits : Bool) (b :
 is-byte region test true address bits b h = record { place = h.place; has_address = h.has_address; has_bits = h.has_bits; compares = h.compares; free = h.is_byte.address; small = h.is_byte.test }
 is-byte region test false address bits b h = byte-absent region b h.is_byte h.place
 
-told_byte : OneByte → List ℕ
+unfoldable pub told_byte : OneByte → List ℕ
 told_byte b = told.where_there (has_place b) (told.places b)
 
 IsFormat-one_byte : (region : Region) (test : Option ℕ) (there address bits : Bool) → AreParts test there address bits → IfSome test (λ n. n < 256)
@@ -330,20 +330,17 @@ IsFormat-pair =
 from_bounds : Bounds → ℕ × ℕ
 from_bounds b = (b.first, b.last)
 
-told_bounds : Bounds → List ℕ
-told_bounds b = spelled.word b.first ++ spelled.word b.last
-
 -- words in order
-abbrev AreBounds : Bounds → Type 0
+abbrev pub AreBounds : Bounds → Type 0
 AreBounds b = (b.first ≤ b.last) × (b.last < 65536)
 
 are_bounds : (first last : ℕ) → first ≤ last → last < 65536 → ((first < 65536) × (last < 65536)) × (nat_le first last ≡ true)
 are_bounds first last order small = ((omega arith, small), is_le first last order)
 
-IsFormat-bounds : IsFormat bounds_at told_bounds AreBounds
-unfolding bounds_at from_bounds told_bounds
+pub IsFormat-bounds : IsFormat bounds_at told.bounds AreBounds
+unfolding bounds_at from_bounds
 IsFormat-bounds =
-    IsFormat-as bounds_at told_bounds (λ b. ((b.first < 65536) × (b.last < 65536)) × (nat_le b.first b.last ≡ true)) AreBounds (λ b h. (le_is b.first b.last h.1, h.0.1)) (λ b h. are_bounds b.first b.last h.0 h.1)
+    IsFormat-as bounds_at told.bounds (λ b. ((b.first < 65536) × (b.last < 65536)) × (nat_le b.first b.last ≡ true)) AreBounds (λ b h. (le_is b.first b.last h.1, h.0.1)) (λ b h. are_bounds b.first b.last h.0 h.1)
     (IsFormat-mapped to_bounds from_bounds _ _ _ (λ x h. refl) (λ y h. refl)
     (IsFormat-checked fault.Field is_ordered _ _ _ (IsFormat-both word word _ _ _ _ IsFormat-word IsFormat-word)))
 
@@ -488,18 +485,18 @@ from_facts : PairFacts → Bounds × Option Link
 from_facts f = (f.bounds, f.link)
 
 -- bounds in order, and a link that may be
-abbrev AreFacts : PairFacts → Type 0
+abbrev pub AreFacts : PairFacts → Type 0
 AreFacts f = AreBounds f.bounds × IfSome f.link IsLink
 
 IsFormat-facts : IsFormat facts_at told.facts (λ f. AreFacts f × (is_known f ≡ true))
-unfolding facts_at from_facts told_bounds told.facts
+unfolding facts_at from_facts told.facts
 IsFormat-facts =
     IsFormat-checked fault.Field is_known _ told.facts AreFacts
-    (IsFormat-mapped to_facts from_facts _ (λ p. told_bounds p.0 ++ told.link p.1) (λ p. AreBounds p.0 × IfSome p.1 IsLink) (λ x h. refl) (λ y h. refl)
-    (IsFormat-both bounds_at link_at told_bounds told.link AreBounds (λ l. IfSome l IsLink) IsFormat-bounds IsFormat-link))
+    (IsFormat-mapped to_facts from_facts _ (λ p. told.bounds p.0 ++ told.link p.1) (λ p. AreBounds p.0 × IfSome p.1 IsLink) (λ x h. refl) (λ y h. refl)
+    (IsFormat-both bounds_at link_at told.bounds told.link AreBounds (λ l. IfSome l IsLink) IsFormat-bounds IsFormat-link))
 
 -- what may be known of a pair that is there or not
-abbrev AreFactsFor : Bool → PairFacts → Type 0
+abbrev pub AreFactsFor : Bool → PairFacts → Type 0
 AreFactsFor there f = AreFacts f × (is_known f ≡ there)
 
 not-false : (b : Bool) → not b ≡ false → b ≡ true
@@ -534,7 +531,7 @@ IsFormat-known there =
 from_pairs : Pairs → PairFacts × (PairFacts × PairFacts)
 from_pairs s = (s.bc, (s.de, s.hl))
 
-abbrev ArePairsFor : Present → Pairs → Type 0
+abbrev pub ArePairsFor : Present → Pairs → Type 0
 ArePairsFor p s = AreFactsFor p.bc s.bc × (AreFactsFor p.de s.de × AreFactsFor p.hl s.hl)
 
 IsFormat-pairs : (p : Present) → IsFormat (pairs_at p) told.pairs (ArePairsFor p)
@@ -546,14 +543,14 @@ IsFormat-pairs p =
 
 -- ---- all of them
 
-abbrev All : Type 0
+abbrev pub All : Type 0
 All = Present × (OneByte × (Option WordPair × Pairs))
 
-from_relations : Relations → All
+unfoldable pub from_relations : Relations → All
 from_relations r = (told.present_in r, (r.byte, (r.zero, r.pairs)))
 
 -- what is behind those that there are
-abbrev ArePresent : Region → Option ℕ → Present → OneByte × (Option WordPair × Pairs) → Type 0
+abbrev pub ArePresent : Region → Option ℕ → Present → OneByte × (Option WordPair × Pairs) → Type 0
 ArePresent region test p q = IsByteFor region test p.byte p.address p.bits q.0 × (((is_some q.1.0 ≡ p.zero) × IfSome q.1.0 (λ z. Unit {0})) × ArePairsFor p q.1.1)
 
 -- what there may be beside a state's test
@@ -573,7 +570,7 @@ pairs-ordered p s h Bc = h.0.0.0.0
 pairs-ordered p s h De = h.1.0.0.0.0
 pairs-ordered p s h Hl = h.1.1.0.0.0
 
-relations-there : (region : Region) (test : Option ℕ) (x : All) → (is_present test x.0 ≡ true) × ArePresent region test x.0 x.1 → (from_relations (to_relations x) ≡ x) × IsTold region test (to_relations x)
+pub relations-there : (region : Region) (test : Option ℕ) (x : All) → (is_present test x.0 ≡ true) × ArePresent region test x.0 x.1 → (from_relations (to_relations x) ≡ x) × IsTold region test (to_relations x)
 unfolding from_relations
 relations-there region test x h =
     let p = x.0 in
@@ -601,7 +598,7 @@ some-pair (Some z) = tt
 facts-for : (f : PairFacts) → IsPairFacts f → f.bounds.first ≤ f.bounds.last → AreFactsFor (is_known f) f
 facts-for f h order = (((order, h.last), h.link), refl)
 
-relations-again : (region : Region) (test : Option ℕ) (r : Relations) → IsTold region test r
+pub relations-again : (region : Region) (test : Option ℕ) (r : Relations) → IsTold region test r
     → ((is_present test (from_relations r).0 ≡ true) × ArePresent region test (from_relations r).0 (from_relations r).1) × (to_relations (from_relations r) ≡ r)
 unfolding from_relations
 relations-again region test r h =
@@ -617,14 +614,21 @@ relations-again region test r h =
       refl,
     )
 
+abbrev pub told_parts : OneByte × (Option WordPair × Pairs) → List ℕ
+told_parts q = told_byte q.0 ++ (told.optional told.pair q.1.0 ++ told.pairs q.1.1)
+
+pub IsFormat-parts : (region : Region) (test : Option ℕ) (p : Present) → IfSome test (λ n. n < 256) → is_present test p ≡ true → IsFormat (parts_at region test p) told_parts (ArePresent region test p)
+unfolding told_byte
+IsFormat-parts region test p small h =
+    IsFormat-both (defaulted no_byte p.byte (byte_at region test p.address p.bits)) (both (optional p.zero pair_at) (pairs_at p)) told_byte (λ q. told.optional told.pair q.0 ++ told.pairs q.1) (IsByteFor region test p.byte p.address p.bits) (λ q. ((is_some q.0 ≡ p.zero) × IfSome q.0 (λ z. Unit {0})) × ArePairsFor p q.1) (IsFormat-one_byte region test p.byte p.address p.bits h small)
+    (IsFormat-both (optional p.zero pair_at) (pairs_at p) (told.optional told.pair) told.pairs (λ z. (is_some z ≡ p.zero) × IfSome z (λ z. Unit {0})) (ArePairsFor p) (IsFormat-option p.zero pair_at told.pair (λ z. Unit {0}) IsFormat-pair) (IsFormat-pairs p))
+
 -- What is read beside a state's test is the spelling of what there may be, whose test compares where the state's does.
 pub IsFormat-relations : (region : Region) (test : Option ℕ) → IfSome test (λ n. n < 256) → IsFormat (relations_at region test) told.relations (IsTold region test)
 unfolding relations_at from_relations told_byte told.relations
 IsFormat-relations region test small =
-    IsFormat-onto to_relations from_relations _ (λ x. spelled_present x.0 ++ (told_byte x.1.0 ++ (told.optional told.pair x.1.1.0 ++ told.pairs x.1.1.1))) (λ x. (is_present test x.0 ≡ true) × ArePresent region test x.0 x.1) (IsTold region test) (relations-there region test) (relations-again region test)
-    (IsFormat-followed (present_at test) (λ p. both (defaulted no_byte p.byte (byte_at region test p.address p.bits)) (both (optional p.zero pair_at) (pairs_at p))) spelled_present (λ p q. told_byte q.0 ++ (told.optional told.pair q.1.0 ++ told.pairs q.1.1)) (λ p. is_present test p ≡ true) (ArePresent region test) (IsFormat-present test)
-    (λ p h. IsFormat-both (defaulted no_byte p.byte (byte_at region test p.address p.bits)) (both (optional p.zero pair_at) (pairs_at p)) told_byte (λ q. told.optional told.pair q.0 ++ told.pairs q.1) (IsByteFor region test p.byte p.address p.bits) (λ q. ((is_some q.0 ≡ p.zero) × IfSome q.0 (λ z. Unit {0})) × ArePairsFor p q.1) (IsFormat-one_byte region test p.byte p.address p.bits h small)
-    (IsFormat-both (optional p.zero pair_at) (pairs_at p) (told.optional told.pair) told.pairs (λ z. (is_some z ≡ p.zero) × IfSome z (λ z. Unit {0})) (ArePairsFor p) (IsFormat-option p.zero pair_at told.pair (λ z. Unit {0}) IsFormat-pair) (IsFormat-pairs p))))
+    IsFormat-onto to_relations from_relations _ (λ x. spelled_present x.0 ++ told_parts x.1) (λ x. (is_present test x.0 ≡ true) × ArePresent region test x.0 x.1) (IsTold region test) (relations-there region test) (relations-again region test)
+    (IsFormat-followed (present_at test) (parts_at region test) spelled_present (λ p. told_parts) (λ p. is_present test p ≡ true) (ArePresent region test) (IsFormat-present test) (λ p h. IsFormat-parts region test p small h))
 
 -- ---- a test of A alone
 
@@ -653,7 +657,7 @@ alone-is : (test : Option ℕ) → is_test_alone (test_alone test) ≡ true
 alone-is None = refl
 alone-is (Some n) = refl
 
-not-true : (b : Bool) → not b ≡ true → b ≡ false
+pub not-true : (b : Bool) → not b ≡ true → b ≡ false
 not-true true h = cc
 not-true false h = refl
 

@@ -1,5 +1,5 @@
 -- States, procedures and nodes: what is read is spelled so, and what is spelled so is read.
-use Rattle.std.proofs.Common.{◌≡◌, ℕ, ◌*◌, ◌/◌, ◌%◌, ◌<◌, ◌≤◌, Bool, true, false, ◌&&◌, ◌||◌, ◌==◌, nat_le, nat_lt, List, ◌∷◌, ◌++◌, length, Option, Some, None, refl, sym, ◌∙◌, ap, arith}
+use Rattle.std.proofs.Common.{◌≡◌, ℕ, ◌*◌, ◌/◌, ◌%◌, ◌<◌, ◌≤◌, Bool, true, false, ◌&&◌, ◌||◌, ◌==◌, nat_le, nat_lt, List, [], ◌∷◌, ◌++◌, length, Option, Some, None, refl, sym, ◌∙◌, ap, arith}
 use Rattle.std.specs.Prelude.{not, IfSome, is_some}
 use Rattle.std.specs.List.{AllByRecursion, list_all}
 use Rattle.std.proofs.lemmas.Bool.Decides.{nat_tests}
@@ -18,10 +18,11 @@ use Rattle.gb_domain.specs.RelationRules.{compared}
 use Rattle.gb_fields.specs.Limits.{node_limit_by, node_limit, range_room, unit, item_limit, need_limit}
 use Rattle.gb_fields.specs.Rules.{main_base, usual_base, is_base}
 use Rattle.gb_domain.specs.Types.{AbsState, ProcedureParts, Node}
+use Rattle.gb_domain.specs.Summaries.{SummaryParts}
 use Rattle.gb_fields.specs.Format.{both, followed, optional, byte}
 use Rattle.gb_domain.specs.Areas.{is_area, meets, is_free_byte}
 use Rattle.gb_domain.specs.Rules.{IsChain, IsVal, IsCell, after_cell}
-use Rattle.gb_states.specs.Rules.{IsRange, IsState, IsProcedure, IsNode, after_range, role_of, may_have_items, may_be_pushed, is_sayable, is_core_sayable, is_cell_sayable, fits, is_base_of, is_whole, key, is_from}
+use Rattle.gb_states.specs.Rules.{IsRange, IsState, IsProcedure, IsNode, after_range, role_of, may_have_items, may_be_pushed, is_sayable, is_core_sayable, is_cell_sayable, is_silent, fits, is_base_of, is_whole, key, is_from}
 use Rattle.gb_fields.specs.Reading.{is_between, word, word_between, node_number, count_within, yes_no, may_return, returns_at, is_below, entry_at, base_at, times, need_at, key_at}
 use Rattle.gb_states.specs.Reading.{Tested, core_at, val_at, item_count_at, items_at, is_free, to_cell, cell_at, cells_at, to_state, state_at, to_range, range_at, ranges_at, exit_at, Body, body_at, to_procedure, procedure_at, to_node, node_at}
 use Rattle.gb_states.specs.RelationReading.{relations_by}
@@ -30,12 +31,13 @@ use Rattle.gb_states.specs.RelationSpelling as told
 use Rattle.gb_states.proofs.Formats.{IsFormat, IsFormat-byte, IsFormat-both, IsFormat-followed, IsFormat-checked, IsFormat-onto, IsFormat-mapped, IsFormat-as, IsFormat-spelled, IsFormat-optional, IsFormat-nothing, IsFormat-counted, IsFormat-multiple, spelled_option, is_there, all_of_chain, chain_of_all, all_parts, parts_all, chain_parts, parts_chain}
 use Rattle.gb_states.proofs.FieldLaws.{le_is, is_le, and_both, both_and, within, is_within, same, is_same, area_small, spelled_byte, spelled_flag, node_numbers, IsFormat-node_number, IsFormat-word, IsFormat-word_between, IsFormat-count_within, IsFormat-yes_no, IsValFor, IsFormat-val, IsCoreFor, spelled_core, IsFormat-core}
 use Rattle.gb_states.proofs.RelationLaws.{IsToldBy, told-compares, told-relations, told-known, is-told, compared-small, IsFormat-relations_by}
+use Rattle.gb_states.proofs.SummaryLaws.{silent-is}
 
-not_is : (b : Bool) → not b ≡ true → b ≡ false
+pub not_is : (b : Bool) → not b ≡ true → b ≡ false
 not_is true h = cc
 not_is false h = refl
 
-is_not : (b : Bool) → b ≡ false → not b ≡ true
+pub is_not : (b : Bool) → b ≡ false → not b ≡ true
 is_not b h = rw h refl
 
 pub lt_is : (a b : ℕ) → nat_lt a b ≡ true → a < b
@@ -207,23 +209,24 @@ state-there rules role region p h = (
     cell_count = h.1.1.1.few;
     relations = told-relations rules region p.0.1 p.1.1.0 h.0.test h.1.1.0;
     known = told-known rules region p.0.1 p.1.1.0 h.1.1.0;
-    sayable = both_and _ _ h.0.sayable (both_and _ _ h.1.0.sayable h.1.1.1.sayable);
+    sayable = both_and _ _ h.0.sayable (both_and _ _ h.1.0.sayable (both_and _ _ h.1.1.1.sayable refl));
   },
 )
 
 state-again : (rules : Rules) (role : Role) (region : Region) (s : AbsState) → IsState rules role region s → AreParts rules role region (from_state s) × (to_state (from_state s) ≡ s)
 unfolding from_state
 state-again rules role region s h =
-    let t = and_both (is_core_sayable rules s.core) (list_all (is_sayable rules) s.items && list_all (is_cell_sayable rules) s.cells) h.sayable in
-    let u = and_both (list_all (is_sayable rules) s.items) (list_all (is_cell_sayable rules) s.cells) t.1 in (
+    let t = and_both (is_core_sayable rules s.core) (list_all (is_sayable rules) s.items && (list_all (is_cell_sayable rules) s.cells && is_silent s.summary)) h.sayable in
+    let u = and_both (list_all (is_sayable rules) s.items) (list_all (is_cell_sayable rules) s.cells && is_silent s.summary) t.1 in
+    let w = and_both (list_all (is_cell_sayable rules) s.cells) (is_silent s.summary) u.1 in (
       (
         record { core = h.core; stack = h.stack; sayable = t.0; test = compared-small s.relations.byte.test h.relations.byte.test },
         (
           record { pushed = h.pushed; whole = h.whole; few = h.item_count; each = h.items; sayable = u.0 },
-          (is-told rules region s.relations h.relations h.known, record { few = h.cell_count; chain = h.cells; sayable = u.1 }),
+          (is-told rules region s.relations h.relations h.known, record { few = h.cell_count; chain = h.cells; sayable = w.0 }),
         ),
       ),
-      refl,
+      ap (λ (m : SummaryParts). record s { summary = m }) (sym (silent-is s.summary w.1)),
     )
 
 pub IsFormat-state : (rules : Rules) (role : Role) (region : Region) → IsFormat (state_at rules role region) (spelled.state rules) (IsState rules role region)
@@ -401,18 +404,21 @@ body_of p = (p.base, (p.need, (p.ranges, p.exit)))
 from_procedure : ProcedureParts → ℕ × Body
 from_procedure p = (p.entry, body_of p)
 
-abbrev AreProcedure : ℕ → Region → ℕ → Bool → ProcedureParts → Type 0
-AreProcedure version region nodes is_main p = ((p.entry < node_numbers (version == 1)) × (is_below nodes p.entry ≡ true)) × AreBody (rules_of version) is_main region (body_of p)
+-- what is read of a procedure
+abbrev AreRead : ℕ → Region → ℕ → Bool → ℕ × Body → Type 0
+AreRead version region nodes is_main x = ((x.0 < node_numbers (version == 1)) × (is_below nodes x.0 ≡ true)) × AreBody (rules_of version) is_main region x.1
 
-procedure-is : (version : ℕ) (region : Region) (nodes : ℕ) (is_main : Bool) (p : ProcedureParts) → AreProcedure version region nodes is_main p → IsProcedure (rules_of version) region nodes is_main p
-procedure-is version region nodes is_main p h = record {
-  entry = lt_is p.entry nodes h.0.1;
+procedure-is : (version : ℕ) (region : Region) (nodes : ℕ) (is_main : Bool) (x : ℕ × Body) → AreRead version region nodes is_main x → IsProcedure (rules_of version) region nodes is_main (to_procedure x)
+procedure-is version region nodes is_main x h = record {
+  entry = lt_is x.0 nodes h.0.1;
   base = h.1.0;
   need = h.1.1.0.few;
   whole = h.1.1.0.whole;
   room = h.1.1.0.fit;
   ranges = h.1.1.1.0.chain;
   range_count = h.1.1.1.0.few;
+  kept = refl;
+  mark = refl;
   exit = h.1.1.1.1.1;
   main = h.1.1.1.1.0;
 }
@@ -437,18 +443,25 @@ pub number_small : (version n : ℕ) → n ≤ node_limit version → n < node_n
 unfolding node_limit
 number_small version n h = omega (arith, limit_small (version == 1))
 
-is-procedure : (version : ℕ) (region : Region) (nodes : ℕ) (is_main : Bool) (p : ProcedureParts) → nodes ≤ node_limit version → IsProcedure (rules_of version) region nodes is_main p → AreProcedure version region nodes is_main p
+is-procedure : (version : ℕ) (region : Region) (nodes : ℕ) (is_main : Bool) (p : ProcedureParts) → nodes ≤ node_limit version → IsProcedure (rules_of version) region nodes is_main p → AreRead version region nodes is_main (p.entry, body_of p)
 is-procedure version region nodes is_main p few h =
     let below : p.entry ≤ node_limit version = omega (arith, h.entry) in
     ((number_small version p.entry below, is_lt p.entry nodes h.entry), body-is (rules_of version) region nodes is_main p h)
 
+-- A procedure is what its entry and its body say.
+pub procedure-again : (rules : Rules) (region : Region) (nodes : ℕ) (is_main : Bool) (p : ProcedureParts) → IsProcedure rules region nodes is_main p → to_procedure (p.entry, body_of p) ≡ p
+procedure-again rules region nodes is_main p h = declared [] p.kept 0 p.mark (sym h.kept) (sym h.mark)
+  where
+    declared : (a b : List ℕ) (n m : ℕ) → a ≡ b → n ≡ m → record p { kept = a; mark = n } ≡ record p { kept = b; mark = m }
+    declared a b n m e f = rw (e, f) refl
+
 pub IsFormat-procedure : (version : ℕ) (region : Region) (nodes : ℕ) (is_main : Bool) → nodes ≤ node_limit version → region.last < 65535 → IsFormat (procedure_at version region nodes is_main) (spelled.procedure version) (IsProcedure (rules_of version) region nodes is_main)
 unfolding entry_at procedure_at from_procedure spelled.procedure spelled.body
 IsFormat-procedure version region nodes is_main few small =
-    IsFormat-as (procedure_at version region nodes is_main) (spelled.procedure version) (AreProcedure version region nodes is_main) (IsProcedure (rules_of version) region nodes is_main) (procedure-is version region nodes is_main) (λ p h. is-procedure version region nodes is_main p few h)
-    (IsFormat-mapped to_procedure from_procedure _ _ _ (λ x h. refl) (λ y h. refl)
+    IsFormat-onto to_procedure from_procedure _ _ (AreRead version region nodes is_main) (IsProcedure (rules_of version) region nodes is_main) (λ x h. (refl, procedure-is version region nodes is_main x h))
+    (λ p h. (is-procedure version region nodes is_main p few h, procedure-again (rules_of version) region nodes is_main p h))
     (IsFormat-both _ _ _ _ _ _ (IsFormat-checked fault.Field (is_below nodes) (node_number version) (spelled.node_number version) (λ a. a < node_numbers (version == 1)) (IsFormat-node_number version))
-    (IsFormat-body (rules_of version) is_main region small)))
+    (IsFormat-body (rules_of version) is_main region small))
 
 -- ---- nodes
 

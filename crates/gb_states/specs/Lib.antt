@@ -1,8 +1,12 @@
 pub mod Checked
+pub mod Forms
 pub mod Numbers
 pub mod Reading
 pub mod RelationReading
 pub mod RelationSpelling
 pub mod Rules
 pub mod Spelling
+pub mod WholeReading
+pub mod WholeRules
+pub mod WholeSpelling
 pub mod Below

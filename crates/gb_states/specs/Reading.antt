@@ -1,5 +1,5 @@
 -- Reading a certificate, field by field (own format). A test of two fields is made behind the later one.
-use Rattle.std.specs.Prelude.{ℕ, ◌/◌, ◌%◌, Bool, true, ◌&&◌, ◌||◌, not, ◌==◌, nat_le, List, Option, Some, None, Result, if◌then◌else◌}
+use Rattle.std.specs.Prelude.{ℕ, ◌/◌, ◌%◌, Bool, true, ◌&&◌, ◌||◌, not, ◌==◌, nat_le, List, [], Option, Some, None, Result, if◌then◌else◌}
 use Rattle.gb_ops.specs.declared.machine.Region.{Region}
 use Rattle.gb_ops.specs.declared.registers.Registers.{Registers}
 use Rattle.gb_fields.specs.declared.fault.CertFault.{CertFault}
@@ -10,6 +10,7 @@ use Rattle.gb_domain.specs.declared.types.Val.{Val}
 use Rattle.gb_domain.specs.declared.types.May.{May}
 use Rattle.gb_domain.specs.declared.types.Flg.{Flg}
 use Rattle.gb_domain.specs.declared.types.ImeSet.{ImeSet}
+use Rattle.gb_domain.specs.declared.types.KeptBanks.{KeptBanks}
 use Rattle.gb_domain.specs.declared.types.Ctl.{Ctl}
 use Rattle.gb_domain.specs.declared.types.Core.{Core}
 use Rattle.gb_domain.specs.declared.types.Cell.{Cell}
@@ -23,6 +24,7 @@ use Rattle.gb_domain.specs.Limits.{rules_of, cell_room}
 use Rattle.gb_fields.specs.Limits.{range_room, unit, item_limit, origin_limit}
 use Rattle.gb_domain.specs.Types.{AbsState, ProcedureParts, Node, all_or_none}
 use Rattle.gb_domain.specs.Certificate.{Certificate}
+use Rattle.gb_domain.specs.Summaries.{no_summary}
 use Rattle.gb_fields.specs.Format.{Read, followed, both, mapped, checked, optional, several, counted, whole, byte}
 use Rattle.gb_fields.specs.Reading.{is_ordered, word, byte_between, word_between, count_within, yes_no, returns_at, entry_at, base_at, times, need_at, key_at, head_at}
 use Rattle.gb_domain.specs.Areas.{is_area, meets, is_free_byte}
@@ -109,17 +111,24 @@ to_flg p = record { zero = p.0.0; subtract = p.0.1.0; half_carry = p.0.1.1.0; ca
 unfoldable pub flg_at : Read Flg
 flg_at = mapped to_flg (both (checked fault.Field have_values (mapped to_flags byte)) (mapped is_two (checked fault.Field is_own_number byte)))
 
-abbrev pub to_ctl : (ℕ × ℕ) × ((ℕ × ℕ) × (May × (May × Bool))) → Ctl
-to_ctl p = record { bank_lo = p.0.0; bank_hi = p.0.1; second_lo = p.1.0.0; second_hi = p.1.0.1; gate = p.1.1.0; mode = p.1.1.1.0; kept = all_or_none p.1.1.1.1 }
+-- by what the last field says of what is kept
+abbrev pub to_ctl_by : {K : Type 0} → (K → KeptBanks) → (ℕ × ℕ) × ((ℕ × ℕ) × (May × (May × K))) → Ctl
+to_ctl_by kept_by p = record { bank_lo = p.0.0; bank_hi = p.0.1; second_lo = p.1.0.0; second_hi = p.1.0.1; gate = p.1.1.0; mode = p.1.1.1.0; kept = kept_by p.1.1.1.1 }
+
+abbrev pub ctl_by : {K : Type 0} → (K → KeptBanks) → Read K → Read Ctl
+ctl_by kept_by kept = mapped (to_ctl_by kept_by) (both (checked fault.Field is_ordered (both (word_between 0 511) (word_between 0 511))) (both (checked fault.Field is_ordered (both byte byte)) (both may_at (both may_at kept))))
 
 unfoldable pub ctl_at : Read Ctl
-ctl_at = mapped to_ctl (both (checked fault.Field is_ordered (both (word_between 0 511) (word_between 0 511))) (both (checked fault.Field is_ordered (both byte byte)) (both may_at (both may_at yes_no))))
+ctl_at = ctl_by all_or_none yes_no
 
 abbrev pub to_vals : Val × (Val × (Val × (Val × (Val × (Val × Val))))) → Registers Val
 to_vals p = record { a = p.0; b = p.1.0; c = p.1.1.0; d = p.1.1.1.0; e = p.1.1.1.1.0; h = p.1.1.1.1.1.0; l = p.1.1.1.1.1.1 }
 
+abbrev pub vals_by : Read Val → Read (Registers Val)
+vals_by val = mapped to_vals (both val (both val (both val (both val (both val (both val val))))))
+
 unfoldable pub vals_at : Rules → Read (Registers Val)
-vals_at rules = mapped to_vals (both (val_at rules) (both (val_at rules) (both (val_at rules) (both (val_at rules) (both (val_at rules) (both (val_at rules) (val_at rules)))))))
+vals_at rules = vals_by (val_at rules)
 
 -- ---- states
 
@@ -133,8 +142,11 @@ to_core p = (record { ime = p.0; bound = p.1.0; stack_set = p.1.1.0; ctl = p.1.1
 abbrev pub is_stack_right : Role → Bool → Bool
 is_stack_right role stack_set = stack_set || not (needs_stack role)
 
+abbrev pub core_by : Role → Read Ctl → Read Val → Read (Registers Val) → Read Tested
+core_by role ctl val vals = mapped to_core (both ime_at (both (byte_between 0 161) (both (checked fault.Field (is_stack_right role) yes_no) (both test_at (both ctl (both flg_at (both val vals)))))))
+
 unfoldable pub core_at : Rules → Role → Read Tested
-core_at rules role = mapped to_core (both ime_at (both (byte_between 0 161) (both (checked fault.Field (is_stack_right role) yes_no) (both test_at (both ctl_at (both flg_at (both (val_at rules) (vals_at rules))))))))
+core_at rules role = core_by role ctl_at (val_at rules) (vals_at rules)
 
 -- of a core that is passed over: whether the stack is set, and the test
 abbrev pub passed : Tested → Bool × Option ℕ
@@ -165,8 +177,9 @@ cell_at rules region least = mapped to_cell (both (checked fault.Order (nat_le l
 unfoldable pub cells_at : Rules → Region → Read (List Cell)
 cells_at rules region = counted (count_within (cell_room rules)) (cell_at rules region) after_cell 0
 
+-- what is said of the whole program stands in none of them
 abbrev pub to_state : Tested × (List Val × (Relations × List Cell)) → AbsState
-to_state p = record { core = p.0.0; items = p.1.0; cells = p.1.1.1; relations = p.1.1.0 }
+to_state p = record { core = p.0.0; items = p.1.0; cells = p.1.1.1; relations = p.1.1.0; summary = no_summary }
 
 -- a core with its test, items, what is known of several parts together, and cells
 unfoldable pub state_at : Rules → Role → Region → Read AbsState
@@ -200,7 +213,7 @@ abbrev pub body_at : Rules → Bool → Region → Read Body
 body_at rules is_main region = both (base_at rules is_main region) (needed_at rules is_main region)
 
 abbrev pub to_procedure : ℕ × Body → ProcedureParts
-to_procedure p = record { entry = p.0; base = p.1.0; need = p.1.1.0; ranges = p.1.1.1.0; exit = p.1.1.1.1 }
+to_procedure p = record { entry = p.0; base = p.1.0; need = p.1.1.0; ranges = p.1.1.1.0; kept = []; mark = 0; exit = p.1.1.1.1 }
 
 unfoldable pub procedure_at : ℕ → Region → ℕ → Bool → Read ProcedureParts
 procedure_at version region nodes is_main = mapped to_procedure (both (entry_at version nodes) (body_at (rules_of version) is_main region))
@@ -225,7 +238,7 @@ abbrev pub have_entries_in : Head × (List ProcedureParts × List Node) → Bool
 have_entries_in p = have_entries 0 p.1.0 p.1.1
 
 abbrev pub to_certificate : Head × (List ProcedureParts × List Node) → Certificate
-to_certificate p = record { version = p.0.version; procedures = p.1.0; nodes = p.1.1; region = p.0.region }
+to_certificate p = record { version = p.0.version; procedures = p.1.0; nodes = p.1.1; region = p.0.region; facts = [] }
 
 -- the head, the procedures and the nodes; then each entry must be a node of its procedure
 unfoldable pub certificate_at : Read Certificate

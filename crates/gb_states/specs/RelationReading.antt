@@ -142,9 +142,13 @@ pairs_at p = mapped to_pairs (both (defaulted nothing_known p.bc facts_at) (both
 abbrev pub to_relations : Present × (OneByte × (Option WordPair × Pairs)) → Relations
 to_relations p = record { byte = p.1.0; zero = p.1.1.0; pairs = p.1.1.1 }
 
--- those that there are, behind which these are; the test is the state's
+-- those that there are; the test is the state's
+abbrev pub parts_at : Region → Option ℕ → Present → Read (OneByte × (Option WordPair × Pairs))
+parts_at region test p = both (defaulted no_byte p.byte (byte_at region test p.address p.bits)) (both (optional p.zero pair_at) (pairs_at p))
+
+-- which there are, and these
 unfoldable pub relations_at : Region → Option ℕ → Read Relations
-relations_at region test = mapped to_relations (followed (present_at test) (λ p. both (defaulted no_byte p.byte (byte_at region test p.address p.bits)) (both (optional p.zero pair_at) (pairs_at p))))
+relations_at region test = mapped to_relations (followed (present_at test) (parts_at region test))
 
 -- Versions 1 and 2 say nothing but the test, which is of A.
 abbrev pub relations_by : Rules → Region → Option ℕ → Read Relations

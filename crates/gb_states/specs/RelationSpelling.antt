@@ -4,6 +4,7 @@ use Rattle.gb_ops.specs.declared.op.Register.TheVariants.{A, B, C, D, E, H, L}
 use Rattle.gb_ops.specs.declared.registers.Registers.{Registers}
 use Rattle.gb_domain.specs.declared.pairs.WordPair.{WordPair}
 use Rattle.gb_domain.specs.declared.pairs.WordPair.TheVariants.{Bc, De, Hl}
+use Rattle.gb_domain.specs.declared.pairs.Bounds.{Bounds}
 use Rattle.gb_domain.specs.declared.pairs.Other.{Other}
 use Rattle.gb_domain.specs.declared.pairs.Other.TheVariants.{Register as Of, Pair}
 use Rattle.gb_domain.specs.declared.pairs.Link.{Link}
@@ -76,8 +77,11 @@ abbrev pub link : Option Link → List ℕ
 link None = 0 ∷ []
 link (Some l) = (1 + other_number l.other) ∷ l.factor % 256 ∷ word l.sum
 
+abbrev pub bounds : Bounds → List ℕ
+bounds b = word b.first ++ word b.last
+
 unfoldable pub facts : PairFacts → List ℕ
-facts f = (word f.bounds.first ++ word f.bounds.last) ++ link f.link
+facts f = bounds f.bounds ++ link f.link
 
 -- of a pair, where something is known
 abbrev pub known_facts : PairFacts → List ℕ
@@ -88,8 +92,12 @@ pairs s = known_facts s.bc ++ (known_facts s.de ++ known_facts s.hl)
 
 -- ---- all of them
 
+-- those that there are
+abbrev pub parts : Relations → List ℕ
+parts r = where_there (has_place r.byte) (places r.byte) ++ (optional pair r.zero ++ pairs r.pairs)
+
 unfoldable pub relations : Relations → List ℕ
-relations r = present_number (present_in r) ∷ (where_there (has_place r.byte) (places r.byte) ++ (optional pair r.zero ++ pairs r.pairs))
+relations r = present_number (present_in r) ∷ parts r
 
 -- Versions 1 and 2 spell no more of them than the test, which stands elsewhere in the state.
 abbrev pub relations_by : Rules → Relations → List ℕ

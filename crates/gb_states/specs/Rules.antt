@@ -1,5 +1,5 @@
 -- Which certificates there are (own format).
-use Rattle.std.specs.Prelude.{◌≡◌, ℕ, ◌+◌, ◌≤◌, ◌<◌, Bool, true, false, ◌&&◌, ◌||◌, not, ◌==◌, List, [], ◌∷◌, length, slice_get, Option, Some, None, IfSome, is_some, if◌then◌else◌}
+use Rattle.std.specs.Prelude.{◌≡◌, ℕ, ◌+◌, ◌≤◌, ◌<◌, Bool, true, false, ◌&&◌, ◌||◌, not, ◌==◌, List, [], ◌∷◌, length, slice_get, Option, Some, None, IfSome, is_some, is_none, if◌then◌else◌}
 use Rattle.std.specs.List.{AllByRecursion, list_all}
 use Rattle.gb_ops.specs.declared.machine.Region.{Region}
 use Rattle.gb_ops.specs.declared.registers.Registers.{Registers}
@@ -17,7 +17,8 @@ use Rattle.gb_states.specs.declared.role.Role.{Role}
 use Rattle.gb_states.specs.declared.role.Role.TheVariants as role
 pub use Rattle.gb_fields.specs.Rules.{size, fits, is_base_of, is_whole, is_from, is_version}
 use Rattle.gb_domain.specs.Limits.{rules_of, item_room, cell_room}
-use Rattle.gb_domain.specs.RelationRules.{IsRelations, is_test_alone}
+use Rattle.gb_domain.specs.RelationRules.{IsRelations, is_some_register, is_test_alone}
+pub use Rattle.gb_domain.specs.Silent.{is_unshadowed, is_silent}
 use Rattle.gb_fields.specs.Limits.{procedure_limit, node_limit, range_room}
 use Rattle.gb_domain.specs.Areas.{is_area, meets, IsRegion}
 use Rattle.gb_domain.specs.Rules.{IsChain, IsVal, IsCore, IsCell, after_cell}
@@ -94,9 +95,9 @@ is_core_sayable rules c = is_all_or_none c.ctl.kept && (is_sayable rules c.ie &&
 abbrev pub is_cell_sayable : Rules → Cell → Bool
 is_cell_sayable rules c = is_sayable rules c.val
 
--- what is kept and each value of a state are
+-- what is kept and each value are; versions 1 to 3 have no field for what a state says that is about the whole program: it says nothing
 abbrev pub is_state_sayable : Rules → AbsState → Bool
-is_state_sayable rules s = is_core_sayable rules s.core && (list_all (is_sayable rules) s.items && list_all (is_cell_sayable rules) s.cells)
+is_state_sayable rules s = is_core_sayable rules s.core && (list_all (is_sayable rules) s.items && (list_all (is_cell_sayable rules) s.cells && is_silent s.summary))
 
 -- By the rules of versions 1 and 2 nothing is known of several parts together but a test of A.
 abbrev pub may_be_known : Rules → Relations → Bool
@@ -119,7 +120,8 @@ pub record IsState (rules : Rules) (role : Role) (region : Region) (s : AbsState
 
 -- ---- procedures and nodes
 
--- A procedure begins at one of so many nodes. Main doesn't return.
+-- A procedure begins at one of so many nodes. Main doesn't return. Versions 1 to 3 have no field for addresses to be kept, and none
+-- for a mark.
 pub record IsProcedure (rules : Rules) (region : Region) (nodes : ℕ) (is_main : Bool) (p : ProcedureParts) : Type 0 where
   pub entry : p.entry < nodes
   pub base : is_base_of rules is_main region p.base ≡ true
@@ -128,6 +130,8 @@ pub record IsProcedure (rules : Rules) (region : Region) (nodes : ℕ) (is_main 
   pub room : fits is_main region p.need ≡ true
   pub ranges : IsChain (IsRange region) after_range 0 p.ranges
   pub range_count : length p.ranges ≤ range_room rules is_main
+  pub kept : p.kept ≡ []
+  pub mark : p.mark ≡ 0
   pub exit : IfSome p.exit (IsState rules role.Exit region)
   pub main : (is_main && is_some p.exit) ≡ false
 
@@ -158,6 +162,7 @@ have_entries number (p ∷ ps) nodes = is_of number (slice_get nodes p.entry) &&
 
 -- ---- certificates
 
+-- Versions 1 to 3 have no facts.
 pub record IsCertificate (c : Certificate) : Type 0 where
   pub version : is_version c.version ≡ true
   pub region : IsRegion c.region
@@ -169,3 +174,4 @@ pub record IsCertificate (c : Certificate) : Type 0 where
   pub procedures : IsChain (IsProcedure (rules_of c.version) c.region (length c.nodes)) is_after true c.procedures
   pub nodes : IsChain (IsNode (rules_of c.version) c.region (length c.procedures)) key (0, 0) c.nodes
   pub entries : have_entries 0 c.procedures c.nodes ≡ true
+  pub facts : c.facts ≡ []

@@ -8,6 +8,7 @@ use Rattle.gb_domain.specs.declared.types.Val.{Val}
 use Rattle.gb_domain.specs.declared.types.May.{May}
 use Rattle.gb_domain.specs.declared.types.Flg.{Flg}
 use Rattle.gb_domain.specs.declared.types.ImeSet.{ImeSet}
+use Rattle.gb_domain.specs.declared.types.KeptBanks.{KeptBanks}
 use Rattle.gb_domain.specs.declared.types.Ctl.{Ctl}
 use Rattle.gb_domain.specs.declared.types.Core.{Core}
 use Rattle.gb_domain.specs.declared.types.Cell.{Cell}
@@ -69,15 +70,28 @@ own_number false = 0
 unfoldable pub flg : Flg → List ℕ
 flg f = flags_number f.zero f.subtract f.half_carry f.carry ∷ own_number f.is_own ∷ []
 
+-- by a number for what is kept
+abbrev pub ctl_by : (KeptBanks → ℕ) → Ctl → List ℕ
+ctl_by kept c = word c.bank_lo ++ (word c.bank_hi ++ (c.second_lo ∷ c.second_hi ∷ may_number c.gate ∷ may_number c.mode ∷ kept c.kept ∷ []))
+
+abbrev pub all_number : KeptBanks → ℕ
+all_number k = flag (are_all_kept k)
+
 unfoldable pub ctl : Ctl → List ℕ
-ctl c = word c.bank_lo ++ (word c.bank_hi ++ (c.second_lo ∷ c.second_hi ∷ may_number c.gate ∷ may_number c.mode ∷ flag (are_all_kept c.kept) ∷ []))
+ctl c = ctl_by all_number c
+
+abbrev pub vals_by : (Val → List ℕ) → Registers Val → List ℕ
+vals_by spell r = spell r.a ++ (spell r.b ++ (spell r.c ++ (spell r.d ++ (spell r.e ++ (spell r.h ++ spell r.l)))))
 
 unfoldable pub vals : Registers Val → List ℕ
-vals r = val r.a ++ (val r.b ++ (val r.c ++ (val r.d ++ (val r.e ++ (val r.h ++ val r.l)))))
+vals r = vals_by val r
 
 -- a core, and the test that stands in it
+abbrev pub core_by : (Ctl → List ℕ) → (Val → List ℕ) → (Registers Val → List ℕ) → Core → Option ℕ → List ℕ
+core_by spell_ctl spell_val spell_vals c t = (ime_number c.ime ∷ c.bound ∷ flag c.stack_set ∷ []) ++ (test t ++ (spell_ctl c.ctl ++ (flg c.flags ++ (spell_val c.ie ++ spell_vals c.registers))))
+
 unfoldable pub core : Core → Option ℕ → List ℕ
-core c t = (ime_number c.ime ∷ c.bound ∷ flag c.stack_set ∷ []) ++ (test t ++ (ctl c.ctl ++ (flg c.flags ++ (val c.ie ++ vals c.registers))))
+core c t = core_by ctl val vals c t
 
 unfoldable pub cell : Cell → List ℕ
 cell c = word c.address ++ val c.val

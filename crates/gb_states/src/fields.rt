@@ -1,7 +1,9 @@
 //! Reading the fields of a state, one after the other.
 
 ghost use Rattle.std.specs.Prelude.{◌≡◌, ◌+◌, ◌≤◌, ◌&&◌, ◌||◌, nat_le, length};
-ghost use Rattle.gb_fields.specs.Format.{Gives, mapped};
+ghost use Rattle.gb_fields.specs.declared.fault.CertFault.TheVariants.{Field};
+ghost use Rattle.gb_fields.specs.Format.{Gives, both, mapped, checked, byte};
+ghost use Rattle.gb_fields.specs.Reading.{is_ordered, word_between};
 ghost use Rattle.gb_domain.specs.Rules.{has_value};
 ghost use Rattle.gb_states.specs.Checked.{val_in, flg_in, ctl_in, vals_in, core_in, test_in, are_none};
 ghost use Rattle.gb_states.specs.Reading.{passed, to_may, to_ime, origin_of, origin_at, val_at, may_at, ime_at, test_at, flg_at, ctl_at, vals_at, core_at};
@@ -64,7 +66,7 @@ pub fn val_at(rules: Rules, bytes: &[u8]) -> Result<(Val, &[u8]), CertFault>
 
 #[inline(always)]
 #[tactic(auto, unfolding(crate::specs::Reading::may_at))]
-fn may_at(bytes: &[u8]) -> Result<(May, &[u8]), CertFault>
+pub(crate) fn may_at(bytes: &[u8]) -> Result<(May, &[u8]), CertFault>
     ensures { Gives (λ x. (x.0, x.1.now)) result (may_at bytes.now) }
 {
     let (bits, rest) = byte_between(1, 3, bytes)?;
@@ -77,7 +79,7 @@ fn may_at(bytes: &[u8]) -> Result<(May, &[u8]), CertFault>
 
 #[inline(always)]
 #[tactic(auto, unfolding(crate::specs::Reading::ime_at))]
-fn ime_at(bytes: &[u8]) -> Result<(ImeSet, &[u8]), CertFault>
+pub(crate) fn ime_at(bytes: &[u8]) -> Result<(ImeSet, &[u8]), CertFault>
     ensures { Gives (λ x. (x.0, x.1.now)) result (ime_at bytes.now) }
 {
     let (bits, rest) = byte_between(1, 7, bytes)?;
@@ -91,7 +93,7 @@ fn ime_at(bytes: &[u8]) -> Result<(ImeSet, &[u8]), CertFault>
 
 #[inline(always)]
 #[tactic(auto, unfolding(crate::specs::Reading::test_at))]
-fn test_at(bytes: &[u8]) -> Result<(Option<u8>, &[u8]), CertFault>
+pub(crate) fn test_at(bytes: &[u8]) -> Result<(Option<u8>, &[u8]), CertFault>
     ensures { Gives (λ x. (x.0, x.1.now)) result (test_at bytes.now) }
 {
     let (is_there, rest) = yes_no(bytes)?;
@@ -114,7 +116,7 @@ fn has_value(may: May) -> bool
 
 #[inline(always)]
 #[tactic(auto, unfolding(crate::specs::Reading::flg_at))]
-fn flg_at(bytes: &[u8]) -> Result<(Flg, &[u8]), CertFault>
+pub(crate) fn flg_at(bytes: &[u8]) -> Result<(Flg, &[u8]), CertFault>
     ensures { Gives (λ x. (x.0, x.1.now)) result (flg_at bytes.now) }
 {
     let (bits, rest) = byte(bytes)?;
@@ -151,21 +153,39 @@ fn flg_at(bytes: &[u8]) -> Result<(Flg, &[u8]), CertFault>
     Ok((flags, rest))
 }
 
+/// The least and the greatest bank.
+#[inline(always)]
+pub(crate) fn banks_at(bytes: &[u8]) -> Result<((u16, u16), &[u8]), CertFault>
+    ensures { Gives (λ x. (x.0, x.1.now)) result (checked Field is_ordered (both (word_between 0 511) (word_between 0 511)) bytes.now) }
+{
+    let (lo, rest) = word_between(0, 511, bytes)?;
+    let (hi, rest) = word_between(0, 511, rest)?;
+    if lo > hi {
+        return Err(CertFault::Field);
+    }
+    Ok(((lo, hi), rest))
+}
+
+/// Two bytes in order.
+#[inline(always)]
+pub(crate) fn ordered_at(bytes: &[u8]) -> Result<((u8, u8), &[u8]), CertFault>
+    ensures { Gives (λ x. (x.0, x.1.now)) result (checked Field is_ordered (both byte byte) bytes.now) }
+{
+    let (lo, rest) = byte(bytes)?;
+    let (hi, rest) = byte(rest)?;
+    if lo > hi {
+        return Err(CertFault::Field);
+    }
+    Ok(((lo, hi), rest))
+}
+
 #[inline(always)]
 #[tactic(auto, unfolding(crate::specs::Reading::ctl_at))]
 fn ctl_at(bytes: &[u8]) -> Result<(Ctl, &[u8]), CertFault>
     ensures { Gives (λ x. (x.0, x.1.now)) result (ctl_at bytes.now) }
 {
-    let (bank_lo, rest) = word_between(0, 511, bytes)?;
-    let (bank_hi, rest) = word_between(0, 511, rest)?;
-    if bank_lo > bank_hi {
-        return Err(CertFault::Field);
-    }
-    let (second_lo, rest) = byte(rest)?;
-    let (second_hi, rest) = byte(rest)?;
-    if second_lo > second_hi {
-        return Err(CertFault::Field);
-    }
+    let ((bank_lo, bank_hi), rest) = banks_at(bytes)?;
+    let ((second_lo, second_hi), rest) = ordered_at(rest)?;
     let (gate, rest) = may_at(rest)?;
     let (mode, rest) = may_at(rest)?;
     let (is_kept, rest) = yes_no(rest)?;

@@ -5,7 +5,7 @@ ghost use Rattle.gb_fields.specs.Format.{Gives, optional, byte};
 ghost use Rattle.gb_domain.specs.Pairs.{nothing_known};
 ghost use Rattle.gb_domain.specs.Places.{no_byte};
 ghost use Rattle.gb_domain.specs.RelationRules.{is_known, compared_a, test_alone};
-ghost use Rattle.gb_states.specs.RelationReading.{defaulted, is_present, present_at, registers_at, address_at, test_of, byte_at, pair_of, pair_at, bounds_at, other_of, other_at, factor_at, link_of, link_at, facts_at, pairs_at, relations_at, relations_by};
+ghost use Rattle.gb_states.specs.RelationReading.{defaulted, is_present, present_at, to_registers, registers_at, address_at, test_of, byte_at, pair_of, pair_at, bounds_at, other_of, other_at, factor_at, link_of, link_at, facts_at, pairs_at, parts_at, relations_at, relations_by};
 
 use crate::states::is_free;
 use gb_domain::pairs::{Bounds, Link, NOTHING_KNOWN, Other, PairFacts, Pairs, WordPair};
@@ -45,7 +45,7 @@ fn is_present(test: Option<u8>, present: Present) -> bool
 }
 
 #[tactic(auto, unfolding(crate::specs::RelationReading::present_at))]
-fn present_at(test: Option<u8>, bytes: &[u8]) -> Result<(Present, &[u8]), CertFault>
+pub(crate) fn present_at(test: Option<u8>, bytes: &[u8]) -> Result<(Present, &[u8]), CertFault>
     ensures { Gives (λ x. (x.0, x.1.now)) result (present_at test bytes.now) }
 {
     let (number, rest) = byte_between(0, 127, bytes)?;
@@ -66,13 +66,12 @@ fn present_at(test: Option<u8>, bytes: &[u8]) -> Result<(Present, &[u8]), CertFa
 
 // ---- places that hold one byte
 
-/// The registers among the places, one at least where there is no address.
-#[tactic(auto, unfolding(crate::specs::RelationReading::registers_at))]
-fn registers_at(address: bool, bytes: &[u8]) -> Result<(Registers<bool>, &[u8]), CertFault>
-    ensures { Gives (λ x. (x.0, x.1.now)) result (registers_at address bytes.now) }
+/// Which registers are among the places, by bits 0 to 6.
+#[inline(always)]
+pub(crate) fn to_registers(number: u8) -> Registers<bool>
+    ensures { result ≡ to_registers number }
 {
-    let (number, rest) = byte_between(0, 127, bytes)?;
-    let registers = Registers {
+    Registers {
         a: number % 2 == 1,
         b: number / 2 % 2 == 1,
         c: number / 4 % 2 == 1,
@@ -80,7 +79,16 @@ fn registers_at(address: bool, bytes: &[u8]) -> Result<(Registers<bool>, &[u8]),
         e: number / 16 % 2 == 1,
         h: number / 32 % 2 == 1,
         l: number / 64 == 1,
-    };
+    }
+}
+
+/// The registers among the places, one at least where there is no address.
+#[tactic(auto, unfolding(crate::specs::RelationReading::registers_at))]
+fn registers_at(address: bool, bytes: &[u8]) -> Result<(Registers<bool>, &[u8]), CertFault>
+    ensures { Gives (λ x. (x.0, x.1.now)) result (registers_at address bytes.now) }
+{
+    let (number, rest) = byte_between(0, 127, bytes)?;
+    let registers = to_registers(number);
     if !(address || is_some_register(&registers)) {
         return Err(CertFault::Field);
     }
@@ -88,7 +96,7 @@ fn registers_at(address: bool, bytes: &[u8]) -> Result<(Registers<bool>, &[u8]),
 }
 
 #[tactic(auto, unfolding(crate::specs::RelationReading::address_at))]
-fn address_at(region: Region, bytes: &[u8]) -> Result<(u16, &[u8]), CertFault>
+pub(crate) fn address_at(region: Region, bytes: &[u8]) -> Result<(u16, &[u8]), CertFault>
     ensures { Gives (λ x. (x.0, x.1.now)) result (address_at region bytes.now) }
 {
     let (address, rest) = word(bytes)?;
@@ -109,7 +117,7 @@ fn test_of(test: Option<u8>, bits: Option<u8>) -> Option<Test>
 }
 
 /// The address among the places, where it is there.
-fn address_where(
+pub(crate) fn address_where(
     there: bool,
     region: Region,
     bytes: &[u8],
@@ -202,7 +210,7 @@ fn zero_where(there: bool, bytes: &[u8]) -> Result<(Option<WordPair>, &[u8]), Ce
 }
 
 #[tactic(auto, unfolding(crate::specs::RelationReading::bounds_at))]
-fn bounds_at(bytes: &[u8]) -> Result<(Bounds, &[u8]), CertFault>
+pub(crate) fn bounds_at(bytes: &[u8]) -> Result<(Bounds, &[u8]), CertFault>
     ensures { Gives (λ x. (x.0, x.1.now)) result (bounds_at bytes.now) }
 {
     let (first, rest) = word(bytes)?;
@@ -318,6 +326,24 @@ fn pairs_at(present: Present, bytes: &[u8]) -> Result<(Pairs, &[u8]), CertFault>
 
 // ---- all of them
 
+/// One byte's places, what is zero, and the pairs.
+pub(crate) type Parts = (OneByte, (Option<WordPair>, Pairs));
+
+/// Those parts that there are; the test is the state's.
+pub(crate) fn parts_at(
+    region: Region,
+    test: Option<u8>,
+    present: Present,
+    bytes: &[u8],
+) -> Result<(Parts, &[u8]), CertFault>
+    ensures { Gives (λ x. (x.0, x.1.now)) result (parts_at region test present bytes.now) }
+{
+    let (byte, rest) = byte_where(region, test, present, bytes)?;
+    let (zero, rest) = zero_where(present.zero, rest)?;
+    let (pairs, rest) = pairs_at(present, rest)?;
+    Ok(((byte, (zero, pairs)), rest))
+}
+
 /// What is known of several parts of a state together; the test is the state's.
 #[inline(never)]
 #[tactic(auto, unfolding(crate::specs::RelationReading::relations_at))]
@@ -329,9 +355,7 @@ pub fn relations_at(
     ensures { Gives (λ x. (x.0, x.1.now)) result (relations_at region test bytes.now) }
 {
     let (present, rest) = present_at(test, bytes)?;
-    let (byte, rest) = byte_where(region, test, present, rest)?;
-    let (zero, rest) = zero_where(present.zero, rest)?;
-    let (pairs, rest) = pairs_at(present, rest)?;
+    let ((byte, (zero, pairs)), rest) = parts_at(region, test, present, rest)?;
     Ok((Relations { byte, zero, pairs }, rest))
 }
 

@@ -12,6 +12,7 @@ use crate::fields::{core_at, val_at};
 use crate::relations::relations_by;
 use crate::role::Role;
 use arrayvec::ArrayVec;
+use gb_domain::summary::Summary;
 use gb_domain::types::{Abs, Cell, Range, Rules, Val};
 use gb_fields::CertFault;
 use gb_fields::limits::{cell_limit, item_bytes, item_limit, range_room};
@@ -149,7 +150,8 @@ pub fn state_at(
     let (items, rest) = items_at(rules, role, core.stack_set, rest)?;
     let (relations, rest) = relations_by(rules, region, test, rest)?;
     let (cells, rest) = cells_at(rules, region, rest)?;
-    Ok((Abs::of_parts(core, items, cells, relations), rest))
+    let state = Abs::of_all_parts(core, items, cells, relations, Summary::none());
+    Ok((state, rest))
 }
 
 /// A range, its first address from the least one on.

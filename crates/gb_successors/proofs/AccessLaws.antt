@@ -1,5 +1,5 @@
 -- Reads and writes of an instruction that nothing refuses: no fault, and what is known of them is what happens.
-use Rattle.std.proofs.Common.{◌≡◌, ℕ, ◌%◌, ◌/◌, ◌≤◌, ◌<◌, Bool, true, false, not, ◌&&◌, ◌||◌, ◌==◌, nat_le, ◌⊎◌, List, length, slice_index, refl, sym, ◌∙◌, ap, subst, arith}
+use Rattle.std.proofs.Common.{◌≡◌, ℕ, ◌+◌, ◌%◌, ◌/◌, ◌≤◌, ◌<◌, Bool, true, false, not, ◌&&◌, ◌||◌, ◌==◌, nat_le, ◌⊎◌, List, length, slice_index, refl, sym, ◌∙◌, ap, subst, arith}
 use Rattle.std.proofs.lemmas.Bool.{not-false, eqb-true}
 use Rattle.std.proofs.lemmas.Bool.Decides.{nat_tests}
 use Rattle.gb_ops.specs.declared.machine.Region.{Region}
@@ -33,15 +33,15 @@ use Rattle.gb_product.specs.Below.gb_abs_effects.declared.reads.AbsRead.TheVaria
 use Rattle.gb_product.specs.Below.gb_abs_effects.declared.writes.AbsWrite.{AbsWrite}
 use Rattle.gb_product.specs.Below.gb_abs_effects.declared.writes.AbsWrite.TheVariants as write
 use Rattle.gb_product.specs.Below.gb_abs_effects.Sound.{HoldsRead, HoldsWrite, IsWrite}
-use Rattle.gb_abs_memory.specs.declared.store.Stored.{Stored}
-use Rattle.gb_abs_memory.specs.Access.{is_storable, may_be_closed, meets_closed_ram, may_copy_closed_ram, store_meets_closed_ram, is_limited, is_store_limited, stored_state, starts_oam_transfer}
-use Rattle.gb_abs_memory.specs.Sound.{IsRom, IsStored, view}
-use Rattle.gb_abs_memory.proofs.LoadLaws.{IsLoaded-loaded_val}
-use Rattle.gb_abs_memory.proofs.StoreLaws.{IsSoundStore-stored_state, stored-view}
-use Rattle.gb_abs_memory.proofs.AfterStoreLaws.{is_store_limited-stored, store_meets_closed_ram-stored}
+use Rattle.gb_code.specs.Below.gb_abs_memory.declared.store.Stored.{Stored}
+use Rattle.gb_code.specs.Below.gb_abs_memory.Access.{is_storable, may_be_closed, meets_closed_ram, may_copy_closed_ram, store_meets_closed_ram, is_limited, is_store_limited, stored_state, starts_oam_transfer}
+use Rattle.gb_code.specs.Below.gb_abs_memory.Sound.{IsRom, IsStored, view}
+use Rattle.gb_code.proofs.Below.gb_abs_memory_laws.LoadLaws.{IsLoaded-loaded_val}
+use Rattle.gb_code.proofs.Below.gb_abs_memory_laws.StoreLaws.{IsSoundStore-stored_state, stored-view}
+use Rattle.gb_code.proofs.Below.gb_abs_memory_laws.AfterStoreLaws.{is_store_limited-stored, store_meets_closed_ram-stored}
 use Rattle.gb_successors.specs.Behind.{read_word, behind, written, starts}
 use Rattle.gb_successors.specs.Refused.{is_unstorable, reads_closed_ram, writes_closed_ram, is_stack_limited, is_read_limited, is_write_limited}
-use Rattle.gb_abs_memory.specs.Kept.{IsKept}
+use Rattle.gb_code.specs.Below.gb_abs_memory.Kept.{IsKept}
 use Rattle.gb_product.specs.Below.gb_relations.Sound.{Writes}
 use Rattle.gb_successors.proofs.RamLaws.{ram_at, ram_same, differs, wrote_ram}
 use Rattle.gb_successors.proofs.PlainLaws.{Keeps, IsPlainRead, IsPlainWrite}
@@ -121,6 +121,12 @@ Loads-read z rom region s entry base x reads sp (read.Byte span) (machine_read.W
 
 -- ---- writes
 
+-- a word is written a byte at a time, the low one first
+abbrev pub WritesInTurn : Region → Write → (ℕ → ℕ) → (ℕ → ℕ) → Type 0
+WritesInTurn region (machine_write.Word a w) memory after =
+    (middle : ℕ → ℕ) × Writes region (machine_write.Byte a (w % 256)) memory middle × Writes region (machine_write.Byte ((a + 1) % 65536) (w / 256)) middle after
+WritesInTurn region w memory after = Writes region w memory after
+
 -- what an instruction writes, without a fault
 pub record Stores (z : Setting) (rom : List ℕ) (region : Region) (ranges : List Range) (s : AbsState) (w : AbsWrite) (entry : Activation) (base : ℕ) (x : MState) (m : View) (mw : Write) : Type 0 where
   pub means : MeansParts (written z region (kind_of rom) w s) entry base (record x { storage = (stored m mw).storage })
@@ -130,6 +136,7 @@ pub record Stores (z : Setting) (rom : List ℕ) (region : Region) (ranges : Lis
   pub faults : store_faults region m mw ≡ no_faults
   pub kept : (b : ℕ) → IsKept z region ranges base b → peek (stored m mw).storage b ≡ peek x.storage b
   pub writes : Writes region mw (ram_at x.storage) (ram_at (stored m mw).storage)
+  pub in_turn : WritesInTurn region mw (ram_at x.storage) (ram_at (stored m mw).storage)
 
 -- the state at a store, and where it may be
 pub record AtWrite (z : Setting) (region : Region) (s : AbsState) (entry : Activation) (base : ℕ) (x : MState) : Type 0 where
@@ -184,6 +191,10 @@ Stores-byte z rom region ranges s span v entry base x a n w storable ram limited
         λ ram. wrote_ram (view rom x false) a n w.means.memory ram le st.faults,
         λ b ne. ram_same x.storage _ b (λ ram. st.others b ram (differs b a ne)),
       );
+      in_turn = (
+        λ ram. wrote_ram (view rom x false) a n w.means.memory ram le st.faults,
+        λ b ne. ram_same x.storage _ b (λ ram. st.others b ram (differs b a ne)),
+      );
     }
 
 word_byte : (v : Val) (entry : Activation) (n : ℕ) → IsVal v → Holds v entry n → n ≤ 255
@@ -233,6 +244,21 @@ Stores-word z rom region ranges s a low high entry base x n w here there ram_her
           (λ ram.
           ap (λ (m : View). peek (wrote m (behind a) (n / 256)).storage b) seen
           ∙ (second.others b ram (differs b (behind a) more) ∙ first.others b ram (differs b a ne)));
+      in_turn = (
+        ram_at y.storage,
+        (
+          λ ram. wrote_ram (view rom x false) a (n % 256) w.means.memory ram (word_byte low entry _ is_low l) first.faults,
+          λ b ne. ram_same x.storage y.storage b (λ ram. first.others b ram (differs b a ne)),
+        ),
+        (
+          λ ram.
+              ap (λ (m : View). ram_at (wrote m (behind a) (n / 256)).storage (behind a)) seen
+              ∙ wrote_ram (view rom y begun) (behind a) (n / 256) first.means.memory ram (word_byte high entry _ is_high h) second.faults,
+          λ b ne.
+              ram_same y.storage _ b
+              (λ ram. ap (λ (m : View). peek (wrote m (behind a) (n / 256)).storage b) seen ∙ second.others b ram (differs b (behind a) ne)),
+        ),
+      );
     }
 
 pub Stores-write :
@@ -241,7 +267,7 @@ pub Stores-write :
     → Stores z rom region ranges s w entry base x (view rom x false) mw
 unfolding written starts stored store_faults is_unstorable writes_closed_ram is_write_limited
 Stores-write z rom region ranges s entry base x sp write.Nothing machine_write.Nothing at plain is h allowed ram limited =
-    record { means = at.means; count = refl; items = λ e. refl; starting = refl; faults = refl; kept = λ b k. refl; writes = λ b. refl }
+    record { means = at.means; count = refl; items = λ e. refl; starting = refl; faults = refl; kept = λ b k. refl; writes = λ b. refl; in_turn = λ b. refl }
 Stores-write z rom region ranges s entry base x sp (write.Byte span v) (machine_write.Byte a n) at plain is h allowed ram limited =
     Stores-byte z rom region ranges s span v entry base x a n at (not-false _ allowed) ram limited h.0 (in_span span a h.0 plain) h.1 h.2
 Stores-write z rom region ranges s entry base x sp (write.Word a low high) (machine_write.Word b n) at plain is h allowed ram limited =

@@ -22,7 +22,12 @@ use Rattle.gb_domain.specs.declared.types.Range.{Range}
 use Rattle.gb_domain.specs.declared.types.Val.{Val}
 use Rattle.gb_domain.specs.Pairs.{ArePairs}
 use Rattle.gb_domain.specs.Rules.{IsCore}
+use Rattle.gb_domain.specs.Limits.{cell_room}
+use Rattle.gb_domain.specs.Summaries.{SummaryParts, Program}
 use Rattle.gb_domain.specs.Types.{AbsState}
+use Rattle.gb_product.specs.Below.gb_summaries.Meaning.{HoldSummary}
+use Rattle.gb_product.specs.Below.gb_abs.Cells.{with_cell}
+use Rattle.gb_product.specs.Below.gb_abs_effects.declared.writes.AbsWrite.{AbsWrite}
 use Rattle.gb_product.specs.Below.gb_abs.Located.{sp_halves, sp_bounds}
 use Rattle.gb_product.specs.Below.gb_abs.Meaning.{Activation, MeansCore, MeansParts}
 use Rattle.gb_product.specs.Below.gb_abs.Operations.{core_settle, with_core}
@@ -36,7 +41,7 @@ use Rattle.gb_product.specs.Below.gb_abs_effects.declared.targets.Target.{Target
 use Rattle.gb_product.specs.Below.gb_abs_effects.declared.targets.Target.TheVariants as target
 use Rattle.gb_product.specs.Below.gb_abs_effects.Accesses.{read_of}
 use Rattle.gb_product.specs.Below.gb_abs_effects.Transfer.{transfer}
-use Rattle.gb_abs_memory.specs.Kept.{IsKept}
+use Rattle.gb_code.specs.Below.gb_abs_memory.Kept.{IsKept}
 use Rattle.gb_product.specs.declared.parts.Branch.{Branch}
 use Rattle.gb_product.specs.declared.parts.Product.{Product}
 use Rattle.gb_product.specs.Below.gb_pairs.Meaning.{AreBytes}
@@ -55,19 +60,22 @@ use Rattle.gb_successors.specs.Behind.{ended, with_cell_if, moved_state}
 use Rattle.gb_successors.specs.Refined.{cut_read, cut_write, refined}
 use Rattle.gb_successors.specs.Refused.{meets_closed, meets_oam_transfer}
 use Rattle.gb_successors.specs.Stacks.{extended, stack_move}
+use Rattle.gb_successors.specs.Summaries.{summary_by}
 use Rattle.gb_successors.specs.Way.{Successor}
-use Rattle.gb_successors.specs.Successors.{pointer_in, word_in, effect_in, taken_move, taken_parts, related_successor, relations_behind, taken_successor, untaken_successor, with_product, reduced_successor, product_before, taken_from, not_taken_from, successors_of}
+use Rattle.gb_successors.specs.Successors.{pointer_in, word_in, effect_in, taken_move, taken_parts, related_successor, relations_behind, said_successor, summary_behind, taken_successor, untaken_successor, with_product, reduced_successor, product_before, taken_from, not_taken_from, successors_of}
 use Rattle.gb_successors.specs.Sound.{IsReady, IsAllowed, IsFound, IsStackFit, bytes_moved, IsHeld, IsStackRuled, is_followed, LeadsWidely, LeadsTo, Leads, Stands, IsRuled, Executes}
 use Rattle.gb_successors.proofs.SimpleLaws.{behind_row, IsTold, same_word, same_sp}
 use Rattle.gb_successors.proofs.ToldLaws.{told_core, told_items, IsToldCell, IsToldCell-side, Stands-told, IsAllowed-told, IsTold-taken}
 use Rattle.gb_successors.proofs.PlainLaws.{Keeps, Keeps-both, Keeps-settle, Keeps-cut}
 use Rattle.gb_successors.proofs.MarkLaws.{executed_mark}
+use Rattle.gb_successors.proofs.SaidLaws.{LeadsRelated, Leads-summarized, Leads-said}
+use Rattle.gb_successors.proofs.SummaryLaws.{said_holds}
 use Rattle.gb_successors.proofs.RelatedLaws.{MeansParts-related, related_begun, IsCore-ended}
 use Rattle.gb_successors.proofs.SuccessorLaws.{begun, begun_core, given, effect, executed_is, left_by}
 use Rattle.gb_successors.proofs.UntakenLaws.{simple_untaken, untaken_simply, untaken_executes, side_facts}
 use Rattle.gb_successors.proofs.Situations.{Situation, acted_at, given_at, left_at, move_at, parts_at, related_at, IsTakenIn}
 use Rattle.gb_successors.proofs.LandingLaws.{given_by}
-use Rattle.gb_successors.proofs.LedLaws.{DoneAt, done_at}
+use Rattle.gb_successors.proofs.LedLaws.{IsAllowedAt, DoneAt, done_at}
 use Rattle.gb_successors.proofs.PossibleLaws.{some_reduced, possible, pairs_behind, bytes_behind_it}
 
 -- ---- the states behind, reduced
@@ -143,7 +151,7 @@ pub Leads-narrowed :
     (z : Setting) (region : Region) (ranges : List Range) (t : Successor) (p : Product) (entry : Activation) (base : ℕ) (x y : MState) → z.rules ≡ Extended → reduced z.rules t.state.core t.state.relations ≡ Some p
     → ArePairs t.state.relations.pairs → AreBytes y.processor.registers → AreRelated t.state.relations y
     → LeadsWidely z region t.target t entry base y → ((b : ℕ) → IsKept z region ranges base b → peek y.storage b ≡ peek x.storage b)
-    → Leads z region ranges (with_product t p) entry base x y
+    → LeadsRelated z region ranges (with_product t p) entry base x y
 Leads-narrowed z region ranges t p entry base x y extended e are bytes related to kept =
     record {
       to = to_widely z region t.target (with_product t p) entry base x y extended (LeadsWidely-narrowed z region t.target t p entry base y e are bytes related to);
@@ -284,18 +292,18 @@ some_of None h = cc
 -- ---- executed
 
 stack_ruled :
-    (k : Stack) (rom : List ℕ) (row : Row) (a : ℕ) (s : AbsState) (base : ℕ) (p : Product) (t : Successor) → k.setting.rules ≡ Extended → product_before k.setting.rules s ≡ Some p
-    → (successors_of k rom row a s).taken ≡ Some t → IsRuled k rom row a s base → IsReady k row.op (taken_move k rom row (behind_row a row) s p) s base
-stack_ruled k rom row a s base p t e is way h =
-    let ruled : IsStackRuled Extended k rom row a s base = subst (λ r. IsStackRuled r k rom row a s base) e h.stack in
+    (k : Stack) (program : Program) (rom : List ℕ) (row : Row) (a : ℕ) (s : AbsState) (base : ℕ) (p : Product) (t : Successor) → k.setting.rules ≡ Extended → product_before k.setting.rules s ≡ Some p
+    → (successors_of k program rom row a s).taken ≡ Some t → IsRuled k program rom row a s base → IsReady k row.op (taken_move k rom row (behind_row a row) s p) s base
+stack_ruled k program rom row a s base p t e is way h =
+    let ruled : IsStackRuled Extended k program rom row a s base = subst (λ r. IsStackRuled r k program rom row a s base) e h.stack in
     ruled (ap is_some way) p (subst (λ r. product_before r s ≡ Some p) e is)
 
 -- as many are held as the move leaves
 held_taken :
-    (k : Stack) (rom : List ℕ) (row : Row) (a : ℕ) (s : AbsState) (t : Successor) (p : Product) → k.setting.rules ≡ Extended → product_before k.setting.rules s ≡ Some p
-    → (successors_of k rom row a s).taken ≡ Some t → length t.state.items ≡ bytes_moved (taken_move k rom row (behind_row a row) s p) (length s.items) → IsHeld k.setting.rules k rom row a s t
-held_taken k rom row a s t p e is way h =
-    subst (λ r. IsHeld r k rom row a s t) (sym e)
+    (k : Stack) (program : Program) (rom : List ℕ) (row : Row) (a : ℕ) (s : AbsState) (t : Successor) (p : Product) → k.setting.rules ≡ Extended → product_before k.setting.rules s ≡ Some p
+    → (successors_of k program rom row a s).taken ≡ Some t → length t.state.items ≡ bytes_moved (taken_move k rom row (behind_row a row) s p) (length s.items) → IsHeld k.setting.rules k program rom row a s t
+held_taken k program rom row a s t p e is way h =
+    subst (λ r. IsHeld r k program rom row a s t) (sym e)
     (inr (
       way,
       λ q same.
@@ -305,32 +313,32 @@ held_taken k rom row a s t p e is way h =
     same_product : (p q : Product) → Some p ≡ Some q → p ≡ q
     same_product p q f = cc
 
-held_as_before : (k : Stack) (rom : List ℕ) (row : Row) (a : ℕ) (s : AbsState) (t : Successor) → k.setting.rules ≡ Extended → length t.state.items ≡ length s.items → IsHeld k.setting.rules k rom row a s t
-held_as_before k rom row a s t e h = subst (λ r. IsHeld r k rom row a s t) (sym e) (inl h)
+held_as_before : (k : Stack) (program : Program) (rom : List ℕ) (row : Row) (a : ℕ) (s : AbsState) (t : Successor) → k.setting.rules ≡ Extended → length t.state.items ≡ length s.items → IsHeld k.setting.rules k program rom row a s t
+held_as_before k program rom row a s t e h = subst (λ r. IsHeld r k program rom row a s t) (sym e) (inl h)
 
 IsAllowed-with_product :
-    (z : Setting) (rom : List ℕ) (region : Region) (ranges : List Range) (s : AbsState) (base : ℕ) (r : Relations) (p : Product) (t : Successor) → z.rules ≡ Extended
-    → IsAllowed z rom region ranges s base (with_product (related_successor r t) p) → IsAllowed z rom region ranges s base t
+    (z : Setting) (rom : List ℕ) (region : Region) (ranges : List Range) (s : AbsState) (base : ℕ) (m : SummaryParts) (r : Relations) (p : Product) (t : Successor) → z.rules ≡ Extended
+    → IsAllowed z rom region ranges s base (with_product (said_successor m (related_successor r t)) p) → IsAllowed z rom region ranges s base t
 unfolding meets_closed meets_oam_transfer
-IsAllowed-with_product z rom region ranges s base r p t e h =
-    let found : IsFound t.target = subst (λ q. IsStackFit q region t.target s (with_product (related_successor r t) p) base) e h.stack in
+IsAllowed-with_product z rom region ranges s base m r p t e h =
+    let found : IsFound t.target = subst (λ q. IsStackFit q region t.target s (with_product (said_successor m (related_successor r t)) p) base) e h.stack in
     record { stores = h.stores; ram = h.ram; oam_transfer = h.oam_transfer; stack = subst (λ q. IsStackFit q region t.target s t base) (sym e) found }
 
 pub taken_way :
-    (k : Stack) (rom : List ℕ) (row : Row) (a : ℕ) (s : AbsState) (p : Product) (b : Branch) (t : Successor) → product_before k.setting.rules s ≡ Some p
-    → taken_side row.op s.cells p.core p.relations ≡ Some b → reduced_successor k.setting.rules (taken_successor k rom row (behind_row a row) s b) ≡ Some t
-    → (successors_of k rom row a s).taken ≡ Some t
+    (k : Stack) (program : Program) (rom : List ℕ) (row : Row) (a : ℕ) (s : AbsState) (p : Product) (b : Branch) (t : Successor) → product_before k.setting.rules s ≡ Some p
+    → taken_side row.op s.cells p.core p.relations ≡ Some b → reduced_successor k.setting.rules (taken_successor k program rom row (behind_row a row) s b) ≡ Some t
+    → (successors_of k program rom row a s).taken ≡ Some t
 unfolding successors_of
-taken_way k rom row a s p b t before side is =
-    ap (option_and_then (taken_from k rom row (behind_row a row) s)) before
-    ∙ (ap (option_and_then (λ (c : Branch). reduced_successor k.setting.rules (taken_successor k rom row (behind_row a row) s c))) side ∙ is)
+taken_way k program rom row a s p b t before side is =
+    ap (option_and_then (taken_from k program rom row (behind_row a row) s)) before
+    ∙ (ap (option_and_then (λ (c : Branch). reduced_successor k.setting.rules (taken_successor k program rom row (behind_row a row) s c))) side ∙ is)
 
 untaken_way :
-    (k : Stack) (rom : List ℕ) (row : Row) (a : ℕ) (s : AbsState) (p : Product) (b : Branch) (t : Successor) → product_before k.setting.rules s ≡ Some p
+    (k : Stack) (program : Program) (rom : List ℕ) (row : Row) (a : ℕ) (s : AbsState) (p : Product) (b : Branch) (t : Successor) → product_before k.setting.rules s ≡ Some p
     → not_taken_side row.op s.cells p.core p.relations ≡ Some b → reduced_successor k.setting.rules (untaken_successor k row (behind_row a row) s b) ≡ Some t
-    → (successors_of k rom row a s).not_taken ≡ Some t
+    → (successors_of k program rom row a s).not_taken ≡ Some t
 unfolding successors_of
-untaken_way k rom row a s p b t before side is =
+untaken_way k program rom row a s p b t before side is =
     ap (option_and_then (not_taken_from k row (behind_row a row) s)) before
     ∙ (ap (option_and_then (λ (c : Branch). reduced_successor k.setting.rules (untaken_successor k row (behind_row a row) s c))) side ∙ is)
 
@@ -339,14 +347,31 @@ unfolding reduced_successor
 reduced_way rules t p e = ap (option_map (with_product t)) e
 
 -- the successor by its parts
+summary_told :
+    (k : Stack) (program : Program) (o : Op) (s : AbsState) (p : Product) (what : AbsWrite) (cells : List Cell) (cell : Option Cell)
+    → summary_by k.setting.rules k program o s p what cells ≡ summary_by k.setting.rules k program o (with_cell_if k.setting cell s) p what cells
+unfolding with_cell_if sp_bounds summary_by
+summary_told k program o s p what cells None = refl
+summary_told k program o s p what cells (Some c) = by k.setting.rules
+  where
+    by : (r : Rules) → summary_by r k program o s p what cells ≡ summary_by r k program o (record s { cells = with_cell (cell_room k.setting.rules) c s.cells }) p what cells
+    by Simple = refl
+    by Extended = refl
+
 taken_told :
-    (k : Stack) (rom : List ℕ) (row : Row) (next : ℕ) (s : AbsState) (b : Branch) → IsTold b.cell (read_of row.op b.core)
-    → taken_successor k rom row next s b
-    ≡ related_successor (relations_behind k rom row.op (with_cell_if k.setting b.cell s) (product_of b.core b.relations)) (taken_parts k rom row next (with_cell_if k.setting b.cell s) (product_of b.core b.relations) None)
-unfolding taken_successor
-taken_told k rom row next s b told =
-    ap (λ r. related_successor r (taken_parts k rom row next s (product_of b.core b.relations) b.cell)) (relations_told k rom row.op s (product_of b.core b.relations) b.cell told)
-    ∙ ap (related_successor (relations_behind k rom row.op (with_cell_if k.setting b.cell s) (product_of b.core b.relations))) (parts_told k rom row next s (product_of b.core b.relations) b.cell told)
+    (k : Stack) (program : Program) (rom : List ℕ) (row : Row) (next : ℕ) (s : AbsState) (b : Branch) → IsTold b.cell (read_of row.op b.core)
+    → taken_successor k program rom row next s b
+    ≡ said_successor
+    (summary_behind k program row.op (with_cell_if k.setting b.cell s) (product_of b.core b.relations) (taken_parts k rom row next (with_cell_if k.setting b.cell s) (product_of b.core b.relations) None))
+    (related_successor (relations_behind k rom row.op (with_cell_if k.setting b.cell s) (product_of b.core b.relations)) (taken_parts k rom row next (with_cell_if k.setting b.cell s) (product_of b.core b.relations) None))
+unfolding taken_successor summary_behind
+taken_told k program rom row next s b told =
+    let p = product_of b.core b.relations in
+    let after = with_cell_if k.setting b.cell s in
+    let t = taken_parts k rom row next after p None in
+    ap (λ (u : Successor). said_successor (summary_by k.setting.rules k program row.op s p u.write u.state.cells) (related_successor (relations_behind k rom row.op s p) u)) (parts_told k rom row next s p b.cell told)
+    ∙ (ap (λ r. said_successor (summary_by k.setting.rules k program row.op s p t.write t.state.cells) (related_successor r t)) (relations_told k rom row.op s p b.cell told)
+    ∙ ap (λ m. said_successor m (related_successor (relations_behind k rom row.op after p) t)) (summary_told k program row.op s p t.write t.state.cells b.cell))
 
 -- the machine behind it
 executed_at : (c : Situation) → IsTakenIn c → outside (executed (within c.rom c.machine) c.row c.reads) ≡ left_at c
@@ -355,7 +380,7 @@ executed_at c k = executed_is c.rom c.machine c.row c.reads ∙ ap (left_by c.ro
 -- an instruction that is taken leads by the successor, reduced
 Leads-at :
     (c : Situation) (p : Product) → IsTakenIn c → reduced c.stack.setting.rules (parts_at c).state.core (related_at c) ≡ Some p → DoneAt c
-    → Leads c.stack.setting c.stack.region c.ranges (with_product (related_successor (related_at c) (parts_at c)) p) c.entry c.base c.machine (left_at c)
+    → LeadsRelated c.stack.setting c.stack.region c.ranges (with_product (related_successor (related_at c) (parts_at c)) p) c.entry c.base c.machine (left_at c)
 Leads-at c p k e d =
     let r : Relations = related_at c in
     Leads-narrowed c.stack.setting c.stack.region c.ranges (related_successor r (parts_at c)) p c.entry c.base c.machine (left_at c) k.extended e (pairs_behind c k)
@@ -363,12 +388,12 @@ Leads-at c p k e d =
     (LeadsWidely-related c.stack.setting c.stack.region (parts_at c).target r (parts_at c) c.entry c.base (left_at c) d.to) d.leaves.kept
 
 taken_executes :
-    (k : Stack) (rom : List ℕ) (row : Row) (a : ℕ) (s : AbsState) (ranges : List Range) (entry : Activation) (base : ℕ) (x : MState) (reads : List ℕ) (p : Product) (b : Branch)
-    → k.setting.rules ≡ Extended → Stands k.setting rom k.region row a s entry base x → IsRuled k rom row a s base → x.processor.halt_mark ≡ false → slice_index reads 0 ≤ 255
+    (k : Stack) (program : Program) (rom : List ℕ) (row : Row) (a : ℕ) (s : AbsState) (ranges : List Range) (entry : Activation) (base : ℕ) (x : MState) (reads : List ℕ) (p : Product) (b : Branch)
+    → k.setting.rules ≡ Extended → entry.program ≡ program → Stands k.setting rom k.region row a s entry base x → IsRuled k program rom row a s base → x.processor.halt_mark ≡ false → slice_index reads 0 ≤ 255
     → product_before k.setting.rules s ≡ Some p → IsReduced (core_settle s.core) s.relations p → taken_side row.op s.cells p.core p.relations ≡ Some b → MeansBranch b entry (begun row x)
     → (effect rom row x reads).is_taken ≡ true
-    → Executes k rom ranges row a s (successors_of k rom row a s) entry base x reads
-taken_executes k rom row a s ranges entry base x reads p b extended stands ruled mark byte before cut side meant taken =
+    → Executes k program rom ranges row a s (successors_of k program rom row a s) entry base x reads
+taken_executes k program rom row a s ranges entry base x reads p b extended of stands ruled mark byte before cut side meant taken =
     let is : IsSideOf s.cells p.core p.relations b = side_facts _ b s.cells p.core p.relations side (taken_side_cuts row.op s.cells p.core p.relations _ refl) in
     let told : AbsState = with_cell_if k.setting b.cell s in
     let cell : IfSome b.cell (IsToldCell k.region entry x) =
@@ -387,11 +412,12 @@ taken_executes k rom row a s ranges entry base x reads p b extended stands ruled
       reads = reads;
     } in
     let same : move_at c ≡ taken_move k rom row (behind_row a row) s p = same_move k rom row (behind_row a row) s p b side in
-    let way : (q : Product) → reduced k.setting.rules (parts_at c).state.core (related_at c) ≡ Some q → (successors_of k rom row a s).taken ≡ Some (with_product (related_successor (related_at c) (parts_at c)) q) =
+    let m : SummaryParts = summary_behind k program row.op told (product_of b.core b.relations) (parts_at c) in
+    let way : (q : Product) → reduced k.setting.rules (parts_at c).state.core (related_at c) ≡ Some q → (successors_of k program rom row a s).taken ≡ Some (with_product (said_successor m (related_successor (related_at c) (parts_at c))) q) =
     λ q e.
-    taken_way k rom row a s p b (with_product (related_successor (related_at c) (parts_at c)) q) before side
-    (ap (reduced_successor k.setting.rules) (taken_told k rom row (behind_row a row) s b (IsTold-taken row.op s.cells p.core b.core p.relations b side))
-    ∙ reduced_way k.setting.rules (related_successor (related_at c) (parts_at c)) q e) in
+    taken_way k program rom row a s p b (with_product (said_successor m (related_successor (related_at c) (parts_at c))) q) before side
+    (ap (reduced_successor k.setting.rules) (taken_told k program rom row (behind_row a row) s b (IsTold-taken row.op s.cells p.core b.core p.relations b side))
+    ∙ reduced_way k.setting.rules (said_successor m (related_successor (related_at c) (parts_at c))) q e) in
     let t : IsTakenIn c = record {
       stands = Stands-told k.setting rom k.region row a b.cell s entry base x cell stands;
       extended = extended;
@@ -400,7 +426,7 @@ taken_executes k rom row a s ranges entry base x reads p b extended stands ruled
       ready = λ meant.
           let some = some_of (reduced k.setting.rules (parts_at c).state.core (related_at c)) meant in
           subst (λ m. IsReady k row.op m told base) (sym same)
-          (IsReady-told k row.op _ b.cell s base (stack_ruled k rom row a s base p (with_product (related_successor (related_at c) (parts_at c)) some.0) extended before (way some.0 some.1) ruled));
+          (IsReady-told k row.op _ b.cell s base (stack_ruled k program rom row a s base p (with_product (said_successor m (related_successor (related_at c) (parts_at c))) some.0) extended before (way some.0 some.1) ruled));
       mark = mark;
       byte = byte;
       keeps = subst (λ d. Keeps d b.core) (sym (told_core k.setting b.cell s))
@@ -414,17 +440,21 @@ taken_executes k rom row a s ranges entry base x reads p b extended stands ruled
     } in
     let some = possible c t in
     let r : Relations = relations_behind k rom row.op told (product_of b.core b.relations) in
-    let successor : Successor = with_product (related_successor r (parts_at c)) some.product in
-    let done : IsAllowed k.setting rom k.region ranges s base successor → DoneAt c =
-    λ allowed. done_at c t (IsAllowed-told k.setting rom k.region ranges b.cell s base (parts_at c) (IsAllowed-with_product k.setting rom k.region ranges s base r some.product (parts_at c) extended allowed)) in
+    let successor : Successor = with_product (said_successor m (related_successor r (parts_at c))) some.product in
+    let allowed_at : IsAllowed k.setting rom k.region ranges s base successor → IsAllowedAt c =
+    λ allowed. IsAllowed-told k.setting rom k.region ranges b.cell s base (parts_at c) (IsAllowed-with_product k.setting rom k.region ranges s base m r some.product (parts_at c) extended allowed) in
+    let done : IsAllowed k.setting rom k.region ranges s base successor → DoneAt c = λ allowed. done_at c t (allowed_at allowed) in
     record {
       successor = successor;
       is_one = inl (way some.product some.is);
       mark = executed_mark rom x row reads;
-      held = λ allowed. held_taken k rom row a s successor p extended before (way some.product some.is)
+      held = λ allowed. held_taken k program rom row a s successor p extended before (way some.product some.is)
           (subst (λ m. length (parts_at c).state.items ≡ bytes_moved m (length s.items)) same
           (subst (λ items. length (parts_at c).state.items ≡ bytes_moved (move_at c) (length items)) (told_items k.setting b.cell s) (done allowed).bytes));
-      leads = λ allowed. subst (λ y. Leads k.setting k.region ranges successor entry base x y) (sym (executed_at c t)) (Leads-at c some.product t some.is (done allowed));
+      leads = λ allowed. subst (λ y. Leads k.setting k.region ranges successor entry base x y) (sym (executed_at c t))
+          (Leads-said k.setting k.region ranges m (with_product (related_successor r (parts_at c)) some.product) entry base x (left_at c) (Leads-at c some.product t some.is (done allowed))
+          (subst (λ q. HoldSummary entry.program (parts_at c).state.cells (summary_behind k q row.op told (product_of b.core b.relations) (parts_at c)) (left_at c).processor (peek (left_at c).storage) (left_at c).storage.banks) of
+          (said_holds c t (allowed_at allowed) (done allowed))));
       faults = λ allowed. (done allowed).leaves.faults;
     }
 
@@ -442,12 +472,12 @@ followed_at Extended a = refl
 
 -- it isn't taken
 untaken_leads :
-    (k : Stack) (rom : List ℕ) (row : Row) (a : ℕ) (s : AbsState) (ranges : List Range) (entry : Activation) (base : ℕ) (x : MState) (reads : List ℕ) (p : Product) (b : Branch)
-    → k.setting.rules ≡ Extended → Stands k.setting rom k.region row a s entry base x → IsRuled k rom row a s base → x.processor.halt_mark ≡ false
+    (k : Stack) (program : Program) (rom : List ℕ) (row : Row) (a : ℕ) (s : AbsState) (ranges : List Range) (entry : Activation) (base : ℕ) (x : MState) (reads : List ℕ) (p : Product) (b : Branch)
+    → k.setting.rules ≡ Extended → Stands k.setting rom k.region row a s entry base x → IsRuled k program rom row a s base → x.processor.halt_mark ≡ false
     → product_before k.setting.rules s ≡ Some p → IsReduced (core_settle s.core) s.relations p → not_taken_side row.op s.cells p.core p.relations ≡ Some b → MeansBranch b entry (begun row x)
     → (effect rom row x reads).is_taken ≡ false
-    → Executes k rom ranges row a s (successors_of k rom row a s) entry base x reads
-untaken_leads k rom row a s ranges entry base x reads p b extended stands ruled mark before cut side meant not_taken =
+    → Executes k program rom ranges row a s (successors_of k program rom row a s) entry base x reads
+untaken_leads k program rom row a s ranges entry base x reads p b extended stands ruled mark before cut side meant not_taken =
     let y : MState = outside (executed (within rom x) row reads) in
     let is : IsSideOf s.cells p.core p.relations b = side_facts _ b s.cells p.core p.relations side (not_taken_side_cuts row.op s.cells p.core p.relations _ refl) in
     let told : AbsState = with_cell_if k.setting b.cell s in
@@ -465,19 +495,20 @@ untaken_leads k rom row a s ranges entry base x reads p b extended stands ruled 
     let some = some_reduced k.setting.rules t.state.core b.relations y.processor.registers are bytes (Holds-values t.state.core b.relations entry y to.means.core related) in
     record {
       successor = with_product t some.product;
-      is_one = inr (inl (untaken_way k rom row a s p b (with_product t some.product) before side
+      is_one = inr (inl (untaken_way k program rom row a s p b (with_product t some.product) before side
           (ap (reduced_successor k.setting.rules) (untaken_simply k row (behind_row a row) s b) ∙ reduced_way k.setting.rules t some.product some.is)));
       mark = executed_mark rom x row reads;
-      held = λ allowed. held_as_before k rom row a s (with_product t some.product) extended (ap length (untaken_items row (behind_row a row) told b.core b.relations ∙ told_items k.setting b.cell s));
-      leads = λ allowed. Leads-narrowed k.setting k.region ranges t some.product entry base x y extended some.is are bytes related to done.0.kept;
-      faults = λ allowed. done.1;
+      held = λ allowed. held_as_before k program rom row a s (with_product t some.product) extended (ap length (untaken_items row (behind_row a row) told b.core b.relations ∙ told_items k.setting b.cell s));
+      leads = λ allowed. Leads-summarized k.setting k.region ranges (with_product t some.product) entry base x y
+          (Leads-narrowed k.setting k.region ranges t some.product entry base x y extended some.is are bytes related to done.0.kept) done.1;
+      faults = λ allowed. done.2;
     }
 
 pub executes_widely :
-    (k : Stack) (rom : List ℕ) (row : Row) (a : ℕ) (s : AbsState) (ranges : List Range) (entry : Activation) (base : ℕ) (x : MState) (reads : List ℕ)
-    → k.setting.rules ≡ Extended → Stands k.setting rom k.region row a s entry base x → IsRuled k rom row a s base → x.processor.halt_mark ≡ false → slice_index reads 0 ≤ 255
-    → Executes k rom ranges row a s (successors_of k rom row a s) entry base x reads
-executes_widely k rom row a s ranges entry base x reads extended stands ruled mark byte =
+    (k : Stack) (program : Program) (rom : List ℕ) (row : Row) (a : ℕ) (s : AbsState) (ranges : List Range) (entry : Activation) (base : ℕ) (x : MState) (reads : List ℕ)
+    → k.setting.rules ≡ Extended → entry.program ≡ program → Stands k.setting rom k.region row a s entry base x → IsRuled k program rom row a s base → x.processor.halt_mark ≡ false → slice_index reads 0 ≤ 255
+    → Executes k program rom ranges row a s (successors_of k program rom row a s) entry base x reads
+executes_widely k program rom row a s ranges entry base x reads extended of stands ruled mark byte =
     let before = before_of k s entry (begun row x) stands.core stands.pairs (begun_core row x s.core entry stands.means.parts.core) (related_begun row x s.relations stands.means.related) in
     by_flags before (effect rom row x reads).is_taken refl
   where
@@ -485,16 +516,16 @@ executes_widely k rom row a s ranges entry base x reads extended stands ruled ma
     known b = record { memory = stands.means.parts.memory; cells = stands.means.parts.cells; related = b.means.related }
 
     by_taken : (b : Before k s entry (begun row x)) (o : Option Branch) → taken_side row.op s.cells b.product.core b.product.relations ≡ o → (effect rom row x reads).is_taken ≡ true → IsMeantBranch o entry (begun row x)
-        → Executes k rom ranges row a s (successors_of k rom row a s) entry base x reads
+        → Executes k program rom ranges row a s (successors_of k program rom row a s) entry base x reads
     by_taken b None e taken h = absurd h
-    by_taken b (Some side) e taken h = taken_executes k rom row a s ranges entry base x reads b.product side extended stands ruled mark byte b.is b.cut e h taken
+    by_taken b (Some side) e taken h = taken_executes k program rom row a s ranges entry base x reads b.product side extended of stands ruled mark byte b.is b.cut e h taken
 
     by_not_taken : (b : Before k s entry (begun row x)) (o : Option Branch) → not_taken_side row.op s.cells b.product.core b.product.relations ≡ o → (effect rom row x reads).is_taken ≡ false → IsMeantBranch o entry (begun row x)
-        → Executes k rom ranges row a s (successors_of k rom row a s) entry base x reads
+        → Executes k program rom ranges row a s (successors_of k program rom row a s) entry base x reads
     by_not_taken b None e not_taken h = absurd h
-    by_not_taken b (Some side) e not_taken h = untaken_leads k rom row a s ranges entry base x reads b.product side extended stands ruled mark b.is b.cut e h not_taken
+    by_not_taken b (Some side) e not_taken h = untaken_leads k program rom row a s ranges entry base x reads b.product side extended stands ruled mark b.is b.cut e h not_taken
 
-    by_flags : (b : Before k s entry (begun row x)) (t : Bool) → (effect rom row x reads).is_taken ≡ t → Executes k rom ranges row a s (successors_of k rom row a s) entry base x reads
+    by_flags : (b : Before k s entry (begun row x)) (t : Bool) → (effect rom row x reads).is_taken ≡ t → Executes k program rom ranges row a s (successors_of k program rom row a s) entry base x reads
     by_flags b true e =
         by_taken b _ refl e
         ((taken_side_sound row.op s.cells b.product.core b.product.relations _ refl (b.cut.relations.pairs stands.pairs)).gives entry (begun row x) (given rom row x reads).low (given rom row x reads).high (known b) b.means.core e)

@@ -1,5 +1,5 @@
--- The states behind an instruction are such as states may be: each register has a value, the address among the places is free, and
--- pairs have words.
+-- The states behind an instruction are such as states may be: each register has a value, the address among the places is free,
+-- pairs have words, and what is said of the whole program lies in RAM outside the stack region.
 use Rattle.std.proofs.Common.{◌≡◌, ℕ, ◌+◌, ◌%◌, ◌≤◌, ◌<◌, Bool, true, false, cond, inl, inr, List, length, Option, Some, None, refl, sym, ◌∙◌, subst, arith}
 use Rattle.std.proofs.lemmas.Option.{same_Some}
 use Rattle.std.specs.Prelude.{IfSome, option_map, option_and_then}
@@ -23,7 +23,9 @@ use Rattle.gb_domain.specs.declared.types.Val.{Val}
 use Rattle.gb_domain.specs.Pairs.{ArePairs}
 use Rattle.gb_domain.specs.Rules.{IsVal, IsCore}
 use Rattle.gb_domain.specs.Settings.{IsBase}
+use Rattle.gb_domain.specs.Summaries.{Program}
 use Rattle.gb_domain.specs.Types.{AbsState}
+use Rattle.gb_product.specs.Below.gb_summaries.Elsewhere.{IsFree}
 use Rattle.gb_product.specs.Below.gb_abs.declared.span.Span.{Span}
 use Rattle.gb_product.specs.Below.gb_abs.Located.{sp_halves, sp_bounds, bounds_by, stack_base}
 use Rattle.gb_product.specs.Below.gb_abs.Meaning.{Activation, MeansParts}
@@ -37,10 +39,10 @@ use Rattle.gb_product.specs.Below.gb_abs_effects.declared.writes.AbsWrite.TheVar
 use Rattle.gb_product.specs.Below.gb_abs_effects.Sound.{HasBytes, IsWrite, IsAbsEffect}
 use Rattle.gb_product.specs.Below.gb_abs_effects.Transfer.{transfer}
 use Rattle.gb_product.proofs.Below.gb_abs_effects_laws.RangeLaws.{transfer_inhabited}
-use Rattle.gb_abs_memory.specs.declared.store.Area.{Area}
-use Rattle.gb_abs_memory.specs.declared.store.Area.TheVariants as area
-use Rattle.gb_abs_memory.specs.Access.{area_of, stored_core_in, stored_core}
-use Rattle.gb_abs_memory.proofs.WindowLaws.{ctl_written-valid}
+use Rattle.gb_code.specs.Below.gb_abs_memory.declared.store.Area.{Area}
+use Rattle.gb_code.specs.Below.gb_abs_memory.declared.store.Area.TheVariants as area
+use Rattle.gb_code.specs.Below.gb_abs_memory.Access.{area_of, stored_core_in, stored_core}
+use Rattle.gb_code.proofs.Below.gb_abs_memory_laws.WindowLaws.{ctl_written-valid}
 use Rattle.gb_product.specs.declared.parts.Branch.{Branch}
 use Rattle.gb_product.specs.declared.parts.Product.{Product}
 use Rattle.gb_product.specs.Below.gb_relations.Sound.{IsByteFree}
@@ -57,12 +59,14 @@ use Rattle.gb_successors.specs.Behind.{starts, written_core, core_behind, ended}
 use Rattle.gb_successors.specs.Refined.{cut_write, with_carry, refined}
 use Rattle.gb_successors.specs.Sound.{IsOneOf, Stands}
 use Rattle.gb_successors.specs.Stacks.{moved_core}
-use Rattle.gb_successors.specs.Successors.{pointer_in, word_in, effect_in, taken_parts, relations_behind, taken_successor, untaken_successor, with_product, reduced_successor, woken, staying_successor, may_stay, stays, product_before, taken_from, not_taken_from, successors_of}
+use Rattle.gb_successors.specs.Successors.{pointer_in, word_in, effect_in, taken_parts, relations_behind, taken_successor, untaken_successor, with_product, reduced_successor, woken, staying_successor, may_stay, stays, product_before, taken_from, not_taken_from, successors_of, summary_behind}
 use Rattle.gb_successors.specs.Way.{Successor}
 use Rattle.gb_successors.proofs.RelatedLaws.{IsCore-ended, has_operands}
 use Rattle.gb_successors.proofs.SimpleLaws.{behind_row}
 use Rattle.gb_successors.proofs.SituationLaws.{IsWrite-cut}
 use Rattle.gb_successors.proofs.SuccessorLaws.{is_word, IsWord-sp}
+use Rattle.gb_successors.proofs.MovedLaws.{told_summary}
+use Rattle.gb_successors.proofs.SummaryLaws.{apart_by}
 use Rattle.gb_successors.proofs.UntakenLaws.{untaken_simply}
 
 -- what a certificate too asks of states
@@ -70,6 +74,7 @@ pub record IsFormed (region : Region) (s : AbsState) : Type 0 where
   pub core : IsCore s.core
   pub free : IsByteFree region s.relations.byte.address
   pub pairs : ArePairs s.relations.pairs
+  pub apart : IsFree region s.summary
 
 -- ---- the core
 
@@ -154,6 +159,7 @@ formed_product rules region t p e h =
       core = cut.inhabited h.core;
       free = subst (λ (o : OneByte). IsByteFree region o.address) (sym cut.relations.byte) h.free;
       pairs = cut.relations.pairs h.pairs;
+      apart = h.apart;
     }
 
 formed_reduced : (rules : Rules) (region : Region) (u t : Successor) → reduced_successor rules u ≡ Some t → IsFormed region u.state → IsFormed region t.state
@@ -231,19 +237,24 @@ relations_formed k rom row a s p entry base x stands operands are free = (
 )
 
 taken_formed :
-    (k : Stack) (rom : List ℕ) (row : Row) (a : ℕ) (s : AbsState) (b : Branch) (entry : Activation) (base : ℕ) (x : MState) → Stands k.setting rom k.region row a s entry base x → HasBytes row.op
-    → IsFormedBranch k.region b → IsFormed k.region (taken_successor k rom row (behind_row a row) s b).state
-unfolding taken_successor
-taken_formed k rom row a s b entry base x stands operands h =
+    (k : Stack) (program : Program) (rom : List ℕ) (row : Row) (a : ℕ) (s : AbsState) (b : Branch) (entry : Activation) (base : ℕ) (x : MState) → Stands k.setting rom k.region row a s entry base x → HasBytes row.op
+    → IsFormedBranch k.region b → IsFormed k.region (taken_successor k program rom row (behind_row a row) s b).state
+unfolding taken_successor summary_behind
+taken_formed k program rom row a s b entry base x stands operands h =
     let p = product_of b.core b.relations in
     let r = relations_formed k rom row a s p entry base x stands operands h.pairs h.free in
-    record { core = parts_core k rom row (behind_row a row) s p b.cell (effect_formed k rom row a s p entry base x stands operands h.core); free = r.0; pairs = r.1 }
+    record { core = parts_core k rom row (behind_row a row) s p b.cell (effect_formed k rom row a s p entry base x stands operands h.core); free = r.0; pairs = r.1; apart = apart_by k.setting.rules k program row.op s p _ _ h.free stands.apart }
 
-untaken_formed : (k : Stack) (row : Row) (next : ℕ) (s : AbsState) (b : Branch) → IsFormedBranch k.region b → IsFormed k.region (untaken_successor k row next s b).state
+untaken_formed : (k : Stack) (row : Row) (next : ℕ) (s : AbsState) (b : Branch) → IsFormedBranch k.region b → IsFree k.region s.summary → IsFormed k.region (untaken_successor k row next s b).state
 unfolding ended
-untaken_formed k row next s b h =
+untaken_formed k row next s b h apart =
     subst (λ (t : Successor). IsFormed k.region t.state) (sym (untaken_simply k row next s b))
-    (record { core = IsCore-ended false row.cycles_not_taken b.core h.core; free = h.free; pairs = h.pairs })
+    (record {
+      core = IsCore-ended false row.cycles_not_taken b.core h.core;
+      free = h.free;
+      pairs = h.pairs;
+      apart = subst (IsFree k.region) (sym (told_summary k.setting b.cell s)) apart;
+    })
 
 staying_formed : (region : Region) (a : ℕ) (s : AbsState) → IsFormed region s → IsFormed region (staying_successor a s).state
 unfolding staying_successor ended
@@ -252,49 +263,50 @@ staying_formed region a s h =
       core = IsCore-ended false 1 (woken s.core) (record { ime = refl; bound = h.core.bound; ctl = h.core.ctl; flags = h.core.flags; ie = h.core.ie; registers = h.core.registers });
       free = h.free;
       pairs = h.pairs;
+      apart = h.apart;
     }
 
 -- ---- each successor
 
 stands_formed : (z : Setting) (rom : List ℕ) (region : Region) (row : Row) (a : ℕ) (s : AbsState) (entry : Activation) (base : ℕ) (x : MState) → Stands z rom region row a s entry base x → IsFormed region s
-stands_formed z rom region row a s entry base x h = record { core = h.core; free = h.free; pairs = h.pairs }
+stands_formed z rom region row a s entry base x h = record { core = h.core; free = h.free; pairs = h.pairs; apart = h.apart }
 
 formed_taken :
-    (k : Stack) (rom : List ℕ) (row : Row) (a : ℕ) (s : AbsState) (t : Successor) (entry : Activation) (base : ℕ) (x : MState) → Stands k.setting rom k.region row a s entry base x → HasBytes row.op
-    → (successors_of k rom row a s).taken ≡ Some t → IsFormed k.region t.state
+    (k : Stack) (program : Program) (rom : List ℕ) (row : Row) (a : ℕ) (s : AbsState) (t : Successor) (entry : Activation) (base : ℕ) (x : MState) → Stands k.setting rom k.region row a s entry base x → HasBytes row.op
+    → (successors_of k program rom row a s).taken ≡ Some t → IsFormed k.region t.state
 unfolding successors_of product_before
-formed_taken k rom row a s t entry base x stands operands h =
+formed_taken k program rom row a s t entry base x stands operands h =
     from (reduced k.setting.rules (core_settle s.core) s.relations) (reduced_cuts k.setting.rules (core_settle s.core) s.relations _ refl) h
   where
     at_side : (p : Product) → IsReduced (core_settle s.core) s.relations p → (o : Option Branch) → IfSome o (IsSideOf s.cells p.core p.relations)
-        → option_and_then (λ b. reduced_successor k.setting.rules (taken_successor k rom row (behind_row a row) s b)) o ≡ Some t → IsFormed k.region t.state
+        → option_and_then (λ b. reduced_successor k.setting.rules (taken_successor k program rom row (behind_row a row) s b)) o ≡ Some t → IsFormed k.region t.state
     at_side p cut None is e = cc
     at_side p cut (Some b) is e =
-        formed_reduced k.setting.rules k.region (taken_successor k rom row (behind_row a row) s b) t e
-        (taken_formed k rom row a s b entry base x stands operands (branch_formed k.region s p b (stands_formed k.setting rom k.region row a s entry base x stands) cut is))
+        formed_reduced k.setting.rules k.region (taken_successor k program rom row (behind_row a row) s b) t e
+        (taken_formed k program rom row a s b entry base x stands operands (branch_formed k.region s p b (stands_formed k.setting rom k.region row a s entry base x stands) cut is))
 
-    from : (o : Option Product) → IfSome o (IsReduced (core_settle s.core) s.relations) → option_and_then (taken_from k rom row (behind_row a row) s) o ≡ Some t → IsFormed k.region t.state
+    from : (o : Option Product) → IfSome o (IsReduced (core_settle s.core) s.relations) → option_and_then (taken_from k program rom row (behind_row a row) s) o ≡ Some t → IsFormed k.region t.state
     from None cut e = cc
     from (Some p) cut e = at_side p cut (taken_side row.op s.cells p.core p.relations) (taken_side_cuts row.op s.cells p.core p.relations _ refl) e
 
 formed_untaken :
-    (k : Stack) (rom : List ℕ) (row : Row) (a : ℕ) (s : AbsState) (t : Successor) → IsFormed k.region s → (successors_of k rom row a s).not_taken ≡ Some t → IsFormed k.region t.state
+    (k : Stack) (program : Program) (rom : List ℕ) (row : Row) (a : ℕ) (s : AbsState) (t : Successor) → IsFormed k.region s → (successors_of k program rom row a s).not_taken ≡ Some t → IsFormed k.region t.state
 unfolding successors_of product_before
-formed_untaken k rom row a s t formed h = from (reduced k.setting.rules (core_settle s.core) s.relations) (reduced_cuts k.setting.rules (core_settle s.core) s.relations _ refl) h
+formed_untaken k program rom row a s t formed h = from (reduced k.setting.rules (core_settle s.core) s.relations) (reduced_cuts k.setting.rules (core_settle s.core) s.relations _ refl) h
   where
     at_side : (p : Product) → IsReduced (core_settle s.core) s.relations p → (o : Option Branch) → IfSome o (IsSideOf s.cells p.core p.relations)
         → option_and_then (λ b. reduced_successor k.setting.rules (untaken_successor k row (behind_row a row) s b)) o ≡ Some t → IsFormed k.region t.state
     at_side p cut None is e = cc
     at_side p cut (Some b) is e =
-        formed_reduced k.setting.rules k.region (untaken_successor k row (behind_row a row) s b) t e (untaken_formed k row (behind_row a row) s b (branch_formed k.region s p b formed cut is))
+        formed_reduced k.setting.rules k.region (untaken_successor k row (behind_row a row) s b) t e (untaken_formed k row (behind_row a row) s b (branch_formed k.region s p b formed cut is) formed.apart)
 
     from : (o : Option Product) → IfSome o (IsReduced (core_settle s.core) s.relations) → option_and_then (not_taken_from k row (behind_row a row) s) o ≡ Some t → IsFormed k.region t.state
     from None cut e = cc
     from (Some p) cut e = at_side p cut (not_taken_side row.op s.cells p.core p.relations) (not_taken_side_cuts row.op s.cells p.core p.relations _ refl) e
 
-formed_staying : (k : Stack) (rom : List ℕ) (row : Row) (a : ℕ) (s : AbsState) (t : Successor) → IsFormed k.region s → (successors_of k rom row a s).stays ≡ Some t → IsFormed k.region t.state
+formed_staying : (k : Stack) (program : Program) (rom : List ℕ) (row : Row) (a : ℕ) (s : AbsState) (t : Successor) → IsFormed k.region s → (successors_of k program rom row a s).stays ≡ Some t → IsFormed k.region t.state
 unfolding successors_of stays
-formed_staying k rom row a s t formed h = from (product_before k.setting.rules s) h
+formed_staying k program rom row a s t formed h = from (product_before k.setting.rules s) h
   where
     by : (b : Bool) → cond b (Some (staying_successor a s)) None ≡ Some t → IsFormed k.region t.state
     by true e = subst (λ (w : Successor). IsFormed k.region w.state) (same_Some _ _ e) (staying_formed k.region a s formed)
@@ -306,8 +318,8 @@ formed_staying k rom row a s t formed h = from (product_before k.setting.rules s
 
 -- the states of each successor are such as states may be
 pub IsFormed-successor :
-    (k : Stack) (rom : List ℕ) (row : Row) (a : ℕ) (s : AbsState) (t : Successor) (entry : Activation) (base : ℕ) (x : MState) → Stands k.setting rom k.region row a s entry base x → HasBytes row.op
-    → IsOneOf (successors_of k rom row a s) t → IsFormed k.region t.state
-IsFormed-successor k rom row a s t entry base x stands operands (inl e) = formed_taken k rom row a s t entry base x stands operands e
-IsFormed-successor k rom row a s t entry base x stands operands (inr (inl e)) = formed_untaken k rom row a s t (stands_formed k.setting rom k.region row a s entry base x stands) e
-IsFormed-successor k rom row a s t entry base x stands operands (inr (inr e)) = formed_staying k rom row a s t (stands_formed k.setting rom k.region row a s entry base x stands) e
+    (k : Stack) (program : Program) (rom : List ℕ) (row : Row) (a : ℕ) (s : AbsState) (t : Successor) (entry : Activation) (base : ℕ) (x : MState) → Stands k.setting rom k.region row a s entry base x → HasBytes row.op
+    → IsOneOf (successors_of k program rom row a s) t → IsFormed k.region t.state
+IsFormed-successor k program rom row a s t entry base x stands operands (inl e) = formed_taken k program rom row a s t entry base x stands operands e
+IsFormed-successor k program rom row a s t entry base x stands operands (inr (inl e)) = formed_untaken k program rom row a s t (stands_formed k.setting rom k.region row a s entry base x stands) e
+IsFormed-successor k program rom row a s t entry base x stands operands (inr (inr e)) = formed_staying k program rom row a s t (stands_formed k.setting rom k.region row a s entry base x stands) e

@@ -35,8 +35,8 @@ use Rattle.gb_product.specs.Below.gb_abs_effects.declared.writes.AbsWrite.TheVar
 use Rattle.gb_product.specs.Below.gb_abs_effects.Sound.{HoldsWrite, IsWrite}
 use Rattle.gb_product.specs.Below.gb_abs_effects.Targets.{moves_sp}
 use Rattle.gb_product.proofs.Below.gb_abs_effects_laws.TargetLaws.{sp-kept, sp-pushed}
-use Rattle.gb_abs_memory.specs.Kept.{IsKept}
-use Rattle.gb_abs_memory.specs.Sound.{view}
+use Rattle.gb_code.specs.Below.gb_abs_memory.Kept.{IsKept}
+use Rattle.gb_code.specs.Below.gb_abs_memory.Sound.{view}
 use Rattle.gb_product.specs.Below.gb_relations.Places.{behind_echo}
 use Rattle.gb_product.specs.Below.gb_relations.Sound as relations
 use Rattle.gb_product.specs.Meaning.{AreRelated}
@@ -47,7 +47,7 @@ use Rattle.gb_successors.specs.Refused.{reads_closed_ram, writes_closed_ram, is_
 use Rattle.gb_successors.specs.Sound.{HasRoomFor, bytes_moved}
 use Rattle.gb_successors.specs.Stacks.{with_stack_moved, moved_core}
 use Rattle.gb_successors.specs.Successors.{taken_move, taken_parts, relations_behind}
-use Rattle.gb_successors.proofs.AccessLaws.{Loads, Loads-read, Stores, Stores-write, IsSameGate, AtWrite, closed_same, limited_same, writes_same, write_limited_same, clear_stack}
+use Rattle.gb_successors.proofs.AccessLaws.{WritesInTurn, Loads, Loads-read, Stores, Stores-write, IsSameGate, AtWrite, closed_same, limited_same, writes_same, write_limited_same, clear_stack}
 use Rattle.gb_successors.proofs.MovedLaws.{written_by}
 use Rattle.gb_successors.proofs.PlainLaws.{Keeps, Keeps-both, Keeps-transfer, IsPlainRead, IsPlainWrite}
 use Rattle.gb_successors.proofs.RamLaws.{ram_at, ram_same, ram_is, differs, HoldRelations-ram}
@@ -219,15 +219,17 @@ pub record Landed (c : Situation) : Type 0 where
   pub room : AreInRegion c.stack.region c.base (length (parts_at c).state.items)
   pub bytes : length (parts_at c).state.items ≡ bytes_moved (move_at c) (length c.state.items)
 
+-- memory behind its writes
+abbrev pub stored_at : Situation → View
+stored_at c = stored (view c.rom c.machine false) (acted_at c).write
+
 -- whatever its state
 pub record Leaves (c : Situation) : Type 0 where
   pub kept : (b : ℕ) → IsKept c.stack.setting c.stack.region c.ranges c.base b → peek (left_at c).storage b ≡ peek c.machine.storage b
   pub faults : row_faults (Some c.row) c.stack.region (within c.rom c.machine) c.reads ≡ no_faults
   pub related : AreRelated (related_at c) (left_at c)
-
--- memory behind its writes
-abbrev stored_at : Situation → View
-stored_at c = stored (view c.rom c.machine false) (acted_at c).write
+  pub store : store_faults c.stack.region (view c.rom c.machine false) (acted_at c).write ≡ no_faults
+  pub in_turn : WritesInTurn c.stack.region (acted_at c).write (ram_at c.machine.storage) (ram_at (stored_at c).storage)
 
 free_behind : (c : Situation) → IsTakenIn c → relations.IsByteFree c.stack.region (related_at c).byte.address
 unfolding relations_behind
@@ -252,6 +254,8 @@ Leaves-quiet c k l quiet =
       faults = faults_are c.rom c.stack.region c.machine c.row c.reads l.faults (no_store_faults c.stack.region (view c.rom c.machine false) (acted_at c).write quiet);
       related = related_left c k l
           (subst (λ w. relations.Writes c.stack.region w (ram_at c.machine.storage) (ram_at (stored (view c.rom c.machine false) w).storage)) (sym quiet) (nothing_changed c));
+      store = no_store_faults c.stack.region (view c.rom c.machine false) (acted_at c).write quiet;
+      in_turn = subst (λ w. WritesInTurn c.stack.region w (ram_at c.machine.storage) (ram_at (stored (view c.rom c.machine false) w).storage)) (sym quiet) (nothing_changed c);
     }
   where
     nothing_changed : (c : Situation) (b : ℕ) → ram_at (stored (view c.rom c.machine false) machine_write.Nothing).storage b ≡ ram_at c.machine.storage b
@@ -326,6 +330,8 @@ Leaves-stored c k l st =
       kept = λ b kept. passed_peek (stored_at c) c.row.cycles b ∙ st.kept b kept;
       faults = faults_are c.rom c.stack.region c.machine c.row c.reads l.faults st.faults;
       related = related_left c k l st.writes;
+      store = st.faults;
+      in_turn = st.in_turn;
     }
 
 -- ---- a word is put on
@@ -337,6 +343,7 @@ pub record IsPut (c : Situation) (i : Halves) : Type 0 where
   faults : store_faults c.stack.region (view c.rom c.machine false) (acted_at c).write ≡ no_faults
   kept : (b : ℕ) → IsKept c.stack.setting c.stack.region c.ranges c.base b → peek (stored_at c).storage b ≡ peek c.machine.storage b
   writes : relations.Writes c.stack.region (acted_at c).write (ram_at c.machine.storage) (ram_at (stored_at c).storage)
+  in_turn : WritesInTurn c.stack.region (acted_at c).write (ram_at c.machine.storage) (ram_at (stored_at c).storage)
 
 -- an address outside the region isn't one of the word's
 outside_push : (region : Region) (base sp bytes b : ℕ) → AreInRegion region base (bytes + 2) → sp + bytes ≡ base → ((region.first ≤ b) × (b ≤ region.last) → ⊥)
@@ -369,6 +376,11 @@ puts c i k l is has limited =
     MeansParts-pushed region (with_core c.state core) c.entry c.base before m i held.value means refl (keeps.stack ∙ has.stack_set) has.room k.stands.is_region k.stands.placed
     (IsRegionOpen-bound c.state.core c.entry x region k.stands.means.parts.core (clear_stack region c.state.core limited)) held.high_held held.low_held small in
     let top = k.stands.means.parts.stack has.stack_set in
+    let after : Storage = (stored m (machine_write.Push x.processor.sp held.value)).storage in
+    let changed : (b : ℕ) → ((region.first ≤ b) × (b ≤ region.last) → ⊥) → ram_at after b ≡ ram_at x.storage b =
+    λ b out.
+    let two = outside_push region c.base x.processor.sp (length c.state.items) b has.room top out in
+    ram_same x.storage after b (λ ram. done.others b ram (differs b (x.processor.sp - 1) two.0) (differs b (x.processor.sp - 2) two.1)) in
     record {
       means = subst (λ w. MeansParts (pushed i (with_core c.state core)) c.entry c.base (record { processor = e.processor; storage = (stored m w).storage })) (sym writes)
           (subst (λ n. MeansParts (pushed i (with_core c.state core)) c.entry c.base (record { processor = with_sp e.processor n; storage = (stored m (machine_write.Push x.processor.sp held.value)).storage })) (sym moved) done.means);
@@ -378,10 +390,8 @@ puts c i k l is has limited =
           ap (λ w. peek (stored m w).storage b) writes
           ∙ done.others b kept.ram (not_pushed region c.base x.processor.sp (length c.state.items) (x.processor.sp - 1) b has.room top (inl refl) kept.above)
           (not_pushed region c.base x.processor.sp (length c.state.items) (x.processor.sp - 2) b has.room top (inr refl) kept.above);
-      writes = subst (λ w. relations.Writes region w (ram_at x.storage) (ram_at (stored m w).storage)) (sym writes)
-          (λ b out.
-          let two = outside_push region c.base x.processor.sp (length c.state.items) b has.room top out in
-          ram_same x.storage _ b (λ ram. done.others b ram (differs b (x.processor.sp - 1) two.0) (differs b (x.processor.sp - 2) two.1)));
+      writes = subst (λ w. relations.Writes region w (ram_at x.storage) (ram_at (stored m w).storage)) (sym writes) changed;
+      in_turn = subst (λ w. WritesInTurn region w (ram_at x.storage) (ram_at (stored m w).storage)) (sym writes) changed;
     }
 
 stack_pushed : (z : Setting) (i : Halves) (s : AbsState) (core : Core) → nat_lt (item_room z.rules) (length s.items + 2) ≡ false → with_core (with_stack_moved z (move.Push i) s) (moved_core (move.Push i) core) ≡ pushed i (with_core s core)
@@ -426,4 +436,6 @@ Leaves-put c i k l put =
       kept = λ b kept. passed_peek (stored_at c) c.row.cycles b ∙ put.kept b kept;
       faults = faults_are c.rom c.stack.region c.machine c.row c.reads l.faults put.faults;
       related = related_left c k l put.writes;
+      store = put.faults;
+      in_turn = put.in_turn;
     }

@@ -10,7 +10,6 @@ use Rattle.gb_ops.specs.Effects as Effects
 use Rattle.gb_ops.specs.Machine.{advanced, loaded}
 use Rattle.gb_ops.specs.Pairs.{pair_value}
 use Rattle.gb_ops.specs.Faults.{load_faults}
-use Rattle.gb_ops.specs.Play.{MState}
 use Rattle.gb_domain.specs.declared.pairs.Bounds.{Bounds}
 use Rattle.gb_domain.specs.declared.pairs.WordPair.TheVariants as words
 use Rattle.gb_domain.specs.declared.rules.Rules.{Rules}
@@ -32,7 +31,7 @@ use Rattle.gb_product.specs.Below.gb_abs_effects.Accesses.{read_of}
 use Rattle.gb_product.specs.Below.gb_abs_effects.Pairs.{any_word}
 use Rattle.gb_product.specs.Below.gb_abs_effects.Sound.{HoldsRead, IsReadAt}
 use Rattle.gb_product.specs.Below.gb_abs_effects.Targets.{target_of, is_pop, is_return}
-use Rattle.gb_abs_memory.specs.Sound.{view}
+use Rattle.gb_code.specs.Below.gb_abs_memory.Sound.{view}
 use Rattle.gb_product.specs.Below.gb_relations.Pointers.{WithinIf, PointsWithin, pointer_of}
 use Rattle.gb_product.proofs.Below.gb_relations_laws.PointerLaws.{pointer_bounds_sound}
 use Rattle.gb_successors.specs.declared.stacks.StackMove.{StackMove}

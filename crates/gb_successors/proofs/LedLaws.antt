@@ -13,7 +13,6 @@ use Rattle.gb_ops.specs.declared.op.Op.TheVariants as op
 use Rattle.gb_ops.specs.Cartridge.{kind_of}
 use Rattle.gb_ops.specs.Memory.{Storage}
 use Rattle.gb_ops.specs.Pairs.{word}
-use Rattle.gb_ops.specs.Play.{MState}
 use Rattle.gb_domain.specs.declared.pairs.Bounds.{Bounds}
 use Rattle.gb_domain.specs.declared.types.Val.{Val}
 use Rattle.gb_domain.specs.declared.types.Core.{Core}

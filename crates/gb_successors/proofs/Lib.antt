@@ -6,7 +6,14 @@ pub mod AccessLaws
 pub mod WordLaws
 pub mod SuccessorLaws
 pub mod StackWayLaws
+pub mod SaidLaws
 pub mod RelatedLaws
+pub mod SilentLaws
+pub mod AreaLaws
+pub mod StoredLaws
+pub mod AsideLaws
+pub mod SummaryLaws
+pub mod QuietLaws
 pub mod MarkLaws
 pub mod ToldLaws
 pub mod Situations

@@ -1,5 +1,5 @@
 -- The states behind an instruction are those before, with another core, and moved where it moves items or cells.
-use Rattle.std.proofs.Common.{◌≡◌, ℕ, Bool, true, false, ◌||◌, if◌then◌else◌, ◌⊎◌, inl, inr, Option, Some, None, refl, sym, ap, ◌∙◌}
+use Rattle.std.proofs.Common.{◌≡◌, ℕ, ◌+◌, Bool, true, false, cond, ◌||◌, if◌then◌else◌, nat_lt, length, ◌⊎◌, inl, inr, Option, Some, None, refl, sym, ap, ◌∙◌}
 use Rattle.std.specs.Prelude.{is_some}
 use Rattle.gb_ops.specs.declared.machine.Kind.{Kind}
 use Rattle.gb_ops.specs.declared.machine.Region.{Region}
@@ -9,22 +9,27 @@ use Rattle.gb_domain.specs.declared.setting.Setting.{Setting}
 use Rattle.gb_domain.specs.declared.types.Val.{Val}
 use Rattle.gb_domain.specs.declared.types.Cell.{Cell}
 use Rattle.gb_domain.specs.declared.types.Core.{Core}
+use Rattle.gb_domain.specs.Limits.{item_room}
+use Rattle.gb_domain.specs.Summaries.{SummaryParts}
 use Rattle.gb_domain.specs.Types.{AbsState}
+use Rattle.gb_product.specs.Below.gb_abs.Bytes.{without_newest, with_any_bytes, resized}
+use Rattle.gb_product.specs.Below.gb_abs.Stack.{pushed}
 use Rattle.gb_product.specs.Below.gb_abs.declared.span.Span.{Span}
 use Rattle.gb_product.specs.Below.gb_abs.Span.{one}
 use Rattle.gb_product.specs.Below.gb_abs.Operations.{core_end, with_core}
 use Rattle.gb_product.specs.Below.gb_abs_effects.declared.writes.AbsWrite.{AbsWrite}
 use Rattle.gb_product.specs.Below.gb_abs_effects.declared.writes.AbsWrite.TheVariants as write
-use Rattle.gb_abs_memory.specs.declared.store.Area.{Area}
-use Rattle.gb_abs_memory.specs.declared.store.Area.TheVariants as area
-use Rattle.gb_abs_memory.specs.Access.{area_of, ram_stored, stored_in, stored_state, stored_core_in, stored_core}
-use Rattle.gb_abs_memory.specs.Items.{items_stored}
+use Rattle.gb_code.specs.Below.gb_abs_memory.declared.store.Area.{Area}
+use Rattle.gb_code.specs.Below.gb_abs_memory.declared.store.Area.TheVariants as area
+use Rattle.gb_code.specs.Below.gb_abs_memory.Access.{area_of, ram_stored, stored_in, stored_state, stored_core_in, stored_core}
+use Rattle.gb_code.specs.Below.gb_abs_memory.Items.{items_stored}
 use Rattle.gb_product.specs.Below.gb_abs.Located.{stack_base}
 use Rattle.gb_successors.specs.declared.stacks.Stack.{Stack}
 use Rattle.gb_successors.specs.declared.stacks.StackMove.{StackMove}
 use Rattle.gb_successors.specs.declared.stacks.StackMove.TheVariants as move
-use Rattle.gb_successors.specs.Stacks.{with_stack_moved}
-use Rattle.gb_successors.specs.Behind.{behind, written, ended, moves_stack, is_in_ram, changes_cells, move_of, with_cell_if, moved_state, moved_by, with_relations, state_behind, written_core}
+use Rattle.gb_successors.specs.declared.way.Moved.{Moved}
+use Rattle.gb_successors.specs.Stacks.{pushed_if_room, appended_if_room, set_if_room, begun_anew, with_stack_moved}
+use Rattle.gb_successors.specs.Behind.{behind, written, ended, moves_stack, is_in_ram, changes_cells, move_of, with_cell_if, moved_state, moved_by, with_relations, with_summary, summary_or, state_behind, written_core}
 
 -- ---- the core apart
 
@@ -132,17 +137,74 @@ moved_is k kind cell m w s c = by (is_some cell || moves_stack m || changes_cell
     by false e = let h = neither (is_some cell) (moves_stack m) (changes_cells kind w) e in unmoved k kind cell m w s c h.0 h.1.0 h.1.1
 
 pub taken_state :
-    (k : Stack) (kind : Kind) (cell : Option Cell) (m : StackMove) (w : AbsWrite) (s : AbsState) (c : Core) (r : Relations)
-    → state_behind (move_of k kind cell m w) w c r s ≡ with_relations r (with_core (moved_state k kind cell m w s) c)
-taken_state k kind cell m w s c r = ap (with_relations r) (moved_is k kind cell m w s c)
+    (k : Stack) (kind : Kind) (cell : Option Cell) (m : StackMove) (w : AbsWrite) (s : AbsState) (c : Core) (r : Relations) (said : Option SummaryParts)
+    → state_behind (move_of k kind cell m w) w c r said s ≡ with_summary (summary_or said s.summary) (with_relations r (with_core (moved_state k kind cell m w s) c))
+taken_state k kind cell m w s c r said = ap (λ t. with_summary (summary_or said s.summary) (with_relations r t)) (moved_is k kind cell m w s c)
+
+-- the cells behind it
+pub moved_cells :
+    (k : Stack) (kind : Kind) (cell : Option Cell) (m : StackMove) (w : AbsWrite) (s : AbsState) → (moved_by (move_of k kind cell m w) w s).cells ≡ (moved_state k kind cell m w s).cells
+moved_cells k kind cell m w s = ap (λ (t : AbsState). t.cells) (moved_is k kind cell m w s s.core)
+
+told_alone : (z : Setting) (cell : Option Cell) (n : ℕ) (s : AbsState) (c : Core) → with_summary s.summary (ended false n (with_cell_if z cell (with_core s c))) ≡ ended false n (with_cell_if z cell (with_core s c))
+unfolding with_cell_if ended
+told_alone z None n s c = refl
+told_alone z (Some d) n s c = refl
 
 pub untaken_state :
     (k : Stack) (kind : Kind) (cell : Option Cell) (n : ℕ) (s : AbsState) (c : Core) (r : Relations)
-    → state_behind (move_of k kind cell move.Stay write.Nothing) write.Nothing (core_end false n c) r s
+    → state_behind (move_of k kind cell move.Stay write.Nothing) write.Nothing (core_end false n c) r None s
     ≡ with_relations r (ended false n (with_cell_if k.setting cell (with_core s c)))
 unfolding moved_state written with_stack_moved with_cell_if ended
-untaken_state k kind cell n s c r = ap (with_relations r) (moved_is k kind cell move.Stay write.Nothing s (core_end false n c) ∙ alone k.setting cell)
+untaken_state k kind cell n s c r =
+    ap (λ t. with_summary s.summary (with_relations r t)) (moved_is k kind cell move.Stay write.Nothing s (core_end false n c) ∙ alone k.setting cell)
+    ∙ ap (with_relations r) (told_alone k.setting cell n s c)
   where
     alone : (z : Setting) (cell : Option Cell) → with_core (moved_state k kind cell move.Stay write.Nothing s) (core_end false n c) ≡ ended false n (with_cell_if k.setting cell (with_core s c))
     alone z None = refl
     alone z (Some d) = refl
+
+-- ---- what is said of the whole program
+
+summary_either : (b : Bool) (s t : AbsState) (m : SummaryParts) → s.summary ≡ m → t.summary ≡ m → (cond b s t).summary ≡ m
+summary_either true s t m e f = e
+summary_either false s t m e f = f
+
+stacked_summary : (z : Setting) (m : StackMove) (s : AbsState) → (with_stack_moved z m s).summary ≡ s.summary
+unfolding with_stack_moved pushed_if_room appended_if_room set_if_room pushed with_any_bytes without_newest resized
+stacked_summary z move.Stay s = refl
+stacked_summary z (move.Push w) s = summary_either (nat_lt (item_room z.rules) (length s.items + 2)) s (pushed w s) s.summary refl refl
+stacked_summary z (move.Take n) s = refl
+stacked_summary z (move.Append n) s = summary_either (nat_lt (item_room z.rules) (length s.items + n)) s (with_any_bytes n s) s.summary refl refl
+stacked_summary z (move.Set n) s = summary_either (nat_lt (item_room z.rules) n) s (resized n s) s.summary refl refl
+stacked_summary z (move.Restart n) s = summary_either (nat_lt (item_room z.rules) n) (begun_anew s) (resized n (begun_anew s)) s.summary refl refl
+stacked_summary z move.Lost s = refl
+
+stored_summary : (z : Setting) (region : Region) (k : Kind) (span : Span) (v : Val) (s : AbsState) → (stored_state z region k span v s).summary ≡ s.summary
+unfolding stored_state ram_stored
+stored_summary z region k span v s = by (area_of k span)
+  where
+    by : (a : Option Area) → (stored_in z region a k span v s).summary ≡ s.summary
+    by (Some (area.Controller (Some r))) = refl
+    by (Some area.Ram) = refl
+    by (Some area.InterruptEnable) = refl
+    by (Some _) = refl
+    by None = refl
+
+written_summary : (z : Setting) (region : Region) (k : Kind) (w : AbsWrite) (s : AbsState) → (written z region k w s).summary ≡ s.summary
+unfolding written
+written_summary z region k (write.Byte span v) s = stored_summary z region k span v s
+written_summary z region k (write.Word a low high) s = stored_summary z region k (one (behind a)) high (stored_state z region k (one a) low s) ∙ stored_summary z region k (one a) low s
+written_summary z region k _ s = refl
+
+pub told_summary : (z : Setting) (cell : Option Cell) (s : AbsState) → (with_cell_if z cell s).summary ≡ s.summary
+unfolding with_cell_if
+told_summary z None s = refl
+told_summary z (Some c) s = refl
+
+-- items and cells alone move
+pub moved_summary : (m : Moved) (w : AbsWrite) (s : AbsState) → (moved_state m.stack m.kind m.cell m.stack_move w s).summary ≡ s.summary
+unfolding moved_state
+moved_summary m w s =
+    written_summary m.stack.setting m.stack.region m.kind w (with_stack_moved m.stack.setting m.stack_move (with_cell_if m.stack.setting m.cell s))
+    ∙ (stacked_summary m.stack.setting m.stack_move (with_cell_if m.stack.setting m.cell s) ∙ told_summary m.stack.setting m.cell s)

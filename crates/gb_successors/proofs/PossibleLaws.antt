@@ -50,11 +50,11 @@ use Rattle.gb_product.specs.Below.gb_abs_effects.Sides as Flags
 use Rattle.gb_product.specs.Below.gb_abs_effects.Sound.{HoldsRead, IsReadAt}
 use Rattle.gb_product.proofs.Below.gb_abs_effects_laws.CoreLaws.{In-from, byte-of}
 use Rattle.gb_product.proofs.Below.gb_abs_effects_laws.SideLaws.{is_taken-without, is_taken-with}
-use Rattle.gb_abs_memory.specs.declared.store.Area.{Area}
-use Rattle.gb_abs_memory.specs.declared.store.Area.TheVariants as area
-use Rattle.gb_abs_memory.specs.Access.{meets_closed_ram, may_be_closed, is_limited, home_of, val_at, item_or, val_or_item, is_table, table_by, several_by, loaded_val, area_of, stored_core_in, stored_core}
-use Rattle.gb_abs_memory.specs.Shown.{known_bank}
-use Rattle.gb_abs_memory.specs.Sound.{view}
+use Rattle.gb_code.specs.Below.gb_abs_memory.declared.store.Area.{Area}
+use Rattle.gb_code.specs.Below.gb_abs_memory.declared.store.Area.TheVariants as area
+use Rattle.gb_code.specs.Below.gb_abs_memory.Access.{meets_closed_ram, may_be_closed, is_limited, home_of, val_at, item_or, val_or_item, is_table, table_by, several_by, loaded_val, area_of, stored_core_in, stored_core}
+use Rattle.gb_code.specs.Below.gb_abs_memory.Shown.{known_bank}
+use Rattle.gb_code.specs.Below.gb_abs_memory.Sound.{view}
 use Rattle.gb_product.specs.declared.parts.Product.{Product}
 use Rattle.gb_product.specs.Below.gb_pairs.Meaning.{AreBytes}
 use Rattle.gb_product.specs.Below.gb_pairs.Meaning as pair_meaning

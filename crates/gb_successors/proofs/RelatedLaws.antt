@@ -33,8 +33,8 @@ use Rattle.gb_product.specs.Below.gb_abs_effects.declared.writes.AbsWrite.TheVar
 use Rattle.gb_product.specs.Below.gb_abs_effects.Sound as effects
 use Rattle.gb_product.specs.Below.gb_abs_effects.Sound.{IsWrite}
 use Rattle.gb_product.proofs.Below.gb_abs_effects_laws.RangeLaws.{transfer_inhabited}
-use Rattle.gb_abs_memory.specs.Access.{stored_state}
-use Rattle.gb_abs_memory.proofs.AfterStoreLaws.{IsCore-stored_state}
+use Rattle.gb_code.specs.Below.gb_abs_memory.Access.{stored_state}
+use Rattle.gb_code.proofs.Below.gb_abs_memory_laws.AfterStoreLaws.{IsCore-stored_state}
 use Rattle.gb_product.specs.Below.gb_pairs.Meaning.{AreBytes}
 use Rattle.gb_product.specs.Below.gb_copies.Meaning.{HoldOneByte}
 use Rattle.gb_product.specs.Below.gb_relations.Meaning.{HoldRelations}
@@ -50,7 +50,8 @@ use Rattle.gb_successors.specs.Stacks.{pushed_if_room}
 use Rattle.gb_successors.specs.Refused.{meets_closed, meets_oam_transfer}
 use Rattle.gb_successors.specs.Successors.{related_successor}
 use Rattle.gb_successors.specs.Way.{Successor}
-use Rattle.gb_successors.specs.Sound.{is_followed, IsAllowed, IsStackFit, LeadsSimply, LeadsTo, LeadsParts, Leads}
+use Rattle.gb_successors.specs.Sound.{is_followed, IsAllowed, IsStackFit, LeadsSimply, LeadsTo, LeadsParts}
+use Rattle.gb_successors.proofs.SaidLaws.{LeadsRelated}
 use Rattle.gb_successors.proofs.SimpleLaws.{behind_row, low_of, high_of, abs_effect, with_stack_of, simple_parts}
 use Rattle.gb_successors.proofs.SuccessorLaws.{begun, given, effect, left_by, is_word, IsWord-sp, state_is, executed_taken, IsTaken, is_write, leads_simply}
 
@@ -200,7 +201,7 @@ pub Leads-taken :
     → IsTaken z rom region ranges row a s entry base x reads c
     → LeadsParts z region ranges (simple_parts z rom region row (behind_row a row) s c) entry base x (outside (executed (within rom x) row reads))
     → (sp : Bounds) (low : Val) (r : Relations) → AreRelated r (begun row x)
-    → Leads z region ranges (related_successor (relations_after z.rules region row.op sp c.registers low r) (simple_parts z rom region row (behind_row a row) s c)) entry base x
+    → LeadsRelated z region ranges (related_successor (relations_after z.rules region row.op sp c.registers low r) (simple_parts z rom region row (behind_row a row) s c)) entry base x
     (outside (executed (within rom x) row reads))
 Leads-taken z rom region ranges row a s entry base x reads c k led sp low r before =
     let t = simple_parts z rom region row (behind_row a row) s c in

@@ -52,8 +52,8 @@ use Rattle.gb_product.specs.Below.gb_abs_effects.Targets.{is_push, is_pop, is_ca
 use Rattle.gb_product.specs.Below.gb_abs_effects.Sound.{HoldsRead, HoldsWrite, HoldsTarget, IsWrite, Follows}
 use Rattle.gb_product.proofs.Below.gb_abs_effects_laws.ReadLaws.{read_of_sound}
 use Rattle.gb_product.proofs.Below.gb_abs_effects_laws.TargetLaws.{sp-pushed, sp-popped, pc-returned}
-use Rattle.gb_abs_memory.specs.Sound.{view}
-use Rattle.gb_abs_memory.specs.Kept.{IsKept}
+use Rattle.gb_code.specs.Below.gb_abs_memory.Sound.{view}
+use Rattle.gb_code.specs.Below.gb_abs_memory.Kept.{IsKept}
 use Rattle.gb_successors.specs.Behind.{read_word, written, starts, ended}
 use Rattle.gb_successors.specs.Refused.{reads_closed_ram, is_stack_limited, is_read_limited, is_write_limited}
 use Rattle.gb_successors.specs.Sound.{bytes_behind, IsPushable, IsPoppable, IsReturnable, IsStackKnown, IsStackFree, IsStackFit, IsAllowed, LeadsParts, LeadsSimply}

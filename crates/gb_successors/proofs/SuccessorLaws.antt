@@ -51,8 +51,8 @@ use Rattle.gb_product.proofs.Below.gb_abs_effects_laws.ReadLaws.{read_of_sound}
 use Rattle.gb_product.proofs.Below.gb_abs_effects_laws.RangeLaws.{transfer_inhabited}
 use Rattle.gb_product.proofs.Below.gb_abs_effects_laws.TargetLaws.{target_of_sound, sp-kept, sp-loaded}
 use Rattle.gb_product.proofs.Below.gb_abs_effects_laws.TransferLaws.{transfer_sound}
-use Rattle.gb_abs_memory.specs.Sound.{view, AreVals}
-use Rattle.gb_abs_memory.proofs.LoadLaws.{IsVal-loaded_val}
+use Rattle.gb_code.specs.Below.gb_abs_memory.Sound.{view, AreVals}
+use Rattle.gb_code.proofs.Below.gb_abs_memory_laws.LoadLaws.{IsVal-loaded_val}
 use Rattle.gb_successors.specs.Way.{Successor}
 use Rattle.gb_successors.specs.Behind.{read_word, written, starts, ended}
 use Rattle.gb_successors.specs.Refused.{is_unstorable, meets_closed, meets_oam_transfer, reads_closed_ram, writes_closed_ram, is_read_limited, is_write_limited}

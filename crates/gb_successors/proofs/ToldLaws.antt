@@ -32,12 +32,13 @@ use Rattle.gb_product.specs.Below.gb_abs_effects.declared.targets.Target.{Target
 use Rattle.gb_product.specs.Below.gb_abs_effects.declared.targets.Target.TheVariants as target
 use Rattle.gb_product.specs.Below.gb_abs_effects.Accesses.{read_of}
 use Rattle.gb_product.specs.Below.gb_abs_effects.Sides as Flags
-use Rattle.gb_abs_memory.specs.Sound.{AreVals}
+use Rattle.gb_code.specs.Below.gb_abs_memory.Sound.{AreVals}
 use Rattle.gb_product.specs.declared.parts.Branch.{Branch}
 use Rattle.gb_product.specs.Below.gb_relations.Sound.{IsByteFree}
 use Rattle.gb_product.specs.Sides.{side_where, taken_side}
 use Rattle.gb_product.specs.Sound.{HoldsCell, IsSideOf}
 use Rattle.gb_product.proofs.SideLaws.{side_placed}
+use Rattle.gb_product.proofs.SummaryLaws.{has_cells_with_cell, HoldSummary-with_cells}
 use Rattle.gb_successors.specs.Behind.{with_cell_if}
 use Rattle.gb_successors.specs.Sound.{IsStackKnown, IsStackFit, IsAllowed, Stands}
 use Rattle.gb_successors.specs.Way.{Successor}
@@ -118,7 +119,9 @@ Stands-told z rom region row a (Some c) s entry base x told h =
       items = h.items;
       unset = h.unset;
       room = h.room;
-      means = record { parts = MeansParts-told region (cell_room z.rules) c s entry base x told h.placed h.room h.is_region h.means.parts; related = h.means.related };
+      program = h.program;
+      apart = h.apart;
+      means = record { parts = MeansParts-told region (cell_room z.rules) c s entry base x told h.placed h.room h.is_region h.means.parts; related = h.means.related; summary = HoldSummary-with_cells entry.program s.cells _ s.summary x.processor (peek x.storage) x.storage.banks (has_cells_with_cell (cell_room z.rules) c s.cells) h.means.summary };
       based = h.based;
       at = h.at;
     }

@@ -29,16 +29,18 @@ use Rattle.gb_product.specs.Below.gb_abs_effects.declared.reads.AbsRead.TheVaria
 use Rattle.gb_product.specs.Below.gb_abs_effects.declared.writes.AbsWrite.TheVariants as write
 use Rattle.gb_product.specs.Below.gb_abs_effects.Transfer.{untaken}
 use Rattle.gb_product.proofs.Below.gb_abs_effects_laws.TransferLaws.{untaken_sound}
-use Rattle.gb_abs_memory.specs.Sound.{view}
-use Rattle.gb_product.specs.Meaning.{AreRelated}
+use Rattle.gb_code.specs.Below.gb_abs_memory.Sound.{view}
+use Rattle.gb_product.specs.Meaning.{AreRelated, IsSummarized}
 use Rattle.gb_product.specs.declared.parts.Branch.{Branch}
 use Rattle.gb_product.specs.Sound.{IsSideOf}
 use Rattle.gb_successors.specs.declared.stacks.Stack.{Stack}
 use Rattle.gb_successors.specs.Behind.{with_cell_if, with_relations, ended}
 use Rattle.gb_successors.specs.Way.{Successor}
 use Rattle.gb_successors.specs.Successors.{untaken_successor}
-use Rattle.gb_successors.specs.Sound.{bytes_behind, Leads, StaysAt, LeadsTo, Stands}
+use Rattle.gb_successors.specs.Sound.{bytes_behind, StaysAt, LeadsTo, Stands}
+use Rattle.gb_successors.proofs.SaidLaws.{LeadsRelated}
 use Rattle.gb_successors.proofs.SimpleLaws.{behind_row}
+use Rattle.gb_successors.proofs.SummaryLaws.{HoldSummary-begun, HoldSummary-passed}
 use Rattle.gb_successors.proofs.ToldLaws.{told_with_core}
 use Rattle.gb_successors.proofs.PlainLaws.{Keeps, Keeps-both, Keeps-cut}
 use Rattle.gb_successors.proofs.RelatedLaws.{MeansParts-related, HoldRelations-same}
@@ -99,7 +101,8 @@ pub untaken_executes :
     (z : Setting) (rom : List ℕ) (region : Region) (ranges : List Range) (row : Row) (a : ℕ) (s : AbsState) (entry : Activation) (base : ℕ) (x : MState) (reads : List ℕ) (c : Core) (r : Relations)
     → Stands z rom region row a s entry base x → (row.op ≡ op.Stop → ⊥) → x.processor.halt_mark ≡ false
     → Keeps s.core c → MeansCore c entry (begun row x) → AreRelated r (begun row x) → (effect rom row x reads).is_taken ≡ false
-    → Leads z region ranges (simple_untaken row (behind_row a row) s c r) entry base x (outside (executed (within rom x) row reads)) × (row_faults (Some row) region (within rom x) reads ≡ no_faults)
+    → LeadsRelated z region ranges (simple_untaken row (behind_row a row) s c r) entry base x (outside (executed (within rom x) row reads))
+    × IsSummarized (simple_untaken row (behind_row a row) s c r).state entry (outside (executed (within rom x) row reads)) × (row_faults (Some row) region (within rom x) reads ≡ no_faults)
 unfolding untaken ended
 untaken_executes z rom region ranges row a s entry base x reads c r stands runs mark keeps means related not_taken =
     let e = effect rom row x reads in
@@ -113,7 +116,7 @@ untaken_executes z rom region ranges row a s entry base x reads c r stands runs 
     ∙ (ap (left_by rom x e) cycles
     ∙ (ap (λ p. record { processor = p; storage = (passed (stored (view rom x false) e.write) row.cycles_not_taken).storage }) same
     ∙ ap (λ (m : View). record { processor = advanced x.processor row; storage = (passed m row.cycles_not_taken).storage }) (nothing_stored (view rom x false) e.write nothing))) in (
-      subst (λ y. Leads z region ranges (simple_untaken row (behind_row a row) s c r) entry base x y) (sym is)
+      subst (λ y. LeadsRelated z region ranges (simple_untaken row (behind_row a row) s c r) entry base x y) (sym is)
           (record {
             to = leads_at z region (behind_row a row) (simple_untaken row (behind_row a row) s c r) entry base x _ (record {
               means = MeansParts-related r _ entry base _
@@ -125,6 +128,8 @@ untaken_executes z rom region ranges row a s entry base x reads c r stands runs 
             kept = λ b kept. passed_peek (view rom x false) row.cycles_not_taken b;
             related = λ known. HoldRelations-same r _ (peek x.storage) _ _ (λ b. passed_peek (view rom x false) row.cycles_not_taken b) related;
           }),
+      subst (λ y. IsSummarized (simple_untaken row (behind_row a row) s c r).state entry y) (sym is)
+          (HoldSummary-passed entry.program s.cells s.summary (advanced x.processor row) (view rom x false) row.cycles_not_taken (HoldSummary-begun entry.program s.cells s.summary row x stands.means.summary)),
       faults_are rom region x row reads
           (no_load_faults (view rom x false) _ (sound.reads row.op (advanced x.processor row) v.low v.high not_taken))
           (no_store_faults region (view rom x false) e.write nothing),

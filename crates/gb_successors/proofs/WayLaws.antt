@@ -21,7 +21,10 @@ use Rattle.gb_domain.specs.declared.types.Val.{Val}
 use Rattle.gb_domain.specs.declared.types.ImeSet.{ImeSet}
 use Rattle.gb_domain.specs.declared.types.Core.{Core}
 use Rattle.gb_domain.specs.declared.types.Range.{Range}
+use Rattle.gb_domain.specs.Summaries.{Program, no_summary}
 use Rattle.gb_domain.specs.Types.{AbsState}
+use Rattle.gb_product.proofs.Below.gb_summaries_laws.MeaningLaws.{nothing_holds}
+use Rattle.gb_product.specs.Below.gb_abs_effects.declared.writes.AbsWrite.{AbsWrite}
 use Rattle.gb_product.specs.Below.gb_vals.Bits.{may_enable}
 use Rattle.gb_product.specs.Below.gb_abs.Located.{sp_bounds}
 use Rattle.gb_product.specs.Below.gb_abs.Operations.{core_settle, with_core, ime_set_after}
@@ -35,7 +38,7 @@ use Rattle.gb_product.specs.Below.gb_abs_effects.declared.targets.Target.TheVari
 use Rattle.gb_product.specs.Below.gb_abs_effects.Accesses.{read_of}
 use Rattle.gb_product.specs.Below.gb_abs_effects.Targets.{target_of}
 use Rattle.gb_product.specs.Below.gb_abs_effects.Transfer.{transfer}
-use Rattle.gb_abs_memory.specs.Sound.{view}
+use Rattle.gb_code.specs.Below.gb_abs_memory.Sound.{view}
 use Rattle.gb_product.specs.Below.gb_pairs.Meaning.{AreBytes}
 use Rattle.gb_product.specs.Below.gb_copies.Meaning.{HoldOneByte}
 use Rattle.gb_product.specs.Below.gb_relations.Compared.{comparison_of, writes_a, compared_after}
@@ -54,13 +57,16 @@ use Rattle.gb_successors.specs.declared.stacks.Stack.{Stack}
 use Rattle.gb_successors.specs.declared.successors.Successors.{Successors}
 use Rattle.gb_successors.specs.Behind.{starts, written, with_cell_if, ended}
 use Rattle.gb_successors.specs.Way.{Successor}
-use Rattle.gb_successors.specs.Successors.{word_in, related_successor, relations_behind, taken_successor, untaken_successor, with_product, reduced_successor, product_before, taken_from, not_taken_from, staying_successor, woken, may_stay, stays, successors_of}
+use Rattle.gb_successors.specs.Successors.{word_in, related_successor, relations_behind, taken_successor, untaken_successor, with_product, reduced_successor, product_before, taken_from, not_taken_from, staying_successor, woken, may_stay, stays, successors_of, taken_parts, said_successor, summary_behind}
+use Rattle.gb_successors.specs.Summaries.{summary_by}
 use Rattle.gb_successors.specs.Sound.{bytes_behind, IsAllowed, Leads, LeadsSimply, LeadsParts, LeadsBy, IsHalt, IsHeld, IsStackKnown, Stands, IsRuled, IsStackRuled, Executes, AreSoundSuccessors}
 use Rattle.gb_successors.proofs.SimpleLaws.{behind_row, with_stack_of, simple_parts, IsTold, taken_simply}
 use Rattle.gb_successors.proofs.ToldLaws.{told_core, told_items, IsToldCell, IsToldCell-side, Stands-told, IsStackKnown-told, IsAllowed-told, IsTold-taken}
 use Rattle.gb_successors.proofs.PlainLaws.{Keeps, Keeps-settle}
 use Rattle.gb_successors.proofs.MarkLaws.{executed_mark}
-use Rattle.gb_successors.proofs.RelatedLaws.{IsAllowed-parts, LeadsSimply-related, by_rules, related_begun, Leads-taken, HoldRelations-same}
+use Rattle.gb_successors.proofs.SaidLaws.{Leads-summarized, Leads-said, IsAllowed-said}
+use Rattle.gb_successors.proofs.SummaryLaws.{HoldSummary-passed, HoldSummary-settled}
+use Rattle.gb_successors.proofs.RelatedLaws.{MeansParts-related, IsAllowed-parts, LeadsSimply-related, by_rules, related_begun, Leads-taken, HoldRelations-same}
 use Rattle.gb_successors.proofs.SuccessorLaws.{begun, given, effect, begun_core, MeansParts-ended, passed_peek, leads_simply, IsTaken, Done}
 use Rattle.gb_successors.proofs.ExtendedWayLaws.{before_of, executes_widely}
 use Rattle.gb_successors.proofs.HaltBugLaws.{halt_repeats_widely}
@@ -79,38 +85,49 @@ whole_successor : (rules : Rules) (t : Successor) → rules ≡ Simple → reduc
 unfolding reduced_successor
 whole_successor rules t h = ap (option_map (with_product t)) (reduced_simply rules t.state.core t.state.relations h)
 
-taken_way : (k : Stack) (rom : List ℕ) (row : Row) (a : ℕ) (s : AbsState) (b : Branch) → k.setting.rules ≡ Simple
+taken_way : (k : Stack) (program : Program) (rom : List ℕ) (row : Row) (a : ℕ) (s : AbsState) (b : Branch) → k.setting.rules ≡ Simple
     → taken_side row.op s.cells (core_settle s.core) s.relations ≡ Some b
-    → (successors_of k rom row a s).taken ≡ Some (taken_successor k rom row (behind_row a row) s b)
+    → (successors_of k program rom row a s).taken ≡ Some (taken_successor k program rom row (behind_row a row) s b)
 unfolding successors_of product_before
-taken_way k rom row a s b h e =
+taken_way k program rom row a s b h e =
     let next = behind_row a row in
-    ap (option_and_then (taken_from k rom row next s)) (reduced_simply k.setting.rules (core_settle s.core) s.relations h)
-    ∙ (ap (option_and_then (λ (c : Branch). reduced_successor k.setting.rules (taken_successor k rom row next s c))) e
-    ∙ whole_successor k.setting.rules (taken_successor k rom row next s b) h)
+    ap (option_and_then (taken_from k program rom row next s)) (reduced_simply k.setting.rules (core_settle s.core) s.relations h)
+    ∙ (ap (option_and_then (λ (c : Branch). reduced_successor k.setting.rules (taken_successor k program rom row next s c))) e
+    ∙ whole_successor k.setting.rules (taken_successor k program rom row next s b) h)
 
-untaken_way : (k : Stack) (rom : List ℕ) (row : Row) (a : ℕ) (s : AbsState) (b : Branch) → k.setting.rules ≡ Simple
+untaken_way : (k : Stack) (program : Program) (rom : List ℕ) (row : Row) (a : ℕ) (s : AbsState) (b : Branch) → k.setting.rules ≡ Simple
     → not_taken_side row.op s.cells (core_settle s.core) s.relations ≡ Some b
-    → (successors_of k rom row a s).not_taken ≡ Some (untaken_successor k row (behind_row a row) s b)
+    → (successors_of k program rom row a s).not_taken ≡ Some (untaken_successor k row (behind_row a row) s b)
 unfolding successors_of product_before
-untaken_way k rom row a s b h e =
+untaken_way k program rom row a s b h e =
     let next = behind_row a row in
     ap (option_and_then (not_taken_from k row next s)) (reduced_simply k.setting.rules (core_settle s.core) s.relations h)
     ∙ (ap (option_and_then (λ (c : Branch). reduced_successor k.setting.rules (untaken_successor k row next s c))) e
     ∙ whole_successor k.setting.rules (untaken_successor k row next s b) h)
 
--- the successor where it is taken
-abbrev simple_taken : Stack → List ℕ → Row → ℕ → AbsState → Branch → Successor
-simple_taken k rom row next s b =
+-- the successor where it is taken, which says nothing of the whole program
+abbrev simple_related : Stack → List ℕ → Row → ℕ → AbsState → Branch → Successor
+simple_related k rom row next s b =
     related_successor (relations_behind k rom row.op s (product_of b.core b.relations))
     (simple_parts k.setting rom k.region row next (with_cell_if k.setting b.cell s) b.core)
 
+abbrev simple_taken : Stack → List ℕ → Row → ℕ → AbsState → Branch → Successor
+simple_taken k rom row next s b = said_successor no_summary (simple_related k rom row next s b)
+
+nothing_said : (r : Rules) (k : Stack) (program : Program) (o : Op) (s : AbsState) (p : Product) (what : AbsWrite) (cells : List Cell) → r ≡ Simple → summary_by r k program o s p what cells ≡ no_summary
+unfolding summary_by
+nothing_said Simple k program o s p what cells h = refl
+nothing_said Extended k program o s p what cells h = absurd cc
+
 taken_is :
-    (k : Stack) (rom : List ℕ) (row : Row) (next : ℕ) (s : AbsState) (b : Branch) → k.setting.rules ≡ Simple → IsTold b.cell (read_of row.op b.core)
-    → taken_successor k rom row next s b ≡ simple_taken k rom row next s b
-unfolding taken_successor
-taken_is k rom row next s b h told =
-    ap (related_successor (relations_behind k rom row.op s (product_of b.core b.relations))) (taken_simply k rom row next s (product_of b.core b.relations) b.cell h told)
+    (k : Stack) (program : Program) (rom : List ℕ) (row : Row) (next : ℕ) (s : AbsState) (b : Branch) → k.setting.rules ≡ Simple → IsTold b.cell (read_of row.op b.core)
+    → taken_successor k program rom row next s b ≡ simple_taken k rom row next s b
+unfolding taken_successor summary_behind
+taken_is k program rom row next s b h told =
+    let p = product_of b.core b.relations in
+    let t = taken_parts k rom row next s p b.cell in
+    ap (λ m. said_successor m (related_successor (relations_behind k rom row.op s p) t)) (nothing_said k.setting.rules k program row.op s p t.write t.state.cells h)
+    ∙ ap (λ u. said_successor no_summary (related_successor (relations_behind k rom row.op s p) u)) (taken_simply k rom row next s p b.cell h told)
 
 Leads-behind :
     (k : Stack) (rom : List ℕ) (ranges : List Range) (row : Row) (a : ℕ) (s : AbsState) (entry : Activation) (base : ℕ) (x : MState) (reads : List ℕ) (b : Branch)
@@ -119,20 +136,23 @@ Leads-behind :
     → Leads k.setting k.region ranges (simple_taken k rom row (behind_row a row) s b) entry base x (outside (executed (within rom x) row reads))
 unfolding relations_behind
 Leads-behind k rom ranges row a s entry base x reads b taken related led =
-    Leads-taken k.setting rom k.region ranges row a (with_cell_if k.setting b.cell s) entry base x reads b.core taken led
-    (sp_bounds k.setting s) (word_in k rom row.op s (product_of b.core b.relations)).low b.relations related
+    let y = outside (executed (within rom x) row reads) in
+    Leads-said k.setting k.region ranges no_summary (simple_related k rom row (behind_row a row) s b) entry base x y
+    (Leads-taken k.setting rom k.region ranges row a (with_cell_if k.setting b.cell s) entry base x reads b.core taken led
+    (sp_bounds k.setting s) (word_in k rom row.op s (product_of b.core b.relations)).low b.relations related)
+    (nothing_holds entry.program _ y.processor (peek y.storage) y.storage.banks)
 
-held_simply : (k : Stack) (rom : List ℕ) (row : Row) (a : ℕ) (s : AbsState) (t : Successor) → k.setting.rules ≡ Simple → length t.state.items ≤ bytes_behind row.op (length s.items) → IsHeld k.setting.rules k rom row a s t
-held_simply k rom row a s t e h = subst (λ r. IsHeld r k rom row a s t) (sym e) h
+held_simply : (k : Stack) (program : Program) (rom : List ℕ) (row : Row) (a : ℕ) (s : AbsState) (t : Successor) → k.setting.rules ≡ Simple → length t.state.items ≤ bytes_behind row.op (length s.items) → IsHeld k.setting.rules k program rom row a s t
+held_simply k program rom row a s t e h = subst (λ r. IsHeld r k program rom row a s t) (sym e) h
 
-stack_simply : (k : Stack) (rom : List ℕ) (row : Row) (a : ℕ) (s : AbsState) (base : ℕ) → k.setting.rules ≡ Simple → IsRuled k rom row a s base → IsStackKnown k.setting k.region row.op s base
-stack_simply k rom row a s base e h = subst (λ r. IsStackRuled r k rom row a s base) e h.stack
+stack_simply : (k : Stack) (program : Program) (rom : List ℕ) (row : Row) (a : ℕ) (s : AbsState) (base : ℕ) → k.setting.rules ≡ Simple → IsRuled k program rom row a s base → IsStackKnown k.setting k.region row.op s base
+stack_simply k program rom row a s base e h = subst (λ r. IsStackRuled r k program rom row a s base) e h.stack
 
 executes_simply :
-    (k : Stack) (rom : List ℕ) (row : Row) (a : ℕ) (s : AbsState) (ranges : List Range) (entry : Activation) (base : ℕ) (x : MState) (reads : List ℕ)
-    → k.setting.rules ≡ Simple → Stands k.setting rom k.region row a s entry base x → IsRuled k rom row a s base → x.processor.halt_mark ≡ false → slice_index reads 0 ≤ 255
-    → Executes k rom ranges row a s (successors_of k rom row a s) entry base x reads
-executes_simply k rom row a s ranges entry base x reads simple stands ruled mark byte =
+    (k : Stack) (program : Program) (rom : List ℕ) (row : Row) (a : ℕ) (s : AbsState) (ranges : List Range) (entry : Activation) (base : ℕ) (x : MState) (reads : List ℕ)
+    → k.setting.rules ≡ Simple → Stands k.setting rom k.region row a s entry base x → IsRuled k program rom row a s base → x.processor.halt_mark ≡ false → slice_index reads 0 ≤ 255
+    → Executes k program rom ranges row a s (successors_of k program rom row a s) entry base x reads
+executes_simply k program rom row a s ranges entry base x reads simple stands ruled mark byte =
     choose (effect rom row x reads).is_taken refl
   where
     settled : Core
@@ -145,7 +165,7 @@ executes_simply k rom row a s ranges entry base x reads simple stands ruled mark
     begins = begun_core row x s.core entry stands.means.parts.core
 
     by_taken : (o : Option Branch) → taken_side row.op s.cells settled s.relations ≡ o → (effect rom row x reads).is_taken ≡ true → IsMeantBranch o entry (begun row x)
-        → Executes k rom ranges row a s (successors_of k rom row a s) entry base x reads
+        → Executes k program rom ranges row a s (successors_of k program rom row a s) entry base x reads
     by_taken None e taken h = absurd h
     by_taken (Some b) e taken h =
         let is = side_facts _ b s.cells settled s.relations e (taken_side_cuts row.op s.cells settled s.relations _ refl) in
@@ -156,7 +176,7 @@ executes_simply k rom row a s ranges entry base x reads simple stands ruled mark
           rules = simple;
           operands = ruled.operands;
           runs = ruled.runs;
-          stack = IsStackKnown-told k.setting k.region row.op b.cell s base (stack_simply k rom row a s base simple ruled);
+          stack = IsStackKnown-told k.setting k.region row.op b.cell s base (stack_simply k program rom row a s base simple ruled);
           mark = mark;
           byte = byte;
           keeps = subst (λ c. Keeps c b.core) (sym (told_core k.setting b.cell s)) (keeps_side s.core settled s.cells s.relations b (Keeps-settle s.core) is);
@@ -168,18 +188,19 @@ executes_simply k rom row a s ranges entry base x reads simple stands ruled mark
         let done : IsAllowed k.setting rom k.region ranges s base (simple_taken k rom row (behind_row a row) s b) → Done k.setting rom k.region ranges row told parts entry base x reads =
         λ allowed. taken_executes k.setting rom k.region ranges row a told entry base x reads b.core t
         (IsAllowed-told k.setting rom k.region ranges b.cell s base parts
-        (IsAllowed-parts k.setting rom k.region ranges s base (relations_behind k rom row.op s (product_of b.core b.relations)) parts allowed)) in
+        (IsAllowed-parts k.setting rom k.region ranges s base (relations_behind k rom row.op s (product_of b.core b.relations)) parts
+        (IsAllowed-said k.setting rom k.region ranges s base no_summary (simple_related k rom row (behind_row a row) s b) allowed))) in
         record {
           successor = simple_taken k rom row (behind_row a row) s b;
-          is_one = inl (taken_way k rom row a s b simple e ∙ ap Some (taken_is k rom row (behind_row a row) s b simple (IsTold-taken row.op s.cells settled b.core s.relations b e)));
+          is_one = inl (taken_way k program rom row a s b simple e ∙ ap Some (taken_is k program rom row (behind_row a row) s b simple (IsTold-taken row.op s.cells settled b.core s.relations b e)));
           mark = executed_mark rom x row reads;
-          held = λ allowed. held_simply k rom row a s (simple_taken k rom row (behind_row a row) s b) simple (subst (λ items. length parts.state.items ≤ bytes_behind row.op (length items)) (told_items k.setting b.cell s) (done allowed).held);
+          held = λ allowed. held_simply k program rom row a s (simple_taken k rom row (behind_row a row) s b) simple (subst (λ items. length parts.state.items ≤ bytes_behind row.op (length items)) (told_items k.setting b.cell s) (done allowed).held);
           leads = λ allowed. Leads-behind k rom ranges row a s entry base x reads b t h.related (done allowed).leads;
           faults = λ allowed. (done allowed).faults;
         }
 
     by_not_taken : (o : Option Branch) → not_taken_side row.op s.cells settled s.relations ≡ o → (effect rom row x reads).is_taken ≡ false → IsMeantBranch o entry (begun row x)
-        → Executes k rom ranges row a s (successors_of k rom row a s) entry base x reads
+        → Executes k program rom ranges row a s (successors_of k program rom row a s) entry base x reads
     by_not_taken None e not_taken h = absurd h
     by_not_taken (Some b) e not_taken h =
         let is = side_facts _ b s.cells settled s.relations e (not_taken_side_cuts row.op s.cells settled s.relations _ refl) in
@@ -189,15 +210,15 @@ executes_simply k rom row a s ranges entry base x reads simple stands ruled mark
         let done = untaken_executes k.setting rom k.region ranges row a told entry base x reads b.core b.relations (Stands-told k.setting rom k.region row a b.cell s entry base x cell stands) ruled.runs mark keeps h.core h.related not_taken in
         record {
           successor = simple_untaken row (behind_row a row) told b.core b.relations;
-          is_one = inr (inl (untaken_way k rom row a s b simple e ∙ ap Some (untaken_simply k row (behind_row a row) s b)));
+          is_one = inr (inl (untaken_way k program rom row a s b simple e ∙ ap Some (untaken_simply k row (behind_row a row) s b)));
           mark = executed_mark rom x row reads;
-          held = λ allowed. held_simply k rom row a s (simple_untaken row (behind_row a row) told b.core b.relations) simple (subst (λ items. length (simple_untaken row (behind_row a row) told b.core b.relations).state.items ≤ bytes_behind row.op (length items)) (told_items k.setting b.cell s)
+          held = λ allowed. held_simply k program rom row a s (simple_untaken row (behind_row a row) told b.core b.relations) simple (subst (λ items. length (simple_untaken row (behind_row a row) told b.core b.relations).state.items ≤ bytes_behind row.op (length items)) (told_items k.setting b.cell s)
               (bytes_untaken row (behind_row a row) told b.core b.relations));
-          leads = λ allowed. done.0;
-          faults = λ allowed. done.1;
+          leads = λ allowed. Leads-summarized k.setting k.region ranges (simple_untaken row (behind_row a row) told b.core b.relations) entry base x (outside (executed (within rom x) row reads)) done.0 done.1;
+          faults = λ allowed. done.2;
         }
 
-    choose : (b : Bool) → (effect rom row x reads).is_taken ≡ b → Executes k rom ranges row a s (successors_of k rom row a s) entry base x reads
+    choose : (b : Bool) → (effect rom row x reads).is_taken ≡ b → Executes k program rom ranges row a s (successors_of k program rom row a s) entry base x reads
     choose true e =
         by_taken _ refl e ((taken_side_sound row.op s.cells settled s.relations _ refl stands.pairs).gives entry (begun row x) (given rom row x reads).low (given rom row x reads).high known begins e)
     choose false e =
@@ -220,9 +241,9 @@ stays_way : (row : Row) (a : ℕ) (s : AbsState) → row.op ≡ op.Halt → s.co
 unfolding stays may_stay
 stays_way row a s is pending enable = rw (is, pending, enable) refl
 
-stays_at : (k : Stack) (rom : List ℕ) (row : Row) (a : ℕ) (s : AbsState) (p : Product) → product_before k.setting.rules s ≡ Some p → (successors_of k rom row a s).stays ≡ stays row a s
+stays_at : (k : Stack) (program : Program) (rom : List ℕ) (row : Row) (a : ℕ) (s : AbsState) (p : Product) → product_before k.setting.rules s ≡ Some p → (successors_of k program rom row a s).stays ≡ stays row a s
 unfolding successors_of
-stays_at k rom row a s p is = ap (option_and_then (λ (q : Product). stays row a s)) is
+stays_at k program rom row a s p is = ap (option_and_then (λ (q : Product). stays row a s)) is
 
 -- interrupts are on
 woken_core : (s : Core) (entry : Activation) (x : MState) → MeansCore s entry x → MeansCore (woken s) entry (record x { processor = record x.processor { ime = ime.On } })
@@ -237,28 +258,34 @@ woken_core s entry x m = record {
   stopped = m.stopped;
 }
 
+not_both : (i : Ime) → i ≡ ime.Pending → i ≡ ime.Off → ⊥
+not_both i e f = absurd (let bad : ime.Pending ≡ ime.Off = sym e ∙ f in cc)
+
 halt_stays :
-    (k : Stack) (rom : List ℕ) (row : Row) (a : ℕ) (s : AbsState) (ranges : List Range) (entry : Activation) (base : ℕ) (x : MState)
+    (k : Stack) (program : Program) (rom : List ℕ) (row : Row) (a : ℕ) (s : AbsState) (ranges : List Range) (entry : Activation) (base : ℕ) (x : MState)
     → Stands k.setting rom k.region row a s entry base x → IsHalt row → x.processor.ime ≡ ime.Pending → has_enabled (within rom x) ≡ true
-    → LeadsBy k.setting k.region ranges (length s.items) (successors_of k rom row a s).stays entry base x (outside (halt_stay (within rom x)))
+    → LeadsBy k.setting k.region ranges (length s.items) (successors_of k program rom row a s).stays entry base x (outside (halt_stay (within rom x)))
 unfolding halt_stay within outside staying_successor ended
-halt_stays k rom row a s ranges entry base x stands halt pending enabled =
+halt_stays k program rom row a s ranges entry base x stands halt pending enabled =
     let m = stands.means.parts in
     let woke : MState = record x { processor = record x.processor { ime = ime.On } } in
     let before = before_of k s entry (begun row x) stands.core stands.pairs (begun_core row x s.core entry m.core) (related_begun row x s.relations stands.means.related) in
     record {
       successor = staying_successor a s;
       held = bytes_ended 1 (with_core s (woken s.core));
-      is_way = stays_at k rom row a s before.product before.is ∙ stays_way row a s halt.op_is (pending_known s.core.ime x.processor.ime pending m.core.ime) (enabled_known s.core.ie entry x.storage.ie m.core.ie enabled);
+      is_way = stays_at k program rom row a s before.product before.is ∙ stays_way row a s halt.op_is (pending_known s.core.ime x.processor.ime pending m.core.ime) (enabled_known s.core.ie entry x.storage.ie m.core.ie enabled);
       leads = record {
         to = leads_at k.setting k.region a (staying_successor a s) entry base x _ (record {
-          means = MeansParts-ended rom (with_core s (woken s.core)) entry base woke.processor (view rom x false) false 1 refl
-              (MeansParts-with_core s (woken s.core) entry base x woke m (woken_core s.core entry x m.core) refl refl refl (λ set. set));
+          means = MeansParts-related s.relations (ended false 1 (with_core s (woken s.core))) entry base _
+              (MeansParts-ended rom (with_core s (woken s.core)) entry base woke.processor (view rom x false) false 1 refl
+              (MeansParts-with_core s (woken s.core) entry base x woke m (woken_core s.core entry x m.core) refl refl refl (λ set. set)));
           goes = stands.at;
           room = ended_room k.region base false 1 (with_core s (woken s.core)) stands.room;
         });
         kept = λ b kept. passed_peek (view rom x false) 1 b;
         related = λ known. HoldRelations-same s.relations _ (peek x.storage) _ _ (λ b. passed_peek (view rom x false) 1 b) stands.means.related;
+        summary = HoldSummary-passed entry.program s.cells s.summary woke.processor (view rom x false) 1
+            (HoldSummary-settled entry.program s.cells s.summary x.processor woke.processor (peek x.storage) x.storage.banks refl refl (λ off. absurd (not_both x.processor.ime pending off)) stands.means.summary);
       };
     }
 
@@ -308,11 +335,11 @@ halt_related k rom row a s entry base x y simple stands halt registers flags =
     (subst (λ r. AreBytes r) (sym registers) (AreBytes-core s.core entry x stands.core stands.means.parts.core))
 
 halt_repeats_simply :
-    (k : Stack) (rom : List ℕ) (row : Row) (a : ℕ) (s : AbsState) (ranges : List Range) (entry : Activation) (base : ℕ) (x : MState)
+    (k : Stack) (program : Program) (rom : List ℕ) (row : Row) (a : ℕ) (s : AbsState) (ranges : List Range) (entry : Activation) (base : ℕ) (x : MState)
     → k.setting.rules ≡ Simple → Stands k.setting rom k.region row a s entry base x → IsHalt row → x.processor.ime ≡ ime.Off → x.processor.halt_mark ≡ false
-    → LeadsBy k.setting k.region ranges (length s.items) (successors_of k rom row a s).taken entry base x (outside (halt_bug (within rom x)))
+    → LeadsBy k.setting k.region ranges (length s.items) (successors_of k program rom row a s).taken entry base x (outside (halt_bug (within rom x)))
 unfolding halt_bug within outside with_cell_if
-halt_repeats_simply k rom row a s ranges entry base x simple stands halt off mark =
+halt_repeats_simply k program rom row a s ranges entry base x simple stands halt off mark =
     let m = stands.means.parts in
     let c = core_settle s.core in
     let b : Branch = record { core = c; relations = s.relations; cell = None } in
@@ -331,42 +358,44 @@ halt_repeats_simply k rom row a s ranges entry base x simple stands halt off mar
     }) in
     record {
       successor = simple_taken k rom row (behind_row a row) s b;
-      is_way = taken_way k rom row a s b simple (halt_side row s.cells c s.relations halt.op_is) ∙ ap Some (taken_is k rom row (behind_row a row) s b simple tt);
+      is_way = taken_way k program rom row a s b simple (halt_side row s.cells c s.relations halt.op_is) ∙ ap Some (taken_is k program rom row (behind_row a row) s b simple tt);
       held = subst (λ (u : AbsState). length u.items ≤ length s.items) (sym (halt_state k.setting rom k.region row a s c halt)) (bytes_ended 1 (with_core s c));
-      leads = record {
-        to = leads_simply k.setting k.region t.target _ entry base x y simple (LeadsSimply-related k.region t.target (relations_behind k rom row.op s (product_of c s.relations)) t entry base x y to);
-        kept = λ b kept. passed_peek (view rom x false) 1 b;
-        related = λ known. halt_related k rom row a s entry base x y simple stands halt refl refl;
-      };
+      leads = Leads-said k.setting k.region ranges no_summary (related_successor (relations_behind k rom row.op s (product_of c s.relations)) t) entry base x y
+          (record {
+            to = leads_simply k.setting k.region t.target _ entry base x y simple (LeadsSimply-related k.region t.target (relations_behind k rom row.op s (product_of c s.relations)) t entry base x y to);
+            kept = λ b kept. passed_peek (view rom x false) 1 b;
+            related = λ known. halt_related k rom row a s entry base x y simple stands halt refl refl;
+          })
+          (nothing_holds entry.program _ y.processor (peek y.storage) y.storage.banks);
     }
 
 -- ---- by any rules
 
 executes :
-    (k : Stack) (rom : List ℕ) (row : Row) (a : ℕ) (s : AbsState) (ranges : List Range) (entry : Activation) (base : ℕ) (x : MState) (reads : List ℕ)
-    → Stands k.setting rom k.region row a s entry base x → IsRuled k rom row a s base → x.processor.halt_mark ≡ false → slice_index reads 0 ≤ 255
-    → Executes k rom ranges row a s (successors_of k rom row a s) entry base x reads
-executes k rom row a s ranges entry base x reads stands ruled mark byte = by k.setting.rules refl
+    (k : Stack) (program : Program) (rom : List ℕ) (row : Row) (a : ℕ) (s : AbsState) (ranges : List Range) (entry : Activation) (base : ℕ) (x : MState) (reads : List ℕ)
+    → entry.program ≡ program → Stands k.setting rom k.region row a s entry base x → IsRuled k program rom row a s base → x.processor.halt_mark ≡ false → slice_index reads 0 ≤ 255
+    → Executes k program rom ranges row a s (successors_of k program rom row a s) entry base x reads
+executes k program rom row a s ranges entry base x reads of stands ruled mark byte = by k.setting.rules refl
   where
-    by : (r : Rules) → k.setting.rules ≡ r → Executes k rom ranges row a s (successors_of k rom row a s) entry base x reads
-    by Simple e = executes_simply k rom row a s ranges entry base x reads e stands ruled mark byte
-    by Extended e = executes_widely k rom row a s ranges entry base x reads e stands ruled mark byte
+    by : (r : Rules) → k.setting.rules ≡ r → Executes k program rom ranges row a s (successors_of k program rom row a s) entry base x reads
+    by Simple e = executes_simply k program rom row a s ranges entry base x reads e stands ruled mark byte
+    by Extended e = executes_widely k program rom row a s ranges entry base x reads e of stands ruled mark byte
 
 halt_repeats :
-    (k : Stack) (rom : List ℕ) (row : Row) (a : ℕ) (s : AbsState) (ranges : List Range) (entry : Activation) (base : ℕ) (x : MState)
-    → Stands k.setting rom k.region row a s entry base x → IsHalt row → x.processor.ime ≡ ime.Off → x.processor.halt_mark ≡ false
-    → LeadsBy k.setting k.region ranges (length s.items) (successors_of k rom row a s).taken entry base x (outside (halt_bug (within rom x)))
-halt_repeats k rom row a s ranges entry base x stands halt off mark = by k.setting.rules refl
+    (k : Stack) (program : Program) (rom : List ℕ) (row : Row) (a : ℕ) (s : AbsState) (ranges : List Range) (entry : Activation) (base : ℕ) (x : MState)
+    → entry.program ≡ program → Stands k.setting rom k.region row a s entry base x → IsHalt row → x.processor.ime ≡ ime.Off → x.processor.halt_mark ≡ false
+    → LeadsBy k.setting k.region ranges (length s.items) (successors_of k program rom row a s).taken entry base x (outside (halt_bug (within rom x)))
+halt_repeats k program rom row a s ranges entry base x of stands halt off mark = by k.setting.rules refl
   where
-    by : (r : Rules) → k.setting.rules ≡ r → LeadsBy k.setting k.region ranges (length s.items) (successors_of k rom row a s).taken entry base x (outside (halt_bug (within rom x)))
-    by Simple e = halt_repeats_simply k rom row a s ranges entry base x e stands halt off mark
-    by Extended e = halt_repeats_widely k rom row a s ranges entry base x e stands halt off mark
+    by : (r : Rules) → k.setting.rules ≡ r → LeadsBy k.setting k.region ranges (length s.items) (successors_of k program rom row a s).taken entry base x (outside (halt_bug (within rom x)))
+    by Simple e = halt_repeats_simply k program rom row a s ranges entry base x e stands halt off mark
+    by Extended e = halt_repeats_widely k program rom row a s ranges entry base x e of stands halt off mark
 
-pub successors_of_sound : (k : Stack) (rom : List ℕ) (row : Row) (a : ℕ) (s : AbsState) (ss : Successors) → ss ≡ successors_of k rom row a s → AreSoundSuccessors k rom row a s ss
-successors_of_sound k rom row a s ss e =
-    subst (AreSoundSuccessors k rom row a s) (sym e)
+pub successors_of_sound : (k : Stack) (program : Program) (rom : List ℕ) (row : Row) (a : ℕ) (s : AbsState) (ss : Successors) → ss ≡ successors_of k program rom row a s → AreSoundSuccessors k program rom row a s ss
+successors_of_sound k program rom row a s ss e =
+    subst (AreSoundSuccessors k program rom row a s) (sym e)
     (record {
-      executes = λ ranges entry base x reads stands ruled mark byte. executes k rom row a s ranges entry base x reads stands ruled mark byte;
-      stays = λ ranges entry base x stands halt pending enabled. halt_stays k rom row a s ranges entry base x stands halt pending enabled;
-      repeats = λ ranges entry base x stands halt off mark. halt_repeats k rom row a s ranges entry base x stands halt off mark;
+      executes = λ ranges entry base x reads of stands ruled mark byte. executes k program rom row a s ranges entry base x reads of stands ruled mark byte;
+      stays = λ ranges entry base x of stands halt pending enabled. halt_stays k program rom row a s ranges entry base x stands halt pending enabled;
+      repeats = λ ranges entry base x of stands halt off mark. halt_repeats k program rom row a s ranges entry base x of stands halt off mark;
     })

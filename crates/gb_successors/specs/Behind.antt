@@ -8,6 +8,7 @@ use Rattle.gb_domain.specs.declared.types.Cell.{Cell}
 use Rattle.gb_domain.specs.declared.types.Core.{Core}
 use Rattle.gb_domain.specs.declared.types.Halves.{Halves}
 use Rattle.gb_domain.specs.Types.{AbsState}
+use Rattle.gb_domain.specs.Summaries.{SummaryParts}
 use Rattle.gb_domain.specs.Limits.{cell_room}
 use Rattle.gb_product.specs.Below.gb_vals.Vals.{any_val}
 use Rattle.gb_product.specs.Below.gb_abs.Span.{one}
@@ -19,9 +20,9 @@ use Rattle.gb_product.specs.Below.gb_abs_effects.declared.reads.AbsRead.TheVaria
 use Rattle.gb_product.specs.Below.gb_abs_effects.declared.writes.AbsWrite.{AbsWrite}
 use Rattle.gb_product.specs.Below.gb_abs_effects.declared.writes.AbsWrite.TheVariants as write
 use Rattle.gb_product.specs.Below.gb_abs_effects.Pairs.{any_word}
-use Rattle.gb_abs_memory.specs.declared.store.Area.{Area}
-use Rattle.gb_abs_memory.specs.declared.store.Area.TheVariants as area
-use Rattle.gb_abs_memory.specs.Access.{loaded_val, area_of, stored_state, stored_core, starts_oam_transfer}
+use Rattle.gb_code.specs.Below.gb_abs_memory.declared.store.Area.{Area}
+use Rattle.gb_code.specs.Below.gb_abs_memory.declared.store.Area.TheVariants as area
+use Rattle.gb_code.specs.Below.gb_abs_memory.Access.{loaded_val, area_of, stored_state, stored_core, starts_oam_transfer}
 use Rattle.gb_successors.specs.declared.stacks.Stack.{Stack}
 use Rattle.gb_successors.specs.declared.stacks.StackMove.{StackMove}
 use Rattle.gb_successors.specs.declared.stacks.StackMove.TheVariants as move
@@ -57,9 +58,18 @@ starts _ = false
 unfoldable pub ended : Bool → ℕ → AbsState → AbsState
 ended is_started n s = with_core s (core_end is_started n s.core)
 
--- other things are known together, all else stays
+-- other things are known together; all else stays
 abbrev pub with_relations : Relations → AbsState → AbsState
 with_relations r s = record s { relations = r }
+
+-- other things are said of the whole program; all else stays
+abbrev pub with_summary : SummaryParts → AbsState → AbsState
+with_summary m s = record s { summary = m }
+
+-- what is said, or what was said before
+abbrev pub summary_or : Option SummaryParts → SummaryParts → SummaryParts
+summary_or None before = before
+summary_or (Some m) before = m
 
 -- ---- the states behind an instruction, by their core and the states before
 
@@ -99,8 +109,8 @@ abbrev pub moved_by : Option Moved → AbsWrite → AbsState → AbsState
 moved_by None what s = s
 moved_by (Some m) what s = moved_state m.stack m.kind m.cell m.stack_move what s
 
-abbrev pub state_behind : Option Moved → AbsWrite → Core → Relations → AbsState → AbsState
-state_behind m what core r s = with_relations r (with_core (moved_by m what s) core)
+abbrev pub state_behind : Option Moved → AbsWrite → Core → Relations → Option SummaryParts → AbsState → AbsState
+state_behind m what core r said s = with_summary (summary_or said s.summary) (with_relations r (with_core (moved_by m what s) core))
 
 -- what a write makes of the core; whole says that the rules are those of version 4
 unfoldable pub written_core : Bool → Kind → AbsWrite → Core → Core

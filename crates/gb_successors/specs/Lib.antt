@@ -1,6 +1,7 @@
 pub mod Stacks
 pub mod Refined
 pub mod Behind
+pub mod Summaries
 pub mod Successors
 pub mod Refused
 pub mod Sound

@@ -13,7 +13,7 @@ use Rattle.gb_product.specs.Below.gb_abs_effects.declared.writes.AbsWrite.{AbsWr
 use Rattle.gb_product.specs.Below.gb_abs_effects.declared.writes.AbsWrite.TheVariants as write
 use Rattle.gb_product.specs.Below.gb_abs_effects.declared.targets.Target.{Target}
 use Rattle.gb_product.specs.Below.gb_abs_effects.declared.targets.Target.TheVariants as target
-use Rattle.gb_abs_memory.specs.Access.{is_storable, meets_closed_ram, store_meets_closed_ram, is_limited, is_store_limited}
+use Rattle.gb_code.specs.Below.gb_abs_memory.Access.{is_storable, meets_closed_ram, store_meets_closed_ram, is_limited, is_store_limited}
 use Rattle.gb_successors.specs.Way.{Successor}
 use Rattle.gb_successors.specs.Behind.{behind}
 

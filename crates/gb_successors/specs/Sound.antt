@@ -1,6 +1,7 @@
 -- What successors promise of the machine (abstract interpretation: soundness; own).
 use Rattle.std.specs.Prelude.{◌≡◌, ℕ, ◌+◌, ◌-◌, ◌%◌, ◌≤◌, ◌<◌, ◌⊎◌, Bool, true, false, if◌then◌else◌, nat_lt, List, [], slice_index, length, Option, Some, is_some}
 use Rattle.std.specs.List.{AllByRecursion}
+use Rattle.gb_ops.specs.declared.machine.Kind.TheVariants as kind
 use Rattle.gb_ops.specs.declared.machine.Region.{Region}
 use Rattle.gb_ops.specs.declared.registers.Ime.TheVariants as ime
 use Rattle.gb_ops.specs.declared.op.Pair.TheVariants as pair
@@ -17,12 +18,14 @@ use Rattle.gb_domain.specs.declared.rules.Rules.TheVariants.{Simple, Extended}
 use Rattle.gb_domain.specs.declared.setting.Setting.{Setting}
 use Rattle.gb_domain.specs.declared.types.Origin.TheVariants.{ReturnHigh, ReturnLow}
 use Rattle.gb_domain.specs.declared.types.Range.{Range}
+use Rattle.gb_domain.specs.Summaries.{Program}
 use Rattle.gb_domain.specs.Types.{AbsState}
 use Rattle.gb_domain.specs.Areas.{IsRegion}
 use Rattle.gb_domain.specs.Limits.{item_room}
 use Rattle.gb_domain.specs.Pairs.{ArePairs}
 use Rattle.gb_domain.specs.Rules.{IsCore, IsVal}
 use Rattle.gb_domain.specs.Settings.{IsBase}
+use Rattle.gb_product.specs.Below.gb_summaries.Elsewhere.{AreFreeFacts, IsFree}
 use Rattle.gb_product.specs.Below.gb_abs.Storage.{peek}
 use Rattle.gb_product.specs.Below.gb_abs.Cells.{ArePlaced}
 use Rattle.gb_product.specs.Below.gb_abs.Stack.{AreInRegion, pushed}
@@ -31,11 +34,11 @@ use Rattle.gb_product.specs.Below.gb_abs_effects.declared.targets.Target.{Target
 use Rattle.gb_product.specs.Below.gb_abs_effects.declared.targets.Target.TheVariants as target
 use Rattle.gb_product.specs.Below.gb_abs_effects.Sound.{HasBytes}
 use Rattle.gb_product.specs.Below.gb_abs_effects.Targets.{moves_sp, is_push, is_pop, is_call, is_return}
-use Rattle.gb_abs_memory.specs.Kept.{IsKept}
-use Rattle.gb_abs_memory.specs.Sound.{IsRom, AreVals}
+use Rattle.gb_code.specs.Below.gb_abs_memory.Kept.{IsKept}
+use Rattle.gb_code.specs.Below.gb_abs_memory.Sound.{IsRom, AreVals}
 use Rattle.gb_product.specs.Below.gb_relations.Sound.{IsByteFree}
 use Rattle.gb_product.specs.declared.parts.Product.{Product}
-use Rattle.gb_product.specs.Meaning.{AreRelated, Means}
+use Rattle.gb_product.specs.Meaning.{AreRelated, IsSummarized, Means}
 use Rattle.gb_successors.specs.declared.stacks.Stack.{Stack}
 use Rattle.gb_successors.specs.declared.stacks.StackMove.{StackMove}
 use Rattle.gb_successors.specs.declared.stacks.StackMove.TheVariants as move
@@ -105,10 +108,10 @@ abbrev pub move_before : Stack → List ℕ → Row → ℕ → AbsState → Pro
 move_before k rom row a s p = taken_move k rom row ((a + row.length) % 65536) s p
 
 -- by the rules of version 3, where the instruction may be taken, the stack is ready for that
-abbrev pub IsStackRuled : Rules → Stack → List ℕ → Row → ℕ → AbsState → ℕ → Type 0
-IsStackRuled Simple k rom row a s base = IsStackKnown k.setting k.region row.op s base
-IsStackRuled Extended k rom row a s base =
-    is_some (successors_of k rom row a s).taken ≡ true
+abbrev pub IsStackRuled : Rules → Stack → Program → List ℕ → Row → ℕ → AbsState → ℕ → Type 0
+IsStackRuled Simple k program rom row a s base = IsStackKnown k.setting k.region row.op s base
+IsStackRuled Extended k program rom row a s base =
+    is_some (successors_of k program rom row a s).taken ≡ true
     → (p : Product) → product_before Extended s ≡ Some p → IsReady k row.op (move_before k rom row a s p) s base
 
 -- what the stack has to have for a successor by the rules of versions 1 and 2: a call wants room for the return address, a return
@@ -143,16 +146,16 @@ bytes_moved (move.Restart left) n = left
 bytes_moved _ n = n
 
 -- it holds as many as before, or is taken, and holds what its move leaves
-abbrev pub IsMovedFrom : Stack → List ℕ → Row → ℕ → AbsState → Successor → Type 0
-IsMovedFrom k rom row a s t =
+abbrev pub IsMovedFrom : Stack → Program → List ℕ → Row → ℕ → AbsState → Successor → Type 0
+IsMovedFrom k program rom row a s t =
     (length t.state.items ≡ length s.items)
-    ⊎ (((successors_of k rom row a s).taken ≡ Some t)
+    ⊎ (((successors_of k program rom row a s).taken ≡ Some t)
     × ((p : Product) → product_before Extended s ≡ Some p → length t.state.items ≡ bytes_moved (move_before k rom row a s p) (length s.items)))
 
 -- how many bytes a successor holds
-abbrev pub IsHeld : Rules → Stack → List ℕ → Row → ℕ → AbsState → Successor → Type 0
-IsHeld Simple k rom row a s t = length t.state.items ≤ bytes_behind row.op (length s.items)
-IsHeld Extended k rom row a s t = IsMovedFrom k rom row a s t
+abbrev pub IsHeld : Rules → Stack → Program → List ℕ → Row → ℕ → AbsState → Successor → Type 0
+IsHeld Simple k program rom row a s t = length t.state.items ≤ bytes_behind row.op (length s.items)
+IsHeld Extended k program rom row a s t = IsMovedFrom k program rom row a s t
 
 -- nothing is against its accesses, in the state before it
 pub record IsAllowed (z : Setting) (rom : List ℕ) (region : Region) (ranges : List Range) (s : AbsState) (base : ℕ) (t : Successor) : Type 0 where
@@ -237,11 +240,19 @@ pub record LeadsParts (z : Setting) (region : Region) (ranges : List Range) (t :
   pub to : LeadsTo z.rules z region t.target t entry base x y
   pub kept : (b : ℕ) → IsKept z region ranges base b → peek y.storage b ≡ peek x.storage b
 
--- so it does, and what is known together of the states behind holds of y, where it is said where that is
+-- so it does, and what is known together of the states behind holds of y, where it is said where that is; what they say of the
+-- whole program does wherever that is
 pub record Leads (z : Setting) (region : Region) (ranges : List Range) (t : Successor) (entry : Activation) (base : ℕ) (x y : MState) : Type 0 where
   pub to : LeadsTo z.rules z region t.target t entry base x y
   pub kept : (b : ℕ) → IsKept z region ranges base b → peek y.storage b ≡ peek x.storage b
   pub related : is_followed z.rules t.target ≡ true → AreRelated t.state.relations y
+  pub summary : IsSummarized t.state entry y
+
+-- a program that states may speak of: its controller is the cartridge's, or none, of which nothing is said; its facts lie in RAM
+-- outside the stack region
+pub record IsProgram (rom : List ℕ) (region : Region) (program : Program) : Type 0 where
+  pub controller : (program.kind ≡ kind.Rom) ⊎ (program.kind ≡ kind_of rom)
+  pub facts : AreFreeFacts region program.facts
 
 -- the machine stands before an instruction at an address, in a state that s means
 pub record Stands (z : Setting) (rom : List ℕ) (region : Region) (row : Row) (a : ℕ) (s : AbsState) (entry : Activation) (base : ℕ) (x : MState) : Type 0 where
@@ -255,23 +266,25 @@ pub record Stands (z : Setting) (rom : List ℕ) (region : Region) (row : Row) (
   pub items : AllByRecursion IsVal s.items
   pub unset : s.core.stack_set ≡ false → s.items ≡ []
   pub room : AreInRegion region base (length s.items)
+  pub program : IsProgram rom region entry.program
+  pub apart : IsFree region s.summary
   pub means : Means s entry base x
   pub based : IsBase z base
   pub at : x.processor.pc ≡ a
 
 -- the instruction is one that may stand there
-pub record IsRuled (k : Stack) (rom : List ℕ) (row : Row) (a : ℕ) (s : AbsState) (base : ℕ) : Type 0 where
+pub record IsRuled (k : Stack) (program : Program) (rom : List ℕ) (row : Row) (a : ℕ) (s : AbsState) (base : ℕ) : Type 0 where
   pub operands : HasBytes row.op
   pub runs : row.op ≡ op.Stop → ⊥
-  pub stack : IsStackRuled k.setting.rules k rom row a s base
+  pub stack : IsStackRuled k.setting.rules k program rom row a s base
 
 -- where the HALT mark is clear, an instruction that is executed leads by one of the successors, if nothing is against that
 -- one's accesses, and then without a fault
-pub record Executes (k : Stack) (rom : List ℕ) (ranges : List Range) (row : Row) (a : ℕ) (s : AbsState) (ss : Successors) (entry : Activation) (base : ℕ) (x : MState) (reads : List ℕ) : Type 0 where
+pub record Executes (k : Stack) (program : Program) (rom : List ℕ) (ranges : List Range) (row : Row) (a : ℕ) (s : AbsState) (ss : Successors) (entry : Activation) (base : ℕ) (x : MState) (reads : List ℕ) : Type 0 where
   pub successor : Successor
   pub is_one : IsOneOf ss successor
   pub leads : IsAllowed k.setting rom k.region ranges s base successor → Leads k.setting k.region ranges successor entry base x (outside (executed (within rom x) row reads))
-  pub held : IsAllowed k.setting rom k.region ranges s base successor → IsHeld k.setting.rules k rom row a s successor
+  pub held : IsAllowed k.setting rom k.region ranges s base successor → IsHeld k.setting.rules k program rom row a s successor
   pub mark : (outside (executed (within rom x) row reads)).processor.halt_mark ≡ false
   pub faults : IsAllowed k.setting rom k.region ranges s base successor → row_faults (Some row) k.region (within rom x) reads ≡ no_faults
 
@@ -288,19 +301,19 @@ pub record IsHalt (row : Row) : Type 0 where
   pub length_is : row.length ≡ 1
   pub cycles_are : row.cycles ≡ 1
 
--- Whatever an instruction but STOP does where the HALT mark is clear, it leads by one of the successors: executed, or HALT with an
--- interrupt that is requested.
+-- Whatever an instruction but STOP does where the HALT mark is clear, in a procedure of the program, it leads by one of the
+-- successors: executed, or HALT with an interrupt that is requested.
 -- Then, with IME pending, the processor stays on it; with IME off the byte behind it will be read twice.
-pub record AreSoundSuccessors (k : Stack) (rom : List ℕ) (row : Row) (a : ℕ) (s : AbsState) (ss : Successors) : Type 0 where
+pub record AreSoundSuccessors (k : Stack) (program : Program) (rom : List ℕ) (row : Row) (a : ℕ) (s : AbsState) (ss : Successors) : Type 0 where
   pub executes :
       (ranges : List Range) (entry : Activation) (base : ℕ) (x : MState) (reads : List ℕ)
-      → Stands k.setting rom k.region row a s entry base x → IsRuled k rom row a s base → x.processor.halt_mark ≡ false → slice_index reads 0 ≤ 255
-      → Executes k rom ranges row a s ss entry base x reads
+      → entry.program ≡ program → Stands k.setting rom k.region row a s entry base x → IsRuled k program rom row a s base → x.processor.halt_mark ≡ false → slice_index reads 0 ≤ 255
+      → Executes k program rom ranges row a s ss entry base x reads
   pub stays :
       (ranges : List Range) (entry : Activation) (base : ℕ) (x : MState)
-      → Stands k.setting rom k.region row a s entry base x → IsHalt row → x.processor.ime ≡ ime.Pending → has_enabled (within rom x) ≡ true
+      → entry.program ≡ program → Stands k.setting rom k.region row a s entry base x → IsHalt row → x.processor.ime ≡ ime.Pending → has_enabled (within rom x) ≡ true
       → LeadsBy k.setting k.region ranges (length s.items) ss.stays entry base x (outside (halt_stay (within rom x)))
   pub repeats :
       (ranges : List Range) (entry : Activation) (base : ℕ) (x : MState)
-      → Stands k.setting rom k.region row a s entry base x → IsHalt row → x.processor.ime ≡ ime.Off → x.processor.halt_mark ≡ false
+      → entry.program ≡ program → Stands k.setting rom k.region row a s entry base x → IsHalt row → x.processor.ime ≡ ime.Off → x.processor.halt_mark ≡ false
       → LeadsBy k.setting k.region ranges (length s.items) ss.taken entry base x (outside (halt_bug (within rom x)))

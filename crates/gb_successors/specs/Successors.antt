@@ -10,6 +10,7 @@ use Rattle.gb_domain.specs.declared.rules.Rules.{Rules}
 use Rattle.gb_domain.specs.declared.types.Cell.{Cell}
 use Rattle.gb_domain.specs.declared.types.Core.{Core}
 use Rattle.gb_domain.specs.declared.types.Halves.{Halves}
+use Rattle.gb_domain.specs.Summaries.{SummaryParts, Program}
 use Rattle.gb_domain.specs.Types.{AbsState}
 use Rattle.gb_product.specs.Below.gb_vals.Bits.{may_enable}
 use Rattle.gb_product.specs.Below.gb_abs.Located.{sp_halves, sp_bounds}
@@ -32,9 +33,10 @@ use Rattle.gb_product.specs.Reduced.{product_of, reduced}
 use Rattle.gb_product.specs.Sides.{taken_side, not_taken_side}
 use Rattle.gb_product.specs.Below.gb_relations.Pointers.{pointer_bounds, known_carry}
 use Rattle.gb_product.specs.Below.gb_relations.Transfer.{relations_after}
-use Rattle.gb_successors.specs.Behind.{read_word, ended, with_relations, with_cell_if, moved_state, core_behind}
+use Rattle.gb_successors.specs.Behind.{read_word, ended, with_relations, with_summary, with_cell_if, moved_state, core_behind}
 use Rattle.gb_successors.specs.Refined.{cut_read, refined, refined_target}
 use Rattle.gb_successors.specs.Stacks.{stack_move}
+use Rattle.gb_successors.specs.Summaries.{summary_by}
 
 -- ---- successors
 
@@ -85,11 +87,20 @@ unfoldable pub relations_behind : Stack → List ℕ → Op → AbsState → Pro
 relations_behind k rom o s p =
     relations_after k.setting.rules k.region o (sp_bounds k.setting s) p.core.registers (word_in k rom o s p).low p.relations
 
+-- the same states, which say something else of the whole program
+abbrev pub said_successor : SummaryParts → Successor → Successor
+said_successor m t = record t { state = with_summary m t.state }
+
+-- what is said of the whole program behind it, where t is the successor but for that
+unfoldable pub summary_behind : Stack → Program → Op → AbsState → Product → Successor → SummaryParts
+summary_behind k program o s p t = summary_by k.setting.rules k program o s p t.write t.state.cells
+
 -- all of it
-unfoldable pub taken_successor : Stack → List ℕ → Row → ℕ → AbsState → Branch → Successor
-taken_successor k rom row next s b =
+unfoldable pub taken_successor : Stack → Program → List ℕ → Row → ℕ → AbsState → Branch → Successor
+taken_successor k program rom row next s b =
     let p = product_of b.core b.relations in
-    related_successor (relations_behind k rom row.op s p) (taken_parts k rom row next s p b.cell)
+    let t = taken_parts k rom row next s p b.cell in
+    said_successor (summary_behind k program row.op s p t) (related_successor (relations_behind k rom row.op s p) t)
 
 -- it isn't taken: nothing happens but that time passes
 unfoldable pub untaken_successor : Stack → Row → ℕ → AbsState → Branch → Successor
@@ -120,7 +131,7 @@ woken core = record core { ime = only_on }
 
 unfoldable pub staying_successor : ℕ → AbsState → Successor
 staying_successor a s =
-    record { read = read.Nothing; write = write.Nothing; target = target.At a; next = a; state = ended false 1 (with_core s (woken s.core)) }
+    record { read = read.Nothing; write = write.Nothing; target = target.At a; next = a; state = with_relations s.relations (ended false 1 (with_core s (woken s.core))) }
 
 -- HALT with IME pending: where an interrupt is enabled and requested, the processor stays on it (halt)
 unfoldable pub may_stay : Op → Core → Bool
@@ -134,17 +145,17 @@ stays row a s = if may_stay row.op s.core then Some (staying_successor a s) else
 unfoldable pub product_before : Rules → AbsState → Option Product
 product_before rules s = reduced rules (core_settle s.core) s.relations
 
-abbrev pub taken_from : Stack → List ℕ → Row → ℕ → AbsState → Product → Option Successor
-taken_from k rom row next s p =
-    option_and_then (λ b. reduced_successor k.setting.rules (taken_successor k rom row next s b)) (taken_side row.op s.cells p.core p.relations)
+abbrev pub taken_from : Stack → Program → List ℕ → Row → ℕ → AbsState → Product → Option Successor
+taken_from k program rom row next s p =
+    option_and_then (λ b. reduced_successor k.setting.rules (taken_successor k program rom row next s b)) (taken_side row.op s.cells p.core p.relations)
 
 abbrev pub not_taken_from : Stack → Row → ℕ → AbsState → Product → Option Successor
 not_taken_from k row next s p =
     option_and_then (λ b. reduced_successor k.setting.rules (untaken_successor k row next s b)) (not_taken_side row.op s.cells p.core p.relations)
 
 -- each of the possible successors of the instruction at an address
-abbrev pub way_taken : Stack → List ℕ → Row → ℕ → AbsState → Option Successor
-way_taken k rom row a s = option_and_then (taken_from k rom row ((a + row.length) % 65536) s) (product_before k.setting.rules s)
+abbrev pub way_taken : Stack → Program → List ℕ → Row → ℕ → AbsState → Option Successor
+way_taken k program rom row a s = option_and_then (taken_from k program rom row ((a + row.length) % 65536) s) (product_before k.setting.rules s)
 
 abbrev pub way_not_taken : Stack → Row → ℕ → AbsState → Option Successor
 way_not_taken k row a s = option_and_then (not_taken_from k row ((a + row.length) % 65536) s) (product_before k.setting.rules s)
@@ -153,9 +164,9 @@ abbrev pub way_staying : Rules → Row → ℕ → AbsState → Option Successor
 way_staying rules row a s = option_and_then (λ (p : Product). stays row a s) (product_before rules s)
 
 -- all of them
-unfoldable pub successors_of : Stack → List ℕ → Row → ℕ → AbsState → Successors
-successors_of k rom row a s =
-    record { taken = way_taken k rom row a s; not_taken = way_not_taken k row a s; stays = way_staying k.setting.rules row a s }
+unfoldable pub successors_of : Stack → Program → List ℕ → Row → ℕ → AbsState → Successors
+successors_of k program rom row a s =
+    record { taken = way_taken k program rom row a s; not_taken = way_not_taken k row a s; stays = way_staying k.setting.rules row a s }
 
 -- ---- tests of all of them
 

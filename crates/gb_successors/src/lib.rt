@@ -9,6 +9,7 @@
 
 mod refined;
 pub mod refused;
+mod said;
 pub mod stacks;
 pub mod successor;
 pub mod successors;
@@ -19,7 +20,15 @@ pub use successors::Successors;
 pub use way::{Moved, Successor};
 
 // What lies below, for the crates above.
-pub use gb_abs_memory::{Reason, Span, any, cell_at, is_ram, known, length_of, settle, with_value};
+pub use gb_code::code::{
+    area_end, is_other_bank, known_byte, known_bytes, known_bytes_from, leaves_area,
+    lies_in_high_ram,
+};
+pub use gb_code::{
+    Halves, Reason, Rom, Span, any, cell_at, covers_controller, covers_core, covers_ime,
+    covers_may, covers_origin, covers_val, holds_bytes, is_limited, is_ram, known, known_bank,
+    length_of, meets_closed_ram, settle, with_value,
+};
 pub use gb_domain::pairs::{
     ANY_BOUNDS, Bounds, Link, NOTHING_KNOWN, Other, PairFacts, Pairs, WordPair,
 };
@@ -32,4 +41,4 @@ pub use gb_product::covering::covers;
 pub use gb_product::parts::Product;
 pub use gb_product::reduced::{reduce, reduced};
 pub use gb_product::sides::{not_taken_side, taken_side};
-pub use gb_product::{AbsRead, AbsWrite, Target};
+pub use gb_product::{AbsRead, AbsWrite, Program, Target};

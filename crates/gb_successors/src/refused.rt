@@ -6,11 +6,9 @@ ghost use Rattle.gb_successors.specs.Successors.{has};
 
 use crate::successor::Successor;
 use crate::successors::Successors;
-use gb_abs_memory::Rom;
-use gb_abs_memory::refusals::{
-    is_limited, is_store_limited, meets_closed_ram, store_meets_closed_ram,
+use gb_code::{
+    Rom, is_limited, is_storable, is_store_limited, meets_closed_ram, store_meets_closed_ram,
 };
-use gb_abs_memory::store::is_storable;
 use gb_domain::types::{Core, Range, Setting};
 use gb_ops::machine::{Kind, Region};
 use gb_product::{AbsRead, AbsWrite, Span, Target};

@@ -223,11 +223,12 @@ fn set_if_room(setting: Setting, count: u8, state: &Abs) -> Abs
 fn begun_anew(state: &Abs) -> Abs
     ensures { result ≡ Stacks.begun_anew state.now }
 {
-    Abs::of_parts(
+    Abs::of_all_parts(
         core_without_origins(state.core()),
         ArrayVec::new(),
         cells_without_origins(state.cells()),
         *state.relations(),
+        state.summary().copied(),
     )
 }
 

@@ -6,6 +6,8 @@ ghost use Rattle.gb_domain.specs.declared.rules.Rules.TheVariants.{Simple, Exten
 ghost use Rattle.gb_product.specs.Below.gb_abs.Stack.{youngest};
 ghost use Rattle.gb_product.specs.Below.gb_abs_effects.Transfer as Transfer;
 ghost use Rattle.gb_product.specs.Below.gb_abs_effects.declared.reads.AbsRead.TheVariants.{Byte};
+ghost use Rattle.gb_product.specs.Below.gb_abs_effects.declared.reads.AbsRead.TheVariants as reads;
+ghost use Rattle.gb_product.specs.Below.gb_abs_effects.declared.targets.Target.TheVariants.{At};
 ghost use Rattle.gb_product.specs.Below.gb_abs_effects.declared.writes.AbsWrite.TheVariants.{Nothing};
 ghost use Rattle.gb_successors.specs.declared.stacks.StackMove.TheVariants.{Stay};
 ghost use Rattle.gb_successors.specs.Behind as Behind;
@@ -14,11 +16,10 @@ ghost use Rattle.gb_successors.specs.Successors as Succession;
 ghost use Rattle.gb_successors.specs.Words.{word_or_any};
 
 use crate::refined::{cut_read, refine, refined_target};
+use crate::said::summary_behind;
 use crate::stacks::{Stack, StackMove, move_core, stack_move};
 pub use crate::way::{Moved, Successor};
-use gb_abs_memory::Rom;
-use gb_abs_memory::load::loaded_by;
-use gb_abs_memory::store::{Area, area_of, starts_oam_transfer, store_in_core};
+use gb_code::{Area, Rom, area_of, loaded_by, starts_oam_transfer, store_in_core};
 use gb_domain::pairs::Bounds;
 use gb_domain::relations::Relations;
 use gb_domain::types::{Abs, Cell, Core, Halves, ImeSet, Rules, Setting};
@@ -26,8 +27,9 @@ use gb_ops::machine::Kind;
 use gb_ops::op::{Op, Row};
 use gb_product::parts::{Branch, Product};
 use gb_product::{
-    AbsEffect, AbsRead, AbsWrite, Inputs, Span, Target, any, any_word, end, known_carry, pass,
-    pointer_bounds, quiet, read_of, relations_after, sp_bounds, sp_halves, target_of, transfer_in,
+    AbsEffect, AbsRead, AbsWrite, Inputs, Program, Span, Target, any, any_word, end, known_carry,
+    pass, pointer_bounds, quiet, read_of, relations_after, sp_bounds, sp_halves, target_of,
+    transfer_in,
 };
 
 /// The word that was pushed last, as far as it is known.
@@ -189,6 +191,7 @@ pub fn pointer_in(stack: Stack, op: Op, product: &Product) -> Option<Bounds>
 #[derive(Clone, Copy)]
 struct TakenSide<'w, 'a> {
     stack: &'w Stack,
+    program: &'w Program<'w>,
     rom: &'w Rom<'w>,
     row: &'w Row,
     /// The address behind it.
@@ -209,7 +212,7 @@ fn successor_by<'a>(
 ) -> Successor<'a>
     requires own { taken.now.stack.now.setting.rules ≡ rules }
     requires before { effect.old ≡ Transfer.quiet taken.now.core.now }
-    ensures { result ≡ Succession.taken_successor taken.now.stack.now taken.now.rom.now taken.now.row.now taken.now.next taken.now.state.now (record { core = taken.now.core.now; relations = taken.now.relations.now; cell = taken.now.cell.now }) }
+    ensures { result ≡ Succession.taken_successor taken.now.stack.now taken.now.program.now taken.now.rom.now taken.now.row.now taken.now.next taken.now.state.now (record { core = taken.now.core.now; relations = taken.now.relations.now; cell = taken.now.cell.now }) }
 {
     let (stack, state) = (taken.stack, taken.state);
     let (core, relations) = (taken.core, taken.relations);
@@ -233,10 +236,15 @@ fn successor_by<'a>(
     let stack_move = stack_move(Stack { setting, ..*stack }, op, effect.write, pointer);
     let behind = target_of(op, next, core);
     let target = refined_target(setting, op, &inputs, core, pointer, stack_move, behind);
-    let low = inputs.word.low;
-    let relations = relations_after(rules, stack.region, op, sp, &core.registers, low, relations);
     let kind = taken.rom.kind();
     let moved = move_of(stack, kind, taken.cell, stack_move, effect.write);
+    let program = taken.program;
+    let write = effect.write;
+    let summary = summary_behind(
+        rules, stack, program, op, state, core, relations, write, moved,
+    );
+    let low = inputs.word.low;
+    let relations = relations_after(rules, stack.region, op, sp, &core.registers, low, relations);
     end_core(
         setting.is_whole,
         kind,
@@ -253,6 +261,7 @@ fn successor_by<'a>(
         core: effect.core,
         relations,
         moved,
+        summary,
         before: state,
     }
 }
@@ -261,7 +270,7 @@ fn successor_by<'a>(
 #[inline(never)]
 fn simple_successor<'a>(taken: &TakenSide<'_, 'a>) -> Successor<'a>
     requires { taken.now.stack.now.setting.rules ≡ Simple }
-    ensures { result ≡ Succession.taken_successor taken.now.stack.now taken.now.rom.now taken.now.row.now taken.now.next taken.now.state.now (record { core = taken.now.core.now; relations = taken.now.relations.now; cell = taken.now.cell.now }) }
+    ensures { result ≡ Succession.taken_successor taken.now.stack.now taken.now.program.now taken.now.rom.now taken.now.row.now taken.now.next taken.now.state.now (record { core = taken.now.core.now; relations = taken.now.relations.now; cell = taken.now.cell.now }) }
 {
     let mut effect = quiet(taken.core);
     successor_by(Rules::Simple, taken, &mut effect)
@@ -271,7 +280,7 @@ fn simple_successor<'a>(taken: &TakenSide<'_, 'a>) -> Successor<'a>
 #[inline(never)]
 fn extended_successor<'a>(taken: &TakenSide<'_, 'a>) -> Successor<'a>
     requires { taken.now.stack.now.setting.rules ≡ Extended }
-    ensures { result ≡ Succession.taken_successor taken.now.stack.now taken.now.rom.now taken.now.row.now taken.now.next taken.now.state.now (record { core = taken.now.core.now; relations = taken.now.relations.now; cell = taken.now.cell.now }) }
+    ensures { result ≡ Succession.taken_successor taken.now.stack.now taken.now.program.now taken.now.rom.now taken.now.row.now taken.now.next taken.now.state.now (record { core = taken.now.core.now; relations = taken.now.relations.now; cell = taken.now.cell.now }) }
 {
     let mut effect = quiet(taken.core);
     successor_by(Rules::Extended, taken, &mut effect)
@@ -282,6 +291,7 @@ fn extended_successor<'a>(taken: &TakenSide<'_, 'a>) -> Successor<'a>
 #[inline(always)]
 pub fn taken_successor<'a>(
     stack: &Stack,
+    program: &Program<'_>,
     rom: &Rom<'_>,
     row: &Row,
     next: u16,
@@ -290,10 +300,11 @@ pub fn taken_successor<'a>(
     relations: &Relations,
     cell: &Option<Cell>,
 ) -> Successor<'a>
-    ensures { result ≡ Succession.taken_successor stack.now rom.now row.now next state.now (record { core = core.now; relations = relations.now; cell = cell.now }) }
+    ensures { result ≡ Succession.taken_successor stack.now program.now rom.now row.now next state.now (record { core = core.now; relations = relations.now; cell = cell.now }) }
 {
     let taken = TakenSide {
         stack,
+        program,
         rom,
         row,
         next,
@@ -315,6 +326,30 @@ fn cell_alone(stack: Stack, kind: Kind, cell: Option<Cell>) -> Option<Moved>
     move_of(&stack, kind, &cell, StackMove::Stay, AbsWrite::Nothing)
 }
 
+/// The successor where nothing is read, written or said, with this core and what is known together.
+#[inline(always)]
+fn idle_successor<'a>(
+    address: u16,
+    core: Core,
+    relations: Relations,
+    moved: Option<Moved>,
+    state: &'a Abs,
+) -> Successor<'a>
+    ensures { result ≡ record { read = reads.Nothing; write = Nothing; target = At address; next = address; state = state_behind moved Nothing core relations None state.now } }
+{
+    Successor {
+        read: AbsRead::Nothing,
+        write: AbsWrite::Nothing,
+        target: Target::At(address),
+        next: address,
+        core,
+        relations,
+        moved,
+        summary: None,
+        before: state,
+    }
+}
+
 /// The successor where the instruction isn't taken: nothing happens but that time passes.
 #[tactic(auto, using(crate::proofs::MovedLaws::untaken_state), unfolding(crate::specs::Successors::untaken_successor, crate::specs::Behind::ended))]
 pub fn untaken_successor<'a>(
@@ -327,16 +362,9 @@ pub fn untaken_successor<'a>(
 ) -> Successor<'a>
     ensures { result ≡ Succession.untaken_successor stack row next state.now side.now }
 {
-    Successor {
-        read: AbsRead::Nothing,
-        write: AbsWrite::Nothing,
-        target: Target::At(next),
-        next,
-        core: end(false, row.cycles_not_taken, &side.core),
-        relations: side.relations,
-        moved: cell_alone(stack, kind, side.cell),
-        before: state,
-    }
+    let core = end(false, row.cycles_not_taken, &side.core);
+    let moved = cell_alone(stack, kind, side.cell);
+    idle_successor(next, core, side.relations, moved, state)
 }
 
 /// The successor where the processor stays on HALT, and interrupts become on.
@@ -353,14 +381,11 @@ pub fn staying_successor(address: u16, state: &Abs) -> Successor<'_>
         },
         ..*state.core()
     };
-    Successor {
-        read: AbsRead::Nothing,
-        write: AbsWrite::Nothing,
-        target: Target::At(address),
-        next: address,
-        core: end(false, 1, &woken),
-        relations: *state.relations(),
-        moved: None,
-        before: state,
-    }
+    idle_successor(
+        address,
+        end(false, 1, &woken),
+        *state.relations(),
+        None,
+        state,
+    )
 }

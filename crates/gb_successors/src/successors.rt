@@ -10,14 +10,14 @@ ghost use Rattle.gb_successors.specs.Sound.{AreSoundSuccessors};
 
 use crate::stacks::Stack;
 use crate::successor::{Successor, staying_successor, taken_successor, untaken_successor};
-use gb_abs_memory::Rom;
+use gb_code::Rom;
 use gb_domain::types::{Abs, Core, Rules};
 use gb_ops::machine::Kind;
 use gb_ops::op::{Op, Row};
 use gb_product::parts::{Branch, Product};
 use gb_product::reduced::reduced;
 use gb_product::sides::{not_taken_side, taken_side};
-use gb_product::{condition_of, may_enable, settle};
+use gb_product::{Program, condition_of, may_enable, settle};
 
 /// The possible successors of an instruction.
 #[derive(Drop)]
@@ -45,15 +45,16 @@ pub fn may_stay(op: Op, core: &Core) -> bool
 #[tactic(auto, using(crate::proofs::WayLaws::successors_of_sound))]
 pub fn successors_of<'a>(
     stack: Stack,
+    program: &Program<'_>,
     rom: &Rom<'_>,
     row: Row,
     address: u16,
     state: &'a Abs,
 ) -> Successors<'a>
-    ensures exact { result ≡ Succession.successors_of stack rom.now row address state.now }
-    ensures sound { AreSoundSuccessors stack rom.now row address state.now result }
+    ensures exact { result ≡ Succession.successors_of stack program.now rom.now row address state.now }
+    ensures sound { AreSoundSuccessors stack program.now rom.now row address state.now result }
 {
-    each_way(stack, rom, row, address, state)
+    each_way(stack, program, rom, row, address, state)
 }
 
 /// What is known before the instruction, settled and reduced; none where nothing is meant.
@@ -95,22 +96,26 @@ fn put_reduced<'a>(rules: Rules, successor: Successor<'a>, way: &mut Option<Succ
 #[inline(always)]
 pub fn side_successor<'a>(
     stack: Stack,
+    program: &Program<'_>,
     rom: &Rom<'_>,
     row: Row,
     next: u16,
     state: &'a Abs,
     side: &Branch,
 ) -> Successor<'a>
-    ensures { result ≡ Succession.taken_successor stack rom.now row next state.now side.now }
+    ensures { result ≡ Succession.taken_successor stack program.now rom.now row next state.now side.now }
 {
     let (core, relations) = (&side.core, &side.relations);
-    taken_successor(&stack, rom, &row, next, state, core, relations, &side.cell)
+    taken_successor(
+        &stack, program, rom, &row, next, state, core, relations, &side.cell,
+    )
 }
 
 /// Puts the successor of the taken side, reduced, where none was.
 #[inline(never)]
 fn put_taken_side<'a>(
     stack: Stack,
+    program: &Program<'_>,
     rom: &Rom<'_>,
     row: Row,
     next: u16,
@@ -119,12 +124,12 @@ fn put_taken_side<'a>(
     way: &mut Option<Successor<'a>>,
 )
     requires { way.old ≡ None }
-    ensures { way.new ≡ Succession.taken_from stack rom.now row next state.now product.now }
+    ensures { way.new ≡ Succession.taken_from stack program.now rom.now row next state.now product.now }
 {
     if let Some(side) = taken_side(row.op, state.cells(), &product.core, &product.relations) {
         put_reduced(
             stack.setting.rules,
-            side_successor(stack, rom, row, next, state, &side),
+            side_successor(stack, program, rom, row, next, state, &side),
             way,
         );
     }
@@ -133,6 +138,7 @@ fn put_taken_side<'a>(
 /// Puts the successor of the taken side. Without a condition nothing is cut, so nothing is copied.
 fn put_taken_from<'a>(
     stack: Stack,
+    program: &Program<'_>,
     rom: &Rom<'_>,
     row: Row,
     next: u16,
@@ -141,13 +147,15 @@ fn put_taken_from<'a>(
     way: &mut Option<Successor<'a>>,
 )
     requires { way.old ≡ None }
-    ensures { way.new ≡ Succession.taken_from stack rom.now row next state.now product.now }
+    ensures { way.new ≡ Succession.taken_from stack program.now rom.now row next state.now product.now }
 {
     if has_condition(row.op) {
-        put_taken_side(stack, rom, row, next, state, product, way);
+        put_taken_side(stack, program, rom, row, next, state, product, way);
     } else {
         let (core, relations) = (&product.core, &product.relations);
-        let successor = taken_successor(&stack, rom, &row, next, state, core, relations, &None);
+        let successor = taken_successor(
+            &stack, program, rom, &row, next, state, core, relations, &None,
+        );
         put_reduced(stack.setting.rules, successor, way);
     }
 }
@@ -204,6 +212,7 @@ fn behind(row: Row, address: u16) -> u16
 #[inline(always)]
 fn put_taken<'a>(
     stack: Stack,
+    program: &Program<'_>,
     rom: &Rom<'_>,
     row: Row,
     address: u16,
@@ -213,10 +222,19 @@ fn put_taken<'a>(
 )
     requires before { before.now ≡ Succession.product_before stack.setting.rules state.now }
     requires none { way.old ≡ None }
-    ensures { way.new ≡ Succession.way_taken stack rom.now row address state.now }
+    ensures { way.new ≡ Succession.way_taken stack program.now rom.now row address state.now }
 {
     if let Some(product) = before {
-        put_taken_from(stack, rom, row, behind(row, address), state, product, way);
+        put_taken_from(
+            stack,
+            program,
+            rom,
+            row,
+            behind(row, address),
+            state,
+            product,
+            way,
+        );
     }
 }
 
@@ -273,12 +291,13 @@ fn put_staying<'a>(
 #[tactic(auto, unfolding(crate::specs::Successors::successors_of))]
 fn each_way<'a>(
     stack: Stack,
+    program: &Program<'_>,
     rom: &Rom<'_>,
     row: Row,
     address: u16,
     state: &'a Abs,
 ) -> Successors<'a>
-    ensures { result ≡ Succession.successors_of stack rom.now row address state.now }
+    ensures { result ≡ Succession.successors_of stack program.now rom.now row address state.now }
 {
     let before = product_before(stack.setting.rules, state);
     let mut ways = Successors {
@@ -286,7 +305,16 @@ fn each_way<'a>(
         not_taken: None,
         stays: None,
     };
-    put_taken(stack, rom, row, address, state, &before, &mut ways.taken);
+    put_taken(
+        stack,
+        program,
+        rom,
+        row,
+        address,
+        state,
+        &before,
+        &mut ways.taken,
+    );
     put_not_taken(
         stack,
         rom.kind(),

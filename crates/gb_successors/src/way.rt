@@ -5,11 +5,12 @@ ghost use Rattle.gb_product.specs.Below.gb_abs.Cells.{with_cell};
 ghost use Rattle.gb_product.specs.Below.gb_abs.Operations.{with_core};
 ghost use Rattle.gb_domain.specs.Limits.{cell_room};
 ghost use Rattle.gb_successors.specs.Behind as Behind;
-ghost use Rattle.gb_successors.specs.Behind.{with_relations};
+ghost use Rattle.gb_successors.specs.Behind.{with_relations, with_summary};
 
 use crate::stacks::{Stack, StackMove, move_stack};
-use gb_abs_memory::store::store_in;
+use gb_code::store_in;
 use gb_domain::relations::Relations;
+use gb_domain::summary::Summary;
 use gb_domain::types::{Abs, Cell, Core, Rules, Setting, Val};
 use gb_ops::machine::Kind;
 use gb_product::reduced::reduce;
@@ -18,8 +19,8 @@ use std::marker::Model;
 
 /// One way on from an instruction: what it reads and writes besides its own bytes, where it goes on,
 /// the address behind it, where a call returns to, and the states behind it. Those are kept as their core and the
-/// states before, which they share their items and cells with unless `moved` says what changes them. Contracts see
-/// the states whole.
+/// states before, which they share their items and cells with unless `moved` says what changes them, and what they say of the
+/// whole program unless `summary` says something else. Contracts see the states whole.
 #[derive(Drop)]
 pub struct Successor<'a> {
     pub read: AbsRead,
@@ -29,6 +30,7 @@ pub struct Successor<'a> {
     pub(crate) core: Core,
     pub(crate) relations: Relations,
     pub(crate) moved: Option<Moved>,
+    pub(crate) summary: Option<Summary>,
     pub(crate) before: &'a Abs,
 }
 
@@ -48,7 +50,7 @@ impl<'a> Model for Successor<'a> {
 
     ghost Value = { Successor };
 
-    ghost view = { λ t. record { read = t.read; write = t.write; target = t.target; next = t.next; state = state_behind t.moved t.write t.core t.relations t.before.now } };
+    ghost view = { λ t. record { read = t.read; write = t.write; target = t.target; next = t.next; state = state_behind t.moved t.write t.core t.relations t.summary t.before.now } };
 }
 
 impl<'a> Successor<'a> {
@@ -68,9 +70,19 @@ impl<'a> Successor<'a> {
         &self.relations
     }
 
+    /// What the states behind say of the whole program.
+    pub fn summary(&self) -> &Summary
+        ensures { result.now ≡ self.now.state.summary }
+    {
+        match &self.summary {
+            None => self.before.summary(),
+            Some(summary) => summary,
+        }
+    }
+
     /// States with the items and cells of those behind, where no item or cell changed.
     pub fn unmoved(&self) -> Option<&'a Abs>
-        ensures { IfSome result (λ s. self.now.state ≡ with_relations self.now.state.relations (with_core s.now self.now.state.core)) }
+        ensures { IfSome result (λ s. self.now.state ≡ with_summary self.now.state.summary (with_relations self.now.state.relations (with_core s.now self.now.state.core))) }
     {
         match self.moved {
             None => Some(self.before),
@@ -88,6 +100,7 @@ impl<'a> Successor<'a> {
     }
 
     /// The states behind, in the place of others.
+    #[tactic(auto, using(crate::proofs::MovedLaws::moved_summary))]
     pub fn put_state(&self, after: &mut Abs)
         ensures { after.new ≡ self.now.state }
     {
@@ -97,6 +110,9 @@ impl<'a> Successor<'a> {
         }
         after.set_core(self.core);
         after.set_relations(self.relations);
+        if let Some(summary) = &self.summary {
+            after.set_summary(summary.copied());
+        }
     }
 
     /// The states behind.
@@ -133,6 +149,7 @@ fn copy_state(from: &Abs, state: &mut Abs)
 {
     state.set_plain(*from.core());
     state.set_relations(*from.relations());
+    state.set_summary(from.summary().copied());
     append_items(from.items(), state);
     append_cells(from.cells(), state);
 }

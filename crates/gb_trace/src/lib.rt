@@ -25,8 +25,8 @@ pub use gb_symbols::{SymbolFault, Symbols};
 pub use gb_witness::{
     Abs, Answer, Cell, Cert, CertFault, Console, Core, CountedIn, Ctl, Ending, FaultKind, Flg,
     FoundStack, HeaderFault, ImeSet, Input, KeptBanks, Keys, May, Met, OneByte, Origin, Outcome,
-    Progress, Range, Reason, Relations, Rom, Rules, RunOutcome, Setting, Sighting, Span, Stepped,
-    Test, UpgradeTo, Upgraded, Val, Verdict, WatchOutcome, Watched, WatchedRun, callee,
+    Program, Progress, Range, Reason, Relations, Rom, Rules, RunOutcome, Setting, Sighting, Span,
+    Stepped, Test, UpgradeTo, Upgraded, Val, Verdict, WatchOutcome, Watched, WatchedRun, callee,
     certificate_line, check, check_irqs, check_node, covered_at, covers, ending_line, enter,
     fault_line, find_stack, header_bytes, header_line, keys_at, lowest_fault, no_fault_line,
     put_all, resume, run_bytes, run_script, run_script_shown, seconds_of, show_bytes, show_cert,

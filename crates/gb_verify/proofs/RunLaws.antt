@@ -9,6 +9,7 @@ use Rattle.gb_rules.specs.Below.gb_domain.Certificate.{Certificate}
 use Rattle.gb_rules.specs.Below.gb_states.Rules.{IsCertificate}
 use Rattle.gb_rules.specs.Below.gb_abs.declared.reason.Reason.{Reason}
 use Rattle.gb_rules.specs.Below.gb_abs_memory.Sound.{IsRom}
+use Rattle.gb_rules.specs.Procedures.{program_of}
 use Rattle.gb_rules.specs.Rules.{reason_of, lacks_handler}
 use Rattle.gb_rules.specs.Safety.{IsMeant, IsSafeEvent}
 use Rattle.gb_rules.proofs.InterruptLaws.{IsSafeEvent-handled}
@@ -23,9 +24,9 @@ right_reason (Some r) unhandled h = cc
 right_reason None true h = cc
 right_reason None false h = (refl, refl)
 
-right_node : (rom : List ℕ) (cert : Certificate) (n : Node) → reason_against rom cert n ≡ None → (reason_of rom cert n ≡ None) × (lacks_handler cert n ≡ false)
+right_node : (rom : List ℕ) (cert : Certificate) (n : Node) → reason_against rom cert n ≡ None → (reason_of rom cert n ≡ None) × (lacks_handler (program_of rom cert) cert n ≡ false)
 unfolding reason_against
-right_node rom cert n h = right_reason (reason_of rom cert n) (lacks_handler cert n) h
+right_node rom cert n h = right_reason (reason_of rom cert n) (lacks_handler (program_of rom cert) cert n) h
 
 -- one event, from a state that a node of a right certificate means
 pub IsSafeEvent-right : (rom : List ℕ) (cert : Certificate) (procedure : ℕ) (entry : Activation) (base : ℕ) (s : MState) (e : Event) → IsRom rom → IsCertificate cert → IsRight rom cert

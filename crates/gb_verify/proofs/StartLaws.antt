@@ -15,6 +15,7 @@ use Rattle.gb_ops.specs.Play.{MState, IsStart, processor_at_power_up}
 use Rattle.gb_rules.specs.Below.gb_domain.declared.types.Origin.{Origin}
 use Rattle.gb_rules.specs.Below.gb_domain.declared.types.Origin.TheVariants as origin
 use Rattle.gb_rules.specs.Below.gb_domain.declared.types.Val.{Val}
+use Rattle.gb_rules.specs.Below.gb_domain.Summaries.{Program}
 use Rattle.gb_rules.specs.Below.gb_domain.Types.{AbsState, ProcedureParts, Node}
 use Rattle.gb_rules.specs.Below.gb_domain.Values.{have_same}
 use Rattle.gb_rules.specs.Below.gb_states.Rules.{IsCertificate, is_of, have_entries}
@@ -25,13 +26,14 @@ use Rattle.gb_rules.specs.Below.gb_vals.Flags.{known}
 use Rattle.gb_rules.specs.Below.gb_vals.Meaning.{may_be}
 use Rattle.gb_rules.proofs.Below.gb_vals_laws.MeaningLaws.{known-may_be}
 use Rattle.gb_rules.specs.Below.gb_product.Covering.{covers}
+use Rattle.gb_rules.proofs.Below.gb_product_laws.Below.gb_summaries_laws.MeaningLaws.{nothing_holds}
 use Rattle.gb_rules.specs.Below.gb_product.Meaning.{Means}
 use Rattle.gb_rules.specs.Below.gb_abs.Stack.{AreInRegion}
 use Rattle.gb_rules.proofs.Below.gb_product_laws.CoveringLaws.{Means-covered}
 use Rattle.gb_rules.proofs.Below.gb_product_laws.MeaningLaws.{HoldRelations-nothing}
 use Rattle.gb_rules.specs.Below.gb_domain.Limits.{rules_of}
 use Rattle.gb_rules.specs.Below.gb_domain.Settings.{IsBase}
-use Rattle.gb_rules.specs.Procedures.{need_of, setting_of}
+use Rattle.gb_rules.specs.Procedures.{need_of, setting_of, program_of}
 use Rattle.gb_rules.specs.Safety.{begun, IsMeant}
 use Rattle.gb_rules.proofs.SearchLaws.{Contains-slice_get}
 use Rattle.gb_rules.proofs.CoveringLaws.{covered_items}
@@ -53,7 +55,7 @@ Holds-own v entry x o l h e s none =
     record { least = omega arith; most = omega arith; low = subst (λ n. have_same n x v.lo ≡ true) (sym none) refl; origin = λ q i. let j : o ≡ q = same_Some _ _ (sym e ∙ i) in s ∙ ap (λ p. origin_value p entry) j }
 
 Holds-start : (rom : List ℕ) (cert : Certificate) (s : MState) (r : Register) → s.processor ≡ processor_at_power_up rom
-    → Holds (get r (core_at_power_up rom cert.region).registers) (begun s) (get r s.processor.registers)
+    → Holds (get r (core_at_power_up rom cert.region).registers) (begun rom cert s) (get r s.processor.registers)
 unfolding core_at_power_up processor_at_power_up
 Holds-start rom cert s A h = let e = sym (ap (λ p. p.registers.a) h) in Holds-own _ _ _ origin.A e e refl refl refl
 Holds-start rom cert s B h = let e = sym (ap (λ p. p.registers.b) h) in Holds-own _ _ _ origin.B e e refl refl refl
@@ -64,7 +66,7 @@ Holds-start rom cert s H h = let e = sym (ap (λ p. p.registers.h) h) in Holds-o
 Holds-start rom cert s L h = let e = sym (ap (λ p. p.registers.l) h) in Holds-own _ _ _ origin.L e e refl refl refl
 
 HoldsFlags-start : (rom : List ℕ) (cert : Certificate) (s : MState) → s.processor ≡ processor_at_power_up rom
-    → HoldsFlags (core_at_power_up rom cert.region).flags (begun s) s.processor.flags
+    → HoldsFlags (core_at_power_up rom cert.region).flags (begun rom cert s) s.processor.flags
 unfolding core_at_power_up processor_at_power_up
 HoldsFlags-start rom cert s h =
     let others : Bool = not (slice_index rom 0x14D == 0) in
@@ -76,7 +78,7 @@ HoldsFlags-start rom cert s h =
       own = λ e. refl;
     }
 
-MeansCore-at_start : (rom : List ℕ) (cert : Certificate) (s : MState) → IsStart rom s → MeansCore (core_at_power_up rom cert.region) (begun s) s
+MeansCore-at_start : (rom : List ℕ) (cert : Certificate) (s : MState) → IsStart rom s → MeansCore (core_at_power_up rom cert.region) (begun rom cert s) s
 unfolding core_at_power_up processor_at_power_up
 MeansCore-at_start rom cert s h =
     record {
@@ -131,7 +133,7 @@ stack_start last h = let e : last ≡ 0xFFFD = eqb-true last 0xFFFD h in omega a
 small_start : (sp : ℕ) → sp ≡ 0xFFFE → sp < 65536
 small_start sp h = omega arith
 
-MeansParts-start : (rom : List ℕ) (cert : Certificate) (s : MState) → IsStart rom s → MeansParts (state_at_power_up rom cert.region) (begun s) (main_base cert) s
+MeansParts-start : (rom : List ℕ) (cert : Certificate) (s : MState) → IsStart rom s → MeansParts (state_at_power_up rom cert.region) (begun rom cert s) (main_base cert) s
 unfolding core_at_power_up processor_at_power_up
 MeansParts-start rom cert s h =
     record {
@@ -156,11 +158,12 @@ register_start rom s E h = byte_start _ 0xD8 (ap (λ p. p.registers.e) h) (omega
 register_start rom s H h = byte_start _ 0x01 (ap (λ p. p.registers.h) h) (omega arith)
 register_start rom s L h = byte_start _ 0x4D (ap (λ p. p.registers.l) h) (omega arith)
 
-Means-start : (rom : List ℕ) (cert : Certificate) (s : MState) → IsStart rom s → Means (state_at_power_up rom cert.region) (begun s) (main_base cert) s
+Means-start : (rom : List ℕ) (cert : Certificate) (s : MState) → IsStart rom s → Means (state_at_power_up rom cert.region) (begun rom cert s) (main_base cert) s
 Means-start rom cert s h =
     record {
       parts = MeansParts-start rom cert s h;
       related = HoldRelations-nothing _ _ _ (record { each = λ r. register_start rom s r h.processor });
+      summary = nothing_holds _ _ s.processor (peek s.storage) s.storage.banks;
     }
 
 pc_start : (rom : List ℕ) (s : MState) → IsStart rom s → s.processor.pc ≡ 0x100
@@ -171,8 +174,8 @@ mark_start : (rom : List ℕ) (s : MState) → IsStart rom s → s.processor.hal
 unfolding processor_at_power_up
 mark_start rom s h = ap (λ p. p.halt_mark) h.processor
 
-items_covered : (rom : List ℕ) (region : Region) (t : AbsState) → covers (state_at_power_up rom region) t ≡ true → length t.items ≡ 0
-items_covered rom region t h = covered_items (state_at_power_up rom region) t h
+items_covered : (program : Program) (rom : List ℕ) (region : Region) (t : AbsState) → covers program (state_at_power_up rom region) t ≡ true → length t.items ≡ 0
+items_covered program rom region t h = covered_items program (state_at_power_up rom region) t h
 
 -- main's stack has room for the bytes that it may need
 room_start : (cert : Certificate) (n : Node) → IsCertificate cert → n.procedure ≡ 0 → AreInRegion cert.region (main_base cert) (need_of cert n.procedure)
@@ -198,7 +201,7 @@ main_entry_node cert n c at = by cert.procedures c.some_procedure c.entries at
     by (p ∷ ps) lt h e = is_of_main (slice_get cert.nodes p.entry) n e (and_parts _ _ h).0
 
 IsMeant-entry : (rom : List ℕ) (cert : Certificate) (o : Option Node) (s : MState) → IsCertificate cert → ((n : Node) → o ≡ Some n → Contains cert.nodes n) → ((n : Node) → o ≡ Some n → n.procedure ≡ 0)
-    → is_bad_node rom cert o ≡ false → IsStart rom s → IsMeant rom cert 0 (begun s) (main_base cert) s
+    → is_bad_node rom cert o ≡ false → IsStart rom s → IsMeant rom cert 0 (begun rom cert s) (main_base cert) s
 IsMeant-entry rom cert None s c f g h i = not_so h
 IsMeant-entry rom cert (Some n) s c f g h i =
     let p = or_parts _ _ h in
@@ -210,18 +213,19 @@ IsMeant-entry rom cert (Some n) s c f g h i =
       procedure_is = g n refl;
       at = record {
         address = pc_start rom s i ∙ sym (eqb-true _ _ (not-false _ q.0));
+        program = refl;
         means = Means-covered _ _ _ _ _ covered (Means-start rom cert s i);
         mark = inl (mark_start rom s i);
         main = λ is. refl;
         based = subst (λ p. IsBase (setting_of cert p) (main_base cert)) (sym (g n refl)) (main_based cert c);
         return_word = HasReturnWord-main (rules_of cert.version) cert.region n.procedure (main_base cert) (g n refl);
         room = room_start cert n c (g n refl);
-        held = no_items cert (need_of cert n.procedure) (length n.state.items) (items_covered rom cert.region n.state covered) (room_start cert n c (g n refl));
+        held = no_items cert (need_of cert n.procedure) (length n.state.items) (items_covered (program_of rom cert) rom cert.region n.state covered) (room_start cert n c (g n refl));
       };
     }
 
 -- a start is meant by main's entry
-pub IsMeant-start : (rom : List ℕ) (cert : Certificate) (s : MState) → IsCertificate cert → is_bad_entry rom cert ≡ false → IsStart rom s → IsMeant rom cert 0 (begun s) (main_base cert) s
+pub IsMeant-start : (rom : List ℕ) (cert : Certificate) (s : MState) → IsCertificate cert → is_bad_entry rom cert ≡ false → IsStart rom s → IsMeant rom cert 0 (begun rom cert s) (main_base cert) s
 unfolding is_bad_entry
 IsMeant-start rom cert s c good start =
     IsMeant-entry rom cert (slice_get cert.nodes (main_entry cert)) s c (Contains-slice_get cert.nodes (main_entry cert)) (λ n at. main_entry_node cert n c at) good start

@@ -1,11 +1,12 @@
 -- The verdict: step by step over the nodes, and what it says.
-use Rattle.std.proofs.Common.{◌≡◌, ℕ, zero, suc, ◌+◌, ◌≤◌, ◌<◌, Bool, true, false, ◌==◌, cond, ◌&&◌, ◌||◌, ◌⊎◌, inl, inr, List, [], ◌∷◌, Option, Some, None, length, drop, slice_get, refl, sym, ◌∙◌, ap, subst, arith}
+use Rattle.std.proofs.Common.{◌≡◌, ℕ, zero, suc, ◌+◌, ◌≤◌, ◌<◌, Bool, true, false, ◌==◌, cond, not, ◌&&◌, ◌||◌, ◌⊎◌, inl, inr, List, [], ◌∷◌, Option, Some, None, length, drop, slice_get, refl, sym, ◌∙◌, ap, subst, arith}
 use Rattle.std.specs.Prelude.{option_and_then, is_some}
 use Rattle.std.proofs.lemmas.Option.{slice_get-get_or}
 use Rattle.gb_rules.specs.Below.gb_domain.declared.rules.Rules.{Rules}
 use Rattle.gb_rules.specs.Below.gb_domain.declared.rules.Rules.TheVariants.{Simple, Extended}
 use Rattle.gb_rules.specs.Below.gb_domain.declared.setting.Setting.{Setting}
 use Rattle.gb_rules.specs.Below.gb_domain.Limits.{rules_of}
+use Rattle.gb_rules.specs.Below.gb_domain.Summaries.{Program}
 use Rattle.gb_rules.specs.Below.gb_domain.Types.{AbsState, ProcedureParts, Node}
 use Rattle.gb_rules.specs.Below.gb_domain.Certificate.{Certificate}
 use Rattle.gb_rules.specs.Below.gb_abs.declared.reason.Reason.{Reason}
@@ -16,6 +17,8 @@ use Rattle.gb_rules.specs.Below.gb_calls.Interrupts.{left_by_dispatch, may_come,
 use Rattle.gb_ops.specs.declared.op.Row.{Row}
 use Rattle.gb_ops.specs.Table.{decoded}
 use Rattle.gb_ops.specs.Cartridge.{kind_of}
+use Rattle.gb_ops.specs.declared.machine.Kind.TheVariants as kind
+use Rattle.gb_rules.specs.Below.gb_product.Covering.{covers}
 use Rattle.gb_rules.specs.Below.gb_abs_effects.declared.targets.Target.{Target}
 use Rattle.gb_rules.specs.Below.gb_abs_effects.declared.targets.Target.TheVariants as target
 use Rattle.gb_rules.specs.Below.gb_calls.Calls.{is_entry, or_later, entry_from, entry_behind_main, callee_of}
@@ -23,11 +26,12 @@ use Rattle.gb_rules.specs.Below.gb_successors.Way.{Successor}
 use Rattle.gb_rules.specs.Below.gb_successors.declared.stacks.Stack.{Stack}
 use Rattle.gb_rules.specs.Below.gb_successors.declared.successors.Successors.{Successors}
 use Rattle.gb_rules.specs.Below.gb_successors.Successors.{product_before, has, any_successor, successors_of}
-use Rattle.gb_rules.specs.Procedures.{ranges_of, need_of, exit_of, base_in, setting_of, stack_of, taken_by}
+use Rattle.gb_rules.specs.Procedures.{ranges_of, need_of, exit_of, base_in, setting_of, stack_of, program_of, taken_by}
 use Rattle.gb_rules.specs.Below.gb_successors.Refused.{is_unstorable, meets_oam_transfer}
 use Rattle.gb_rules.specs.Rules.{breaks_stack, is_code_limited, moves_too_deep, callee_by, callee_at, is_over, calls_too_deep, is_uncovered_if, is_resumed_uncovered, is_back_uncovered, is_inlined_uncovered, is_call_uncovered, is_uncovered_at, is_uncovered, is_outside_of, is_uncallable_at, is_uncallable, is_unreturnable_at, is_unreturnable, interrupts, is_dispatch_deep, handles_too_deep, is_unhandled, lacks_handler, test_row, test_instruction, node_bytes, ways_of, any_of, is_possible, grows_too_deep, stores_outside, meets_ram, meets_transfer, leads_anywhere, leads_uncovered, calls_wrongly, returns_wrongly, applies_to_row, applies, reasons, reason_of}
 use Rattle.gb_verify.specs.declared.verdict.Verdict.TheVariants.{Refused}
-use Rattle.gb_verify.specs.Verdict.{reason_against, reason_against_at, refusal_or, verdict_from, verdict_of, is_bad_entry, main_entry, IsVerdict, IgnoresVersion}
+use Rattle.gb_verify.specs.Verdict.{reason_against, reason_against_at, refusal_or, verdict_from, verdict_of, is_bad_node, is_bad_entry, main_entry, IsVerdict, IgnoresVersion}
+use Rattle.gb_verify.specs.PowerUp.{state_at_power_up}
 
 next : {X : Type 0} (xs : List X) (i : ℕ) (x : X) → slice_get xs i ≡ Some x → drop i xs ≡ x ∷ drop (i + 1) xs
 next [] i x h = cc
@@ -104,27 +108,27 @@ abbrev other : Certificate → ℕ → Certificate
 other cert version = record cert { version = version }
 
 same_callee_from :
-    (cert : Certificate) (version : ℕ) (z : Setting) (a : ℕ) (t : AbsState) (i : ℕ) (ps : List ProcedureParts)
-    → entry_from (other cert version) z a t i ps ≡ entry_from cert z a t i ps
+    (program : Program) (cert : Certificate) (version : ℕ) (z : Setting) (a : ℕ) (t : AbsState) (i : ℕ) (ps : List ProcedureParts)
+    → entry_from program (other cert version) z a t i ps ≡ entry_from program cert z a t i ps
 unfolding is_entry
-same_callee_from cert version z a t i [] = refl
-same_callee_from cert version z a t i (p ∷ ps) = ap (or_later (is_entry cert z a t p) i) (same_callee_from cert version z a t (i + 1) ps)
+same_callee_from program cert version z a t i [] = refl
+same_callee_from program cert version z a t i (p ∷ ps) = ap (or_later (is_entry program cert z a t p) i) (same_callee_from program cert version z a t (i + 1) ps)
 
-same_callee : (cert : Certificate) (version : ℕ) (z : Setting) (a : ℕ) (t : AbsState) → callee_of (other cert version) z a t ≡ callee_of cert z a t
+same_callee : (program : Program) (cert : Certificate) (version : ℕ) (z : Setting) (a : ℕ) (t : AbsState) → callee_of program (other cert version) z a t ≡ callee_of program cert z a t
 unfolding callee_of
-same_callee cert version z a t = by cert.procedures
+same_callee program cert version z a t = by cert.procedures
   where
-    by : (ps : List ProcedureParts) → entry_behind_main (other cert version) z a t ps ≡ entry_behind_main cert z a t ps
+    by : (ps : List ProcedureParts) → entry_behind_main program (other cert version) z a t ps ≡ entry_behind_main program cert z a t ps
     by [] = refl
-    by (main ∷ ps) = same_callee_from cert version z a t 1 ps
+    by (main ∷ ps) = same_callee_from program cert version z a t 1 ps
 
-same_callee_by : (cert : Certificate) (version : ℕ) (z : Setting) (w : Target) (t : AbsState) → callee_by (other cert version) z w t ≡ callee_by cert z w t
-same_callee_by cert version z (target.Call a) t = same_callee cert version z a t
-same_callee_by cert version z (target.At a) t = refl
-same_callee_by cert version z (target.Main a) t = refl
-same_callee_by cert version z target.Return t = refl
-same_callee_by cert version z target.Unknown t = refl
-same_callee_by cert version z target.Lost t = refl
+same_callee_by : (program : Program) (cert : Certificate) (version : ℕ) (z : Setting) (w : Target) (t : AbsState) → callee_by program (other cert version) z w t ≡ callee_by program cert z w t
+same_callee_by program cert version z (target.Call a) t = same_callee program cert version z a t
+same_callee_by program cert version z (target.At a) t = refl
+same_callee_by program cert version z (target.Main a) t = refl
+same_callee_by program cert version z target.Return t = refl
+same_callee_by program cert version z target.Unknown t = refl
+same_callee_by program cert version z target.Lost t = refl
 
 same_over :
     (cert : Certificate) (version : ℕ) (rules : Rules) (need held : ℕ) (o : Option ℕ) → is_over rules (other cert version) need held o ≡ is_over rules cert need held o
@@ -134,53 +138,53 @@ same_over cert version Simple need held (Some q) = refl
 same_over cert version Extended need held (Some q) = refl
 
 same_depth :
-    (cert : Certificate) (version : ℕ) (z : Setting) (need : ℕ) (t : Successor) → calls_too_deep (other cert version) z need t ≡ calls_too_deep cert z need t
+    (program : Program) (cert : Certificate) (version : ℕ) (z : Setting) (need : ℕ) (t : Successor) → calls_too_deep program (other cert version) z need t ≡ calls_too_deep program cert z need t
 unfolding calls_too_deep callee_at
-same_depth cert version z need t =
-    ap (is_over z.rules (other cert version) need (length t.state.items)) (same_callee_by cert version z t.target t.state)
-    ∙ same_over cert version z.rules need (length t.state.items) (callee_by cert z t.target t.state)
+same_depth program cert version z need t =
+    ap (is_over z.rules (other cert version) need (length t.state.items)) (same_callee_by program cert version z t.target t.state)
+    ∙ same_over cert version z.rules need (length t.state.items) (callee_by program cert z t.target t.state)
 
 same_after :
-    (cert : Certificate) (version : ℕ) (rules : Rules) (procedure a : ℕ) (o : Option AbsState)
-    → is_uncovered_if rules (other cert version) procedure a o ≡ is_uncovered_if rules cert procedure a o
-same_after cert version rules procedure a None = refl
-same_after cert version rules procedure a (Some t) = refl
+    (program : Program) (cert : Certificate) (version : ℕ) (rules : Rules) (procedure a : ℕ) (o : Option AbsState)
+    → is_uncovered_if program rules (other cert version) procedure a o ≡ is_uncovered_if program rules cert procedure a o
+same_after program cert version rules procedure a None = refl
+same_after program cert version rules procedure a (Some t) = refl
 
 same_exit :
-    (cert : Certificate) (version : ℕ) (rules : Rules) (procedure back : ℕ) (t : AbsState) (q : ℕ) (exit : Option AbsState)
-    → is_resumed_uncovered rules (other cert version) procedure back t q exit ≡ is_resumed_uncovered rules cert procedure back t q exit
+    (program : Program) (cert : Certificate) (version : ℕ) (rules : Rules) (procedure back : ℕ) (t : AbsState) (q : ℕ) (exit : Option AbsState)
+    → is_resumed_uncovered program rules (other cert version) procedure back t q exit ≡ is_resumed_uncovered program rules cert procedure back t q exit
 unfolding taken_by ranges_of
-same_exit cert version rules procedure back t q None = refl
-same_exit cert version rules procedure back t q (Some exit) = same_after cert version rules procedure back _
+same_exit program cert version rules procedure back t q None = refl
+same_exit program cert version rules procedure back t q (Some exit) = same_after program cert version rules procedure back _
 
 same_back :
-    (cert : Certificate) (version : ℕ) (rules : Rules) (procedure back : ℕ) (t : AbsState) (q : ℕ)
-    → is_back_uncovered rules (other cert version) procedure back t q ≡ is_back_uncovered rules cert procedure back t q
+    (program : Program) (cert : Certificate) (version : ℕ) (rules : Rules) (procedure back : ℕ) (t : AbsState) (q : ℕ)
+    → is_back_uncovered program rules (other cert version) procedure back t q ≡ is_back_uncovered program rules cert procedure back t q
 unfolding exit_of
-same_back cert version rules procedure back t q = same_exit cert version rules procedure back t q (exit_of cert q)
+same_back program cert version rules procedure back t q = same_exit program cert version rules procedure back t q (exit_of cert q)
 
 same_inlined :
-    (cert : Certificate) (version : ℕ) (rules : Rules) (procedure a : ℕ) (t : AbsState)
-    → is_inlined_uncovered rules (other cert version) procedure a t ≡ is_inlined_uncovered rules cert procedure a t
-same_inlined cert version Simple procedure a t = refl
-same_inlined cert version Extended procedure a t = refl
+    (program : Program) (cert : Certificate) (version : ℕ) (rules : Rules) (procedure a : ℕ) (t : AbsState)
+    → is_inlined_uncovered program rules (other cert version) procedure a t ≡ is_inlined_uncovered program rules cert procedure a t
+same_inlined program cert version Simple procedure a t = refl
+same_inlined program cert version Extended procedure a t = refl
 
 same_called :
-    (cert : Certificate) (version : ℕ) (rules : Rules) (procedure a back : ℕ) (t : AbsState) (o : Option ℕ)
-    → is_call_uncovered rules (other cert version) procedure a back t o ≡ is_call_uncovered rules cert procedure a back t o
-same_called cert version rules procedure a back t None = same_inlined cert version rules procedure a t
-same_called cert version rules procedure a back t (Some q) = same_back cert version rules procedure back t q
+    (program : Program) (cert : Certificate) (version : ℕ) (rules : Rules) (procedure a back : ℕ) (t : AbsState) (o : Option ℕ)
+    → is_call_uncovered program rules (other cert version) procedure a back t o ≡ is_call_uncovered program rules cert procedure a back t o
+same_called program cert version rules procedure a back t None = same_inlined program cert version rules procedure a t
+same_called program cert version rules procedure a back t (Some q) = same_back program cert version rules procedure back t q
 
 same_covering :
-    (cert : Certificate) (version : ℕ) (z : Setting) (procedure : ℕ) (t : Successor) → is_uncovered z (other cert version) procedure t ≡ is_uncovered z cert procedure t
+    (program : Program) (cert : Certificate) (version : ℕ) (z : Setting) (procedure : ℕ) (t : Successor) → is_uncovered program z (other cert version) procedure t ≡ is_uncovered program z cert procedure t
 unfolding is_uncovered
-same_covering cert version z procedure t = by t.target
+same_covering program cert version z procedure t = by t.target
   where
-    by : (w : Target) → is_uncovered_at z (other cert version) procedure w t.next t.state ≡ is_uncovered_at z cert procedure w t.next t.state
+    by : (w : Target) → is_uncovered_at program z (other cert version) procedure w t.next t.state ≡ is_uncovered_at program z cert procedure w t.next t.state
     by (target.At a) = refl
     by (target.Call a) =
-        ap (is_call_uncovered z.rules (other cert version) procedure a t.next t.state) (same_callee cert version z a t.state)
-        ∙ same_called cert version z.rules procedure a t.next t.state (callee_of cert z a t.state)
+        ap (is_call_uncovered program z.rules (other cert version) procedure a t.next t.state) (same_callee program cert version z a t.state)
+        ∙ same_called program cert version z.rules procedure a t.next t.state (callee_of program cert z a t.state)
     by (target.Main a) = refl
     by target.Return = refl
     by target.Unknown = refl
@@ -191,24 +195,24 @@ unfolding ranges_of
 same_outside cert version z procedure None = refl
 same_outside cert version z procedure (Some q) = refl
 
-same_call : (cert : Certificate) (version : ℕ) (z : Setting) (procedure : ℕ) (t : Successor) → is_uncallable z (other cert version) procedure t ≡ is_uncallable z cert procedure t
+same_call : (program : Program) (cert : Certificate) (version : ℕ) (z : Setting) (procedure : ℕ) (t : Successor) → is_uncallable program z (other cert version) procedure t ≡ is_uncallable program z cert procedure t
 unfolding is_uncallable
-same_call cert version z procedure t = by t.target
+same_call program cert version z procedure t = by t.target
   where
-    by : (w : Target) → is_uncallable_at z (other cert version) procedure w t.state ≡ is_uncallable_at z cert procedure w t.state
+    by : (w : Target) → is_uncallable_at program z (other cert version) procedure w t.state ≡ is_uncallable_at program z cert procedure w t.state
     by (target.At a) = refl
     by (target.Call a) =
-        ap (is_outside_of z (other cert version) procedure) (same_callee cert version z a t.state) ∙ same_outside cert version z procedure (callee_of cert z a t.state)
+        ap (is_outside_of z (other cert version) procedure) (same_callee program cert version z a t.state) ∙ same_outside cert version z procedure (callee_of program cert z a t.state)
     by (target.Main a) = refl
     by target.Return = refl
     by target.Unknown = refl
     by target.Lost = refl
 
-same_return : (cert : Certificate) (version : ℕ) (rules : Rules) (procedure : ℕ) (t : Successor) → is_unreturnable rules (other cert version) procedure t ≡ is_unreturnable rules cert procedure t
+same_return : (program : Program) (cert : Certificate) (version : ℕ) (rules : Rules) (procedure : ℕ) (t : Successor) → is_unreturnable program rules (other cert version) procedure t ≡ is_unreturnable program rules cert procedure t
 unfolding is_unreturnable exit_of
-same_return cert version rules procedure t = by t.target
+same_return program cert version rules procedure t = by t.target
   where
-    by : (w : Target) → is_unreturnable_at rules (other cert version) procedure w t.state ≡ is_unreturnable_at rules cert procedure w t.state
+    by : (w : Target) → is_unreturnable_at program rules (other cert version) procedure w t.state ≡ is_unreturnable_at program rules cert procedure w t.state
     by (target.At a) = refl
     by (target.Call a) = refl
     by (target.Main a) = refl
@@ -228,12 +232,24 @@ same_stack cert version procedure e =
     let with : Setting → Stack = λ z. record { setting = z; region = cert.region; need = need_of cert procedure; main_need = need_of cert 0 } in
     ap with (same_setting cert version procedure e)
 
-same_ways : (rom : List ℕ) (cert : Certificate) (version : ℕ) (n : Node) (row : Row) → rules_of version ≡ rules_of cert.version → ways_of rom (other cert version) n row ≡ ways_of rom cert n row
+-- what states may speak of is the same where neither version is 4, or both are
+same_program : (rom : List ℕ) (cert : Certificate) (version : ℕ) → (version == 4) ≡ (cert.version == 4) → program_of rom (other cert version) ≡ program_of rom cert
+unfolding program_of
+same_program rom cert version f = ap (λ b. record { kind = cond b (kind_of rom) kind.Rom; facts = cert.facts }) f
+
+-- what is asked of two versions
+record AreAlike (rom : List ℕ) (cert : Certificate) (version : ℕ) : Type 0 where
+  rules : rules_of version ≡ rules_of cert.version
+  program : program_of rom (other cert version) ≡ program_of rom cert
+
+same_ways : (rom : List ℕ) (cert : Certificate) (version : ℕ) (n : Node) (row : Row) → AreAlike rom cert version → ways_of rom (other cert version) n row ≡ ways_of rom cert n row
 unfolding ways_of
-same_ways rom cert version n row e = ap (λ k. successors_of k rom row n.address n.state) (same_stack cert version n.procedure e)
+same_ways rom cert version n row e =
+    ap (λ k. successors_of k (program_of rom (other cert version)) rom row n.address n.state) (same_stack cert version n.procedure e.rules)
+    ∙ ap (λ p. successors_of (stack_of cert n.procedure) p rom row n.address n.state) e.program
 
 -- tests that agree on each successor
-same_any : (test also : Successor → Bool) (rom : List ℕ) (cert : Certificate) (version : ℕ) (n : Node) (row : Row) → rules_of version ≡ rules_of cert.version
+same_any : (test also : Successor → Bool) (rom : List ℕ) (cert : Certificate) (version : ℕ) (n : Node) (row : Row) → AreAlike rom cert version
     → ((t : Successor) → test t ≡ also t) → any_of test rom (other cert version) n row ≡ any_of also rom cert n row
 unfolding any_of any_successor
 same_any test also rom cert version n row e same =
@@ -249,9 +265,9 @@ same_interrupts : (test also : ℕ → Bool) (n : Node) (is : List ℕ) → ((i 
 same_interrupts test also n [] same = refl
 same_interrupts test also n (i ∷ is) same = rw (same i, same_interrupts test also n is same) refl
 
-same_handler : (cert : Certificate) (version : ℕ) (z : Setting) (i a : ℕ) (t : AbsState) → handler_of (other cert version) z i a t ≡ handler_of cert z i a t
+same_handler : (program : Program) (cert : Certificate) (version : ℕ) (z : Setting) (i a : ℕ) (t : AbsState) → handler_of program (other cert version) z i a t ≡ handler_of program cert z i a t
 unfolding handler_of
-same_handler cert version z i a t = same_callee cert version z (vector i) (left_by_dispatch z.rules a t)
+same_handler program cert version z i a t = same_callee program cert version z (vector i) (left_by_dispatch z.rules a t)
 
 same_deep :
     (cert : Certificate) (version : ℕ) (z : Setting) (need : ℕ) (t : AbsState) (o : Option ℕ)
@@ -259,68 +275,78 @@ same_deep :
 same_deep cert version z need t o =
     rw (same_over cert version Extended need (length t.items + 2) o, same_over cert version Simple need (length t.items) o) refl
 
-same_handled_depth : (cert : Certificate) (version : ℕ) (n : Node) → rules_of version ≡ rules_of cert.version → handles_too_deep (other cert version) n ≡ handles_too_deep cert n
+same_handled_depth : (program : Program) (cert : Certificate) (version : ℕ) (n : Node) → rules_of version ≡ rules_of cert.version → handles_too_deep program (other cert version) n ≡ handles_too_deep program cert n
 unfolding handles_too_deep need_of
-same_handled_depth cert version n e =
+same_handled_depth program cert version n e =
     let z = setting_of cert n.procedure in
     let need = need_of cert n.procedure in
-    let test : Setting → ℕ → Bool = λ k i. is_dispatch_deep k (other cert version) need n.state (handler_of (other cert version) k i n.address n.state) in
+    let test : Setting → ℕ → Bool = λ k i. is_dispatch_deep k (other cert version) need n.state (handler_of program (other cert version) k i n.address n.state) in
     ap (λ k. list_any (λ i. may_come i n.state.core && test k i) interrupts) (same_setting cert version n.procedure e)
-    ∙ same_interrupts (test z) (λ i. is_dispatch_deep z cert need n.state (handler_of cert z i n.address n.state)) n interrupts (λ i.
-    ap (is_dispatch_deep z (other cert version) need n.state) (same_handler cert version z i n.address n.state)
-    ∙ same_deep cert version z need n.state (handler_of cert z i n.address n.state))
+    ∙ same_interrupts (test z) (λ i. is_dispatch_deep z cert need n.state (handler_of program cert z i n.address n.state)) n interrupts (λ i.
+    ap (is_dispatch_deep z (other cert version) need n.state) (same_handler program cert version z i n.address n.state)
+    ∙ same_deep cert version z need n.state (handler_of program cert z i n.address n.state))
 
 same_unhandled :
-    (cert : Certificate) (version : ℕ) (z : Setting) (n : Node) (i : ℕ) (o : Option ℕ) → is_unhandled z (other cert version) n i o ≡ is_unhandled z cert n i o
-same_unhandled cert version z n i o =
-    rw (same_outside cert version z n.procedure o, same_called cert version z.rules n.procedure (vector i) n.address (left_by_dispatch z.rules n.address n.state) o) refl
+    (program : Program) (cert : Certificate) (version : ℕ) (z : Setting) (n : Node) (i : ℕ) (o : Option ℕ) → is_unhandled program z (other cert version) n i o ≡ is_unhandled program z cert n i o
+same_unhandled program cert version z n i o =
+    rw (same_outside cert version z n.procedure o, same_called program cert version z.rules n.procedure (vector i) n.address (left_by_dispatch z.rules n.address n.state) o) refl
 
-same_lacking : (cert : Certificate) (version : ℕ) (n : Node) → rules_of version ≡ rules_of cert.version → lacks_handler (other cert version) n ≡ lacks_handler cert n
+same_lacking : (program : Program) (cert : Certificate) (version : ℕ) (n : Node) → rules_of version ≡ rules_of cert.version → lacks_handler program (other cert version) n ≡ lacks_handler program cert n
 unfolding lacks_handler
-same_lacking cert version n e =
+same_lacking program cert version n e =
     let z = setting_of cert n.procedure in
-    let test : Setting → ℕ → Bool = λ k i. is_unhandled k (other cert version) n i (handler_of (other cert version) k i n.address n.state) in
+    let test : Setting → ℕ → Bool = λ k i. is_unhandled program k (other cert version) n i (handler_of program (other cert version) k i n.address n.state) in
     ap (λ k. list_any (λ i. may_come i n.state.core && test k i) interrupts) (same_setting cert version n.procedure e)
-    ∙ same_interrupts (test z) (λ i. is_unhandled z cert n i (handler_of cert z i n.address n.state)) n interrupts (λ i.
-    ap (is_unhandled z (other cert version) n i) (same_handler cert version z i n.address n.state)
-    ∙ same_unhandled cert version z n i (handler_of cert z i n.address n.state))
+    ∙ same_interrupts (test z) (λ i. is_unhandled program z cert n i (handler_of program cert z i n.address n.state)) n interrupts (λ i.
+    ap (is_unhandled program z (other cert version) n i) (same_handler program cert version z i n.address n.state)
+    ∙ same_unhandled program cert version z n i (handler_of program cert z i n.address n.state))
 
 same_possible : (cert : Certificate) (version : ℕ) (n : Node) → rules_of version ≡ rules_of cert.version → is_possible (other cert version) n ≡ is_possible cert n
 same_possible cert version n e = ap (λ rules. is_some (product_before rules n.state)) e
 
-same_growth : (rom : List ℕ) (cert : Certificate) (version : ℕ) (n : Node) (row : Row) → rules_of version ≡ rules_of cert.version → grows_too_deep rom (other cert version) n row ≡ grows_too_deep rom cert n row
+same_growth : (rom : List ℕ) (cert : Certificate) (version : ℕ) (n : Node) (row : Row) → AreAlike rom cert version → grows_too_deep rom (other cert version) n row ≡ grows_too_deep rom cert n row
 unfolding grows_too_deep need_of
 same_growth rom cert version n row e =
     let z = setting_of cert n.procedure in
     let need = need_of cert n.procedure in
     let moves : moves_too_deep (rules_of version) need n row.op (ways_of rom (other cert version) n row).taken
     ≡ moves_too_deep (rules_of cert.version) need n row.op (ways_of rom cert n row).taken =
-    ap (λ rules. moves_too_deep rules need n row.op (ways_of rom (other cert version) n row).taken) e
+    ap (λ rules. moves_too_deep rules need n row.op (ways_of rom (other cert version) n row).taken) e.rules
     ∙ ap (λ (ss : Successors). moves_too_deep (rules_of cert.version) need n row.op ss.taken) (same_ways rom cert version n row e) in
-    let calls : any_of (calls_too_deep (other cert version) (setting_of (other cert version) n.procedure) need) rom (other cert version) n row
-    ≡ any_of (calls_too_deep cert z need) rom cert n row =
+    let calls : any_of (calls_too_deep (program_of rom (other cert version)) (other cert version) (setting_of (other cert version) n.procedure) need) rom (other cert version) n row
+    ≡ any_of (calls_too_deep (program_of rom cert) cert z need) rom cert n row =
     same_any _ _ rom cert version n row e (λ t.
-    ap (λ k. calls_too_deep (other cert version) k need t) (same_setting cert version n.procedure e) ∙ same_depth cert version z need t) in
-    rw (moves, calls, same_possible cert version n e, same_handled_depth cert version n e) refl
+    ap (λ p. calls_too_deep p (other cert version) (setting_of (other cert version) n.procedure) need t) e.program
+    ∙ (ap (λ k. calls_too_deep (program_of rom cert) (other cert version) k need t) (same_setting cert version n.procedure e.rules)
+    ∙ same_depth (program_of rom cert) cert version z need t)) in
+    let handles : handles_too_deep (program_of rom (other cert version)) (other cert version) n ≡ handles_too_deep (program_of rom cert) cert n =
+    ap (λ p. handles_too_deep p (other cert version) n) e.program ∙ same_handled_depth (program_of rom cert) cert version n e.rules in
+    rw (moves, calls, same_possible cert version n e.rules, handles) refl
 
-same_row : (rom : List ℕ) (cert : Certificate) (version : ℕ) (n : Node) (row : Row) (r : Reason) → rules_of version ≡ rules_of cert.version
+same_row : (rom : List ℕ) (cert : Certificate) (version : ℕ) (n : Node) (row : Row) (r : Reason) → AreAlike rom cert version
     → applies_to_row rom (other cert version) n row r ≡ applies_to_row rom cert n row r
 unfolding applies_to_row stores_outside meets_ram meets_transfer leads_anywhere leads_uncovered calls_wrongly returns_wrongly ranges_of
-same_row rom cert version n row reason.Stack e = ap (λ k. breaks_stack k n row.op) (same_stack cert version n.procedure e)
+same_row rom cert version n row reason.Stack e = ap (λ k. breaks_stack k n row.op) (same_stack cert version n.procedure e.rules)
 same_row rom cert version n row reason.Depth e = same_growth rom cert version n row e
 same_row rom cert version n row reason.Store e =
-    same_any _ _ rom cert version n row e (λ t. ap (λ z. is_unstorable z (kind_of rom) cert.region (ranges_of cert n.procedure) t.write) (same_setting cert version n.procedure e))
+    same_any _ _ rom cert version n row e (λ t. ap (λ z. is_unstorable z (kind_of rom) cert.region (ranges_of cert n.procedure) t.write) (same_setting cert version n.procedure e.rules))
 same_row rom cert version n row reason.CartridgeRam e = same_any _ _ rom cert version n row e (λ t. refl)
 same_row rom cert version n row reason.OamTransfer e =
     let limited : Successor → Bool = λ t. is_code_limited n.state.core n.address row.length || meets_oam_transfer cert.region n.state.core t in
-    rw (same_any limited limited rom cert version n row e (λ t. refl), same_possible cert version n e) refl
+    rw (same_any limited limited rom cert version n row e (λ t. refl), same_possible cert version n e.rules) refl
 same_row rom cert version n row reason.JumpHl e = same_any _ _ rom cert version n row e (λ t. refl)
 same_row rom cert version n row reason.Uncovered e = same_any _ _ rom cert version n row e (λ t.
-    ap (λ z. is_uncovered z (other cert version) n.procedure t) (same_setting cert version n.procedure e) ∙ same_covering cert version (setting_of cert n.procedure) n.procedure t)
+    ap (λ p. is_uncovered p (setting_of (other cert version) n.procedure) (other cert version) n.procedure t) e.program
+    ∙ (ap (λ z. is_uncovered (program_of rom cert) z (other cert version) n.procedure t) (same_setting cert version n.procedure e.rules)
+    ∙ same_covering (program_of rom cert) cert version (setting_of cert n.procedure) n.procedure t))
 same_row rom cert version n row reason.Callee e = same_any _ _ rom cert version n row e (λ t.
-    ap (λ z. is_uncallable z (other cert version) n.procedure t) (same_setting cert version n.procedure e) ∙ same_call cert version (setting_of cert n.procedure) n.procedure t)
+    ap (λ p. is_uncallable p (setting_of (other cert version) n.procedure) (other cert version) n.procedure t) e.program
+    ∙ (ap (λ z. is_uncallable (program_of rom cert) z (other cert version) n.procedure t) (same_setting cert version n.procedure e.rules)
+    ∙ same_call (program_of rom cert) cert version (setting_of cert n.procedure) n.procedure t))
 same_row rom cert version n row reason.Return e = same_any _ _ rom cert version n row e (λ t.
-    ap (λ rules. is_unreturnable rules (other cert version) n.procedure t) e ∙ same_return cert version (rules_of cert.version) n.procedure t)
+    ap (λ p. is_unreturnable p (rules_of version) (other cert version) n.procedure t) e.program
+    ∙ (ap (λ rules. is_unreturnable (program_of rom cert) rules (other cert version) n.procedure t) e.rules
+    ∙ same_return (program_of rom cert) cert version (rules_of cert.version) n.procedure t))
 same_row rom cert version n row r e = refl
 
 same_instruction : (test also : Row → Bool) (bytes : Option (List ℕ)) → ((row : Row) → test row ≡ also row) → test_instruction test bytes ≡ test_instruction also bytes
@@ -331,7 +357,7 @@ same_instruction test also (Some bytes) same = by (decoded bytes)
     by None = refl
     by (Some row) = same row
 
-same_applies : (rom : List ℕ) (cert : Certificate) (version : ℕ) (n : Node) (r : Reason) → rules_of version ≡ rules_of cert.version
+same_applies : (rom : List ℕ) (cert : Certificate) (version : ℕ) (n : Node) (r : Reason) → AreAlike rom cert version
     → applies rom (other cert version) n r ≡ applies rom cert n r
 unfolding applies
 same_applies rom cert version n reason.Area e = refl
@@ -344,19 +370,31 @@ same_find : {X : Type 0} (test also : X → Bool) (xs : List X) → ((x : X) →
 same_find test also [] same = refl
 same_find test also (x ∷ xs) same = rw (same x, same_find test also xs same) refl
 
-same_reason : (rom : List ℕ) (cert : Certificate) (version : ℕ) (n : Node) → rules_of version ≡ rules_of cert.version → reason_against rom (record cert { version = version }) n ≡ reason_against rom cert n
-unfolding reason_against reason_of
-same_reason rom cert version n e = rw (same_find (applies rom (other cert version) n) (applies rom cert n) reasons (λ r. same_applies rom cert version n r e), same_lacking cert version n e) refl
+same_lacked :
+    (rom : List ℕ) (cert : Certificate) (version : ℕ) (n : Node)
+    → AreAlike rom cert version → lacks_handler (program_of rom (other cert version)) (other cert version) n ≡ lacks_handler (program_of rom cert) cert n
+same_lacked rom cert version n e = ap (λ p. lacks_handler p (other cert version) n) e.program ∙ same_lacking (program_of rom cert) cert version n e.rules
 
-same_from : (rom : List ℕ) (cert : Certificate) (version i : ℕ) (xs : List Node) → rules_of version ≡ rules_of cert.version → verdict_from rom (record cert { version = version }) i xs ≡ verdict_from rom cert i xs
+same_reason : (rom : List ℕ) (cert : Certificate) (version : ℕ) (n : Node) → AreAlike rom cert version → reason_against rom (record cert { version = version }) n ≡ reason_against rom cert n
+unfolding reason_against reason_of
+same_reason rom cert version n e = rw (same_find (applies rom (other cert version) n) (applies rom cert n) reasons (λ r. same_applies rom cert version n r e), same_lacked rom cert version n e) refl
+
+same_from : (rom : List ℕ) (cert : Certificate) (version i : ℕ) (xs : List Node) → AreAlike rom cert version → verdict_from rom (record cert { version = version }) i xs ≡ verdict_from rom cert i xs
 same_from rom cert version i [] e = refl
 same_from rom cert version i (n ∷ rest) e = rw (same_reason rom cert version n e, same_from rom cert version (i + 1) rest e) refl
 
-same_entry : (rom : List ℕ) (cert : Certificate) (version : ℕ) → is_bad_entry rom (record cert { version = version }) ≡ is_bad_entry rom cert
-unfolding is_bad_entry
-same_entry rom cert version = refl
+same_node : (rom : List ℕ) (cert : Certificate) (version : ℕ) (o : Option Node) → AreAlike rom cert version → is_bad_node rom (other cert version) o ≡ is_bad_node rom cert o
+same_node rom cert version None e = refl
+same_node rom cert version (Some n) e =
+    ap (λ p. not (n.address == 0x100) || not (n.bank == 0) || not (covers p (state_at_power_up rom cert.region) n.state)) e.program
 
--- a verdict looks at nothing of the version but its rules
+same_entry : (rom : List ℕ) (cert : Certificate) (version : ℕ) → AreAlike rom cert version → is_bad_entry rom (record cert { version = version }) ≡ is_bad_entry rom cert
+unfolding is_bad_entry
+same_entry rom cert version e = same_node rom cert version (slice_get cert.nodes (main_entry cert)) e
+
+-- a verdict looks at nothing of the version but its rules, and whether it is 4
 pub verdict_of-versions : IgnoresVersion
 unfolding verdict_of
-verdict_of-versions rom cert version e = rw (same_entry rom cert version, same_from rom cert version 0 cert.nodes e) refl
+verdict_of-versions rom cert version e f =
+    let alike : AreAlike rom cert version = record { rules = e; program = same_program rom cert version f } in
+    rw (same_entry rom cert version alike, same_from rom cert version 0 cert.nodes alike) refl

@@ -18,7 +18,7 @@ use Rattle.gb_rules.specs.Below.gb_domain.Values.{have_same}
 use Rattle.gb_rules.specs.Below.gb_fields.Limits.{unit, node_limit, range_room}
 use Rattle.gb_rules.specs.Below.gb_states.declared.role.Role.{Role}
 use Rattle.gb_rules.specs.Below.gb_states.declared.role.Role.TheVariants as role
-use Rattle.gb_rules.specs.Below.gb_states.Rules.{is_whole, may_be_pushed, is_return_origin, is_declared_origin, is_all_or_none, may_be_of, is_sayable, are_sayable, is_core_sayable, is_cell_sayable, is_state_sayable, IsState, IsProcedure, IsNode, IsCertificate, is_of, have_entries, is_after, key}
+use Rattle.gb_rules.specs.Below.gb_states.Rules.{is_whole, may_be_pushed, is_return_origin, is_declared_origin, is_all_or_none, may_be_of, is_sayable, are_sayable, is_core_sayable, is_cell_sayable, is_silent, is_state_sayable, IsState, IsProcedure, IsNode, IsCertificate, is_of, have_entries, is_after, key}
 use Rattle.gb_rules.proofs.Below.gb_states_laws.StateLaws.{limit_bound}
 use Rattle.gb_verify.specs.Widened.{return_word, above_return_word, widened_node, widened_need, widened_procedure, widened_procedures, widened_by, widened}
 
@@ -65,11 +65,12 @@ registers_sayable s h =
 
 sayable : (s : AbsState) → is_state_sayable Simple s ≡ true → is_state_sayable Extended s ≡ true
 sayable s h =
-    let p = and_parts (is_core_sayable Simple s.core) (list_all (is_sayable Simple) s.items && list_all (is_cell_sayable Simple) s.cells) h in
+    let p = and_parts (is_core_sayable Simple s.core) (list_all (is_sayable Simple) s.items && (list_all (is_cell_sayable Simple) s.cells && is_silent s.summary)) h in
     let k = and_parts (is_all_or_none s.core.ctl.kept) (is_sayable Simple s.core.ie && are_sayable Simple s.core.registers) p.0 in
     let c = and_parts (is_sayable Simple s.core.ie) (are_sayable Simple s.core.registers) k.1 in
-    let l = and_parts (list_all (is_sayable Simple) s.items) (list_all (is_cell_sayable Simple) s.cells) p.1 in
-    both (both k.0 (both (val_sayable s.core.ie c.0) (registers_sayable s.core.registers c.1))) (both (vals_sayable s.items l.0) (cells_sayable s.cells l.1))
+    let l = and_parts (list_all (is_sayable Simple) s.items) (list_all (is_cell_sayable Simple) s.cells && is_silent s.summary) p.1 in
+    let m = and_parts (list_all (is_cell_sayable Simple) s.cells) (is_silent s.summary) l.1 in
+    both (both k.0 (both (val_sayable s.core.ie c.0) (registers_sayable s.core.registers c.1))) (both (vals_sayable s.items l.0) (both (cells_sayable s.cells m.0) m.1))
 
 pushed : (role : Role) (stack_set : Bool) (n : ℕ) → may_be_pushed Simple role stack_set n ≡ true → may_be_pushed Extended role stack_set n ≡ true
 pushed role.Main b n h = h
@@ -164,6 +165,8 @@ main_widened region nodes p h = record {
   room = h.room;
   ranges = tt;
   range_count = omega arith;
+  kept = h.kept;
+  mark = h.mark;
   exit = exit_extended region p.exit h.exit;
   main = h.main;
 }
@@ -185,6 +188,8 @@ other_widened region nodes p h = record {
   room = refl;
   ranges = h.ranges;
   range_count = h.range_count;
+  kept = h.kept;
+  mark = h.mark;
   exit = exit_extended region p.exit h.exit;
   main = h.main;
 }
@@ -245,6 +250,7 @@ certificate_widened c simple h =
       procedures = rw (map_long widened_node c.nodes) (procedures_widened c.region (length c.nodes) c.procedures procedures);
       nodes = rw (procedures_long c.procedures) (nodes_widened c.region (length c.procedures) (0, 0) c.nodes nodes);
       entries = entries_widened c.procedures c.nodes ∙ h.entries;
+      facts = h.facts;
     }
 
 -- each certificate is one in version 3

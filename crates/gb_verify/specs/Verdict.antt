@@ -7,6 +7,7 @@ use Rattle.gb_rules.specs.Below.gb_domain.Certificate.{Certificate}
 use Rattle.gb_rules.specs.Below.gb_abs.declared.reason.Reason.{Reason}
 use Rattle.gb_rules.specs.Below.gb_abs.declared.reason.Reason.TheVariants as reason
 use Rattle.gb_rules.specs.Below.gb_product.Covering.{covers}
+use Rattle.gb_rules.specs.Procedures.{program_of}
 use Rattle.gb_rules.specs.Rules.{reason_of, lacks_handler}
 use Rattle.gb_verify.specs.PowerUp.{state_at_power_up}
 use Rattle.gb_verify.specs.declared.verdict.Verdict.{Verdict}
@@ -25,7 +26,7 @@ main_entry cert = entry_of (slice_get cert.procedures 0)
 abbrev pub is_bad_node : List ℕ → Certificate → Option Node → Bool
 is_bad_node rom cert None = true
 is_bad_node rom cert (Some n) =
-    not (n.address == 0x100) || not (n.bank == 0) || not (covers (state_at_power_up rom cert.region) n.state)
+    not (n.address == 0x100) || not (n.bank == 0) || not (covers (program_of rom cert) (state_at_power_up rom cert.region) n.state)
 
 -- main doesn't begin at 0100 in bank 0, or not in a state that covers power-up
 unfoldable pub is_bad_entry : List ℕ → Certificate → Bool
@@ -40,7 +41,7 @@ or_interrupt None false = None
 
 -- the lowest reason against a node
 unfoldable pub reason_against : List ℕ → Certificate → Node → Option Reason
-reason_against rom cert n = or_interrupt (reason_of rom cert n) (lacks_handler cert n)
+reason_against rom cert n = or_interrupt (reason_of rom cert n) (lacks_handler (program_of rom cert) cert n)
 
 -- a right certificate
 pub record IsRight (rom : List ℕ) (cert : Certificate) : Type 0 where
@@ -86,6 +87,10 @@ unfoldable pub verdict_of : List ℕ → Certificate → Verdict
 verdict_of rom cert =
     if is_bad_entry rom cert then Refused (main_entry cert) reason.Entry else verdict_from rom cert 0 cert.nodes
 
--- Certificates that differ in their versions alone have equal verdicts, where both versions have the same rules, as 1 and 2 have.
+-- Certificates that differ in their versions alone have equal verdicts, where both versions have the same rules, as 1 and 2 have:
+-- those of version 4 alone speak of the whole program.
 abbrev pub IgnoresVersion : Type 0
-IgnoresVersion = (rom : List ℕ) (cert : Certificate) (version : ℕ) → rules_of version ≡ rules_of cert.version → verdict_of rom (record cert { version = version }) ≡ verdict_of rom cert
+IgnoresVersion =
+    (rom : List ℕ) (cert : Certificate) (version : ℕ)
+    → rules_of version ≡ rules_of cert.version → (version == 4) ≡ (cert.version == 4)
+    → verdict_of rom (record cert { version = version }) ≡ verdict_of rom cert

@@ -1,7 +1,7 @@
 //! The check of a certificate.
 
 ghost use Rattle.std.specs.Prelude.{◌≡◌, ◌<◌, length, slice_get, Option, Some};
-ghost use Rattle.gb_rules.specs.Procedures.{stack_of};
+ghost use Rattle.gb_rules.specs.Procedures.{stack_of, program_of};
 ghost use Rattle.gb_ops.specs.declared.machine.Region.{Region};
 ghost use Rattle.gb_verify.specs.PowerUp.{own, core_at_power_up, state_at_power_up};
 ghost use Rattle.gb_verify.specs.Verdict.{IsVerdict, verdict_of, IgnoresVersion, is_bad_entry, main_entry, reason_against_at, entry_of, is_bad_node};
@@ -12,12 +12,12 @@ use gb_ops::machine::Region;
 use gb_ops::op::Register;
 use gb_ops::registers::Registers;
 use gb_rules::interrupts::lacks_handler;
-use gb_rules::procedures::stack_of;
+use gb_rules::procedures::{program_of, stack_of};
 use gb_rules::room::Room;
 use gb_rules::rules::reason_near;
 use gb_rules::{
-    Abs, Cert, Core, Ctl, Flg, ImeSet, KeptBanks, NodeRef, Origin, Reason, Stack, Val, covers,
-    holds_bytes, known,
+    Abs, Cert, Core, Ctl, Flg, ImeSet, KeptBanks, NodeRef, Origin, Program, Reason, Stack, Val,
+    covers, holds_bytes, known,
 };
 use gb_text::Rom;
 
@@ -104,7 +104,7 @@ fn is_bad_entry(rom: &Rom<'_>, cert: &Cert<'_>, entry: u32) -> bool
     let node = cert.node(entry);
     let state = node.state();
     let start = Abs::new(core_at_power_up(rom, cert.region()));
-    node.address() != 0x100 || node.bank() != 0 || !covers(&start, &state)
+    node.address() != 0x100 || node.bank() != 0 || !covers(&program_of(rom, cert), &start, &state)
 }
 
 /// The lowest reason against the node with a number. The node's state is read in the place of another one, so that no
@@ -112,6 +112,7 @@ fn is_bad_entry(rom: &Rom<'_>, cert: &Cert<'_>, entry: u32) -> bool
 #[tactic(auto, unfolding(crate::specs::Verdict::reason_against))]
 fn reason_against(
     rom: &Rom<'_>,
+    program: &Program<'_>,
     cert: &Cert<'_>,
     i: u32,
     stack: Stack,
@@ -119,6 +120,7 @@ fn reason_against(
     state: &mut Abs,
     room: &mut Room,
 ) -> Option<Reason>
+    requires program { program.now ≡ program_of rom.now cert.now }
     requires node { slice_get cert.now.nodes i ≡ Some node.now }
     requires stack { stack ≡ stack_of cert.now node.now.procedure }
     ensures { result ≡ reason_against_at rom.now cert.now i }
@@ -126,7 +128,9 @@ fn reason_against(
     node.read(state);
     match reason_near(rom, cert, i, stack, node, state, room) {
         Some(reason) => Some(reason),
-        None if lacks_handler(cert, i, stack, node, state, room) => Some(Reason::Interrupt),
+        None if lacks_handler(program, cert, i, stack, node, state, room) => Some(
+            Reason::Interrupt,
+        ),
         None => None,
     }
 }
@@ -143,6 +147,7 @@ fn verdict(rom: &Rom<'_>, cert: &Cert<'_>) -> Verdict
             reason: Reason::Entry,
         };
     }
+    let program = program_of(rom, cert);
     let start = core_at_power_up(rom, cert.region());
     let mut state = Abs::new(start);
     let mut room = Room::new(start);
@@ -154,7 +159,8 @@ fn verdict(rom: &Rom<'_>, cert: &Cert<'_>) -> Verdict
             procedure = node.procedure();
             stack = stack_of(cert, procedure);
         }
-        if let Some(reason) = reason_against(rom, cert, i, stack, &node, &mut state, &mut room) {
+        let reason = reason_against(rom, &program, cert, i, stack, &node, &mut state, &mut room);
+        if let Some(reason) = reason {
             return Verdict::Refused { node: i, reason };
         }
     }

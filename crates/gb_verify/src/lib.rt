@@ -21,19 +21,20 @@ pub use verify::{Answer, Outcome};
 pub use gb_rules::covered::covered_at;
 pub use gb_rules::interrupts::check_irqs;
 pub use gb_rules::procedures::{
-    callee_at, exit_of, need_of, ranges_of, setting_of, stack_of, taken_by,
+    callee_at, exit_of, need_of, program_of, ranges_of, setting_of, stack_of, taken_by,
 };
 pub use gb_rules::rules::{check_node, is_nop_behind};
 pub use gb_rules::{
-    ANY_BOUNDS, Abs, AbsRead, AbsWrite, Bounds, Cell, Cert, CertFault, Core, Ctl, Flg, Halves,
-    ImeSet, KeptBanks, Link, May, NO_REGISTER, NOTHING_KNOWN, NodeRef, OneByte, Origin, Other,
-    PairFacts, Pairs, ProcedureRef, RANGES, Range, Reason, Relations, Resumed, Rules, Setting,
-    Span, Stack, Successor, Successors, Target, Test, Val, WordPair, any, are_ranges_inside,
-    area_end, callee, cell_at, covers, covers_controller, covers_core, covers_ime, covers_may,
-    covers_origin, covers_relations, covers_val, enter, handler, holds_bytes, is_limited, is_ram,
-    is_stack_limited, known_bank, known_byte, known_bytes, leaves_area, left_by_dispatch,
-    length_of, lies_in_high_ram, may_come, meets_closed_ram, reduced, resume, successors_of,
-    test_alone, with_value,
+    ANY_BOUNDS, Abs, AbsRead, AbsWrite, BankShadows, Bounds, Cell, Cert, CertFault, Core, Ctl, Flg,
+    Halves, ImeSet, KeptBanks, Link, May, NO_REGISTER, NOTHING_KNOWN, NodeRef, OneByte, Origin,
+    Other, PairFacts, Pairs, ProcedureRef, Program, RANGES, Range, Reason, Relations, Resumed,
+    Rules, Setting, Shadows, Span, Stack, States, Successor, Successors, Summary, Target, Test,
+    Val, WordPair, any, are_ranges_inside, area_end, byte_of, callee, cell_at, covers,
+    covers_controller, covers_core, covers_ime, covers_may, covers_origin, covers_relations,
+    covers_said, covers_val, enter, handler, holds_bytes, is_limited, is_ram, is_stack_limited,
+    known_bank, known_byte, known_bytes, leaves_area, left_by_dispatch, length_of,
+    lies_in_high_ram, may_come, meets_closed_ram, reduced, resume, successors_of, test_alone,
+    with_value,
 };
 pub use gb_text::sink::Plain;
 pub use gb_text::{HeaderFault, Rom};

@@ -21,8 +21,8 @@ pub use gb_console::run::steps_are_played;
 pub use gb_console::{
     Abs, Answer, Cell, Cert, CertFault, Console, Core, Ctl, Ending, FRAME_CYCLES, Flg, HEIGHT,
     ImeSet, Input, KeptBanks, Keys, May, Memory, Met, NodeRef, OneByte, Origin, Outcome,
-    ProcedureRef, Range, Reason, Relations, Rules, Setting, Span, Stepped, Test, UpgradeTo,
-    Upgraded, Val, Verdict, WIDTH, callee, certificate_line, check, check_irqs, check_node,
-    covered_at, covers, enter, resume, successors_of, upgrade_bytes, verdict_ignores_version,
-    verify_bytes,
+    ProcedureRef, Program, Range, Reason, Relations, Rules, Setting, Span, Stepped, Test,
+    UpgradeTo, Upgraded, Val, Verdict, WIDTH, callee, certificate_line, check, check_irqs,
+    check_node, covered_at, covers, enter, resume, successors_of, upgrade_bytes,
+    verdict_ignores_version, verify_bytes,
 };

@@ -6,16 +6,16 @@ use Rattle.gb_calls.proofs.callees.callee_in.Goals as goal
 pub returns-then-is_entry : goal.returns-then-is_entry
 unfolding callee_of
 returns-then-is_entry c =
-    let begins : is_entry c.args.cert.now c.args.setting c.args.address c.args.state.now c.procedure-procedure.result ≡ true =
+    let begins : is_entry c.args.program.now c.args.cert.now c.args.setting c.args.address c.args.state.now c.procedure-procedure.result ≡ true =
     sym c.is_entry.ensures ∙ c.if-is_entry.true in
     record {
-      exact = sym (callee-taken c.args.cert.now c.args.setting c.args.address c.args.state.now c.loop-i.i c.procedure-procedure.result c.procedure-procedure.ensures begins)
+      exact = sym (callee-taken c.args.program.now c.args.cert.now c.args.setting c.args.address c.args.state.now c.loop-i.i c.procedure-procedure.result c.procedure-procedure.ensures begins)
           ∙ c.loop-i.invariant;
     }
 
 pub loop-i-preserved : goal.loop-i-preserved
 loop-i-preserved c =
-    let apart : is_entry c.args.cert.now c.args.setting c.args.address c.args.state.now c.procedure-procedure.result ≡ false =
+    let apart : is_entry c.args.program.now c.args.cert.now c.args.setting c.args.address c.args.state.now c.procedure-procedure.result ≡ false =
     sym c.is_entry.ensures ∙ c.if-is_entry.false in
-    sym (callee-passed c.args.cert.now c.args.setting c.args.address c.args.state.now c.loop-i.i c.procedure-procedure.result c.procedure-procedure.ensures apart)
+    sym (callee-passed c.args.program.now c.args.cert.now c.args.setting c.args.address c.args.state.now c.loop-i.i c.procedure-procedure.result c.procedure-procedure.ensures apart)
     ∙ c.loop-i.invariant

@@ -13,5 +13,5 @@ returns-then-are_too_many-clause-exact c =
     let core : c.core_back-core.result ≡ core_back s.core x.core = rw (c.core-2.ensures, c.core-3.ensures) at c.core_back-core.ensures in
     let relations : c.returned-relations.result ≡ returned c.kept_by-kept.result s.relations x.relations =
     rw (c.relations-2.ensures, c.relations-3.ensures) at c.returned-relations.ensures.exact in
-    too_deep c.args.count c.args.ranges.now s x c.kept_by-kept.result c.core_back-core.result c.returned-relations.result
+    too_deep c.args.program.now c.args.count c.args.ranges.now s x c.kept_by-kept.result c.core_back-core.result c.returned-relations.result
     _ kept core relations (sym c.if-not-reduce.ensures.exact) (rw (c.items.ensures.items, c.items-2.ensures.items) at (c.are_too_many.ensures.many c.if-are_too_many.true))

@@ -9,5 +9,5 @@ loop-number-init c = λ j n least lt. absurd (omega arith)
 
 pub loop-number-preserved : goal.loop-number-preserved
 loop-number-preserved c =
-    let apart : covers (with_parts c.args.states.now.core.now c.args.states.now.relations.now c.args.states.now.lists.now) c.node-node.result.state ≡ false = sym c.covers_states.ensures ∙ c.if-covers_states.false in
-    none_yet c.args.cert.now.nodes (with_parts c.args.states.now.core.now c.args.states.now.relations.now c.args.states.now.lists.now) c.args.from c.loop-number.number c.node-node.result c.node-node.ensures apart c.loop-number.invariant
+    let apart : covers c.args.program.now (with_parts c.args.states.now.core.now c.args.states.now.relations.now c.args.states.now.summary.now c.args.states.now.lists.now) c.node-node.result.state ≡ false = sym c.covers_states.ensures ∙ c.if-covers_states.false in
+    none_yet c.args.program.now c.args.cert.now.nodes (with_parts c.args.states.now.core.now c.args.states.now.relations.now c.args.states.now.summary.now c.args.states.now.lists.now) c.args.from c.loop-number.number c.node-node.result c.node-node.ensures apart c.loop-number.invariant

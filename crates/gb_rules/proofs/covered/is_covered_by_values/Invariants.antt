@@ -8,5 +8,5 @@ invariant-loop-value l = record {
   least : l.found.first ≤ l.near;
   most : l.near ≤ l.found.after;
   passed :
-      all_from (is_value_covered l.rules l.cert.nodes l.procedure l.address (with_parts l.states.core.now l.states.relations.now l.states.lists.now) l.fn.register) (get l.fn.register (with_parts l.states.core.now l.states.relations.now l.states.lists.now).core.registers).lo (l.value - (get l.fn.register (with_parts l.states.core.now l.states.relations.now l.states.lists.now).core.registers).lo) ≡ true;
+      all_from (is_value_covered l.program l.rules l.cert.nodes l.procedure l.address (with_parts l.states.core.now l.states.relations.now l.states.summary.now l.states.lists.now) l.fn.register) (get l.fn.register (with_parts l.states.core.now l.states.relations.now l.states.summary.now l.states.lists.now).core.registers).lo (l.value - (get l.fn.register (with_parts l.states.core.now l.states.relations.now l.states.summary.now l.states.lists.now).core.registers).lo) ≡ true;
 }

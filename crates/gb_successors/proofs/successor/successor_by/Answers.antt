@@ -1,14 +1,17 @@
 use Rattle.std.proofs.Common.{refl, sym}
-use Rattle.gb_successors.specs.Successors.{effect_in, taken_parts, relations_behind, taken_successor}
-use Rattle.gb_successors.proofs.MovedLaws.{taken_state}
+use Rattle.gb_successors.specs.Successors.{effect_in, taken_parts, relations_behind, summary_behind, taken_successor}
+use Rattle.gb_successors.proofs.MovedLaws.{taken_state, moved_cells}
 use Rattle.gb_successors.proofs.successor.successor_by.Goals as goal
 
 pub returns : goal.returns
-unfolding effect_in taken_parts relations_behind taken_successor
+unfolding effect_in taken_parts relations_behind summary_behind taken_successor
 returns c =
     rw (
       c.move_of-moved.ensures,
-      taken_state c.args.taken.now.stack.now c.kind-kind.result c.args.taken.now.cell.now c.stack_move-stack_move.result c.refine.new.effect.write c.args.taken.now.state.now c.end_core.new.core c.relations_after-relations.result,
+      taken_state c.args.taken.now.stack.now c.kind-kind.result c.args.taken.now.cell.now c.stack_move-stack_move.result c.refine.new.effect.write c.args.taken.now.state.now c.end_core.new.core c.relations_after-relations.result c.summary_behind-summary.result,
+      c.summary_behind-summary.ensures,
+      c.move_of-moved.ensures,
+      moved_cells c.args.taken.now.stack.now c.kind-kind.result c.args.taken.now.cell.now c.stack_move-stack_move.result c.refine.new.effect.write c.args.taken.now.state.now,
       c.end_core.ensures,
       c.relations_after-relations.ensures.exact,
       c.refined_target-target.ensures,

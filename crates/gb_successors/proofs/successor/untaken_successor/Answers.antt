@@ -7,7 +7,8 @@ pub returns : goal.returns
 unfolding untaken_successor
 returns c =
     rw (
-      c.cell_alone.ensures,
-      c.end.ensures.exact,
+      c.idle_successor.ensures,
+      c.cell_alone-moved.ensures,
+      c.end-core.ensures.exact,
       untaken_state c.args.stack c.args.kind c.args.side.now.cell c.args.row.cycles_not_taken c.args.state.now c.args.side.now.core c.args.side.now.relations,
     ) refl

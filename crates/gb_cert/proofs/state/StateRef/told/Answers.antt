@@ -3,7 +3,7 @@ use Rattle.gb_domain.specs.Types.{AbsState}
 use Rattle.gb_domain.specs.RelationRules.{compared}
 use Rattle.gb_states.specs.RelationReading.{relations_by}
 use Rattle.gb_cert.specs.Borrowed.{state_in, item_width}
-use Rattle.gb_cert.proofs.CheckedLaws.{cells-listed}
+use Rattle.gb_cert.proofs.CheckedLaws.{cells-listed, says-nothing}
 use Rattle.gb_cert.proofs.Lending.{few-cells, CountsOff, told-lent, relations-lent, cells-lent, no-error}
 use Rattle.gb_cert.proofs.state.StateRef.told.Goals as goal
 
@@ -44,3 +44,8 @@ pub returns-clause-few : goal.returns-clause-few
 returns-clause-few c =
     let i = c.self.inside in
     rw (← c.self.view_is) (few-cells i.rules i.role i.region (state_in i.rules i.role i.region i.bytes.now) c.self.invariant.is_state)
+
+pub returns-clause-summary : goal.returns-clause-summary
+returns-clause-summary c =
+    let i = c.self.inside in
+    rw (← c.self.view_is) (says-nothing i.rules i.role i.region (state_in i.rules i.role i.region i.bytes.now) c.self.invariant.is_state)

@@ -1,0 +1,278 @@
+-- States of version 4: what is read is spelled so, and what is spelled so is read.
+use Rattle.std.proofs.Common.{◌≡◌, ℕ, ◌<◌, ◌≤◌, Bool, true, ◌||◌, not, List, ◌++◌, length, Option, Some, None, refl, ◌∙◌, ap, arith}
+use Rattle.std.specs.Prelude.{IfSome}
+use Rattle.std.specs.List.{AllByRecursion}
+use Rattle.gb_ops.specs.declared.machine.Region.{Region}
+use Rattle.gb_ops.specs.declared.op.Register.{Register}
+use Rattle.gb_ops.specs.declared.op.Register.TheVariants.{A, B, C, D, E, H, L}
+use Rattle.gb_ops.specs.declared.registers.Registers.{Registers}
+use Rattle.gb_ops.specs.Registers.{get}
+use Rattle.gb_fields.specs.declared.fault.CertFault.TheVariants as fault
+use Rattle.gb_domain.specs.declared.types.KeptBanks.{KeptBanks}
+use Rattle.gb_domain.specs.declared.types.Cell.{Cell}
+use Rattle.gb_domain.specs.declared.types.Val.{Val}
+use Rattle.gb_domain.specs.declared.pairs.WordPair.{WordPair}
+use Rattle.gb_domain.specs.declared.pairs.Pairs.{Pairs}
+use Rattle.gb_domain.specs.declared.pairs.Bounds.{Bounds}
+use Rattle.gb_domain.specs.declared.places.OneByte.{OneByte}
+use Rattle.gb_domain.specs.declared.relations.Relations.{Relations}
+use Rattle.gb_domain.specs.declared.rules.Rules.TheVariants.{Extended}
+use Rattle.gb_domain.specs.Limits.{cell_room}
+use Rattle.gb_domain.specs.RelationRules.{compared}
+use Rattle.gb_domain.specs.Rules.{IsChain, IsFlg, IsCtl, may_be_any, after_cell}
+use Rattle.gb_domain.specs.Summaries.{SummaryParts}
+use Rattle.gb_domain.specs.Types.{AbsState}
+use Rattle.gb_fields.specs.Format.{both, byte}
+use Rattle.gb_fields.specs.Limits.{item_limit}
+use Rattle.gb_fields.specs.Reading.{is_between, count_within}
+use Rattle.gb_states.specs.declared.whole.Declared.{Declared}
+use Rattle.gb_states.specs.declared.relations.Present.{Present}
+use Rattle.gb_states.specs.declared.role.Role.{Role}
+use Rattle.gb_states.specs.Reading.{Tested, to_vals, to_core, is_stack_right, item_count_at, to_cell}
+use Rattle.gb_states.specs.RelationReading.{is_present, present_at, parts_at}
+use Rattle.gb_states.specs.Rules.{may_be_pushed}
+use Rattle.gb_states.specs.WholeRules.{IsValIn, IsWithin, IsSummary, IsFreeFrom, IsCoreIn, IsCellIn, IsStateIn, may_be_aside}
+use Rattle.gb_states.specs.WholeReading.{val_at, kept_at, may_be_declared, declared_at, summary_at, ctl_at, vals_at, core_at, items_at, cell_at, cells_at, to_told, told_at, to_state, state_at}
+use Rattle.gb_states.specs.Spelling as simple
+use Rattle.gb_states.specs.RelationSpelling as told
+use Rattle.gb_states.specs.WholeSpelling as spelled
+use Rattle.gb_states.proofs.Formats.{IsFormat, IsFormat-both, IsFormat-followed, IsFormat-checked, IsFormat-onto, IsFormat-mapped, IsFormat-as, IsFormat-counted, all_of_chain, chain_of_all}
+use Rattle.gb_states.proofs.FieldLaws.{within, is_within, spelled_byte, IsFormat-byte_between, IsFormat-count_within, IsFormat-yes_no, IsCtlBy, IsFormat-ctl_by, IsFormat-ime, IsFormat-test, IsFormat-flg, from_vals, from_core}
+use Rattle.gb_states.proofs.RelationLaws.{All, from_relations, ArePresent, IsTold, relations-there, relations-again, spelled_present, told_byte, told_parts, IsFormat-present, IsFormat-parts, compared-small, AreBounds}
+use Rattle.gb_states.proofs.StateLaws.{IsFormat-item_count}
+use Rattle.gb_states.proofs.WholeLaws.{IsFormat-val, spelled_kept, IsFormat-kept}
+use Rattle.gb_states.proofs.WholeSummaryLaws.{declared-same, spelled_declared, IsFormat-declared, IsSummaryFor, IsFormat-summary, IsFormat-free_address}
+
+-- ---- cores
+
+IsFormat-ctl : IsFormat ctl_at spelled.ctl IsCtl
+unfolding ctl_at spelled.ctl
+IsFormat-ctl =
+    IsFormat-as ctl_at spelled.ctl (IsCtlBy (λ k. Unit {0})) IsCtl (λ c h. h.0) (λ c h. (h, tt))
+    (IsFormat-ctl_by (λ (k : KeptBanks). k) (λ k. k) kept_at spelled.kept_number (λ k. Unit {0}) (λ k. Unit {0}) (λ k h. (refl, tt)) (λ k h. (tt, refl)) spelled_kept (λ k. refl) IsFormat-kept)
+
+abbrev AreVals : ℕ → Registers Val → Type 0
+AreVals kept r = IsValIn kept r.a × (IsValIn kept r.b × (IsValIn kept r.c × (IsValIn kept r.d × (IsValIn kept r.e × (IsValIn kept r.h × IsValIn kept r.l)))))
+
+-- each of them is right
+abbrev AreEach : ℕ → Registers Val → Type 0
+AreEach kept s = (r : Register) → IsValIn kept (get r s)
+
+vals-each : (kept : ℕ) (s : Registers Val) → AreVals kept s → AreEach kept s
+vals-each kept s h A = h.0
+vals-each kept s h B = h.1.0
+vals-each kept s h C = h.1.1.0
+vals-each kept s h D = h.1.1.1.0
+vals-each kept s h E = h.1.1.1.1.0
+vals-each kept s h H = h.1.1.1.1.1.0
+vals-each kept s h L = h.1.1.1.1.1.1
+
+IsFormat-vals : (kept : ℕ) → kept ≤ 16 → IsFormat (vals_at kept) spelled.vals (AreEach kept)
+unfolding vals_at from_vals spelled.vals
+IsFormat-vals kept few =
+    let val = IsFormat-val kept few in
+    IsFormat-as (vals_at kept) spelled.vals (AreVals kept) (AreEach kept) (vals-each kept) (λ s h. (h A, (h B, (h C, (h D, (h E, (h H, h L)))))))
+    (IsFormat-mapped to_vals from_vals _ _ _ (λ x h. refl) (λ y h. refl)
+    (IsFormat-both _ _ _ _ _ _ val (IsFormat-both _ _ _ _ _ _ val (IsFormat-both _ _ _ _ _ _ val
+    (IsFormat-both _ _ _ _ _ _ val (IsFormat-both _ _ _ _ _ _ val (IsFormat-both _ _ _ _ _ _ val val)))))))
+
+-- a core that may stand in a state for this, and its test
+pub record IsCoreOf (kept : ℕ) (role : Role) (k : Tested) : Type 0 where
+  pub core : IsCoreIn kept k.0
+  pub stack : is_stack_right role k.0.stack_set ≡ true
+  pub test : IfSome k.1 (λ a. a < 256)
+
+abbrev AreCore : ℕ → Role → Tested → Type 0
+AreCore kept role k = (may_be_any k.0.ime ≡ true) × (((k.0.bound < 256) × (is_between 0 161 k.0.bound ≡ true)) × ((Unit {0} × (is_stack_right role k.0.stack_set ≡ true)) × (IfSome k.1 (λ a. a < 256) × (IsCtl k.0.ctl × (IsFlg k.0.flags × (IsValIn kept k.0.ie × AreEach kept k.0.registers))))))
+
+core-is : (kept : ℕ) (role : Role) (k : Tested) → AreCore kept role k → IsCoreOf kept role k
+core-is kept role k h = record {
+  core = record { ime = h.0; bound = within 161 k.0.bound h.1.0.1; ctl = h.1.1.1.1.0; flags = h.1.1.1.1.1.0; ie = h.1.1.1.1.1.1.0; registers = h.1.1.1.1.1.1.1 };
+  stack = h.1.1.0.1;
+  test = h.1.1.1.0;
+}
+
+is-core : (kept : ℕ) (role : Role) (k : Tested) → IsCoreOf kept role k → AreCore kept role k
+is-core kept role k h =
+    let few = h.core.bound in
+    (h.core.ime, ((omega (arith, few), is_within 161 k.0.bound h.core.bound), ((tt, h.stack), (h.test, (h.core.ctl, (h.core.flags, (h.core.ie, h.core.registers)))))))
+
+abbrev spelled_core : Tested → List ℕ
+spelled_core k = spelled.core k.0 k.1
+
+IsFormat-core : (kept : ℕ) (role : Role) → kept ≤ 16 → IsFormat (core_at kept role) spelled_core (IsCoreOf kept role)
+unfolding core_at from_core spelled.core
+IsFormat-core kept role few =
+    IsFormat-as (core_at kept role) spelled_core (AreCore kept role) (IsCoreOf kept role) (core-is kept role) (is-core kept role)
+    (IsFormat-mapped to_core from_core _ _ _ (λ x h. refl) (λ y h. refl)
+    (IsFormat-both _ _ _ _ _ _ IsFormat-ime (IsFormat-both _ _ _ _ _ _ (IsFormat-byte_between 0 161)
+    (IsFormat-both _ _ _ _ _ _ (IsFormat-checked fault.Field (is_stack_right role) _ _ _ IsFormat-yes_no)
+    (IsFormat-both _ _ _ _ _ _ IsFormat-test (IsFormat-both _ _ _ _ _ _ IsFormat-ctl (IsFormat-both _ _ _ _ _ _ IsFormat-flg (IsFormat-both _ _ _ _ _ _ (IsFormat-val kept few) (IsFormat-vals kept few)))))))))
+
+-- ---- items and cells
+
+pub record AreItemsIn (kept : ℕ) (role : Role) (stack_set : Bool) (items : List Val) : Type 0 where
+  pub few : length items ≤ item_limit Extended
+  pub pushed : may_be_pushed Extended role stack_set (length items) ≡ true
+  pub each : AllByRecursion (IsValIn kept) items
+
+item_limit_small : item_limit Extended < 256
+unfolding item_limit
+item_limit_small = omega arith
+
+IsFormat-items : (kept : ℕ) (role : Role) (stack_set : Bool) → kept ≤ 16 → IsFormat (items_at kept role stack_set) (simple.counted spelled.val) (AreItemsIn kept role stack_set)
+unfolding items_at
+IsFormat-items kept role stack_set few =
+    IsFormat-as (items_at kept role stack_set) (simple.counted spelled.val) (λ vs. ((length vs ≤ item_limit Extended) × (may_be_pushed Extended role stack_set (length vs) ≡ true)) × IsChain {S = Unit {0}} (λ s. IsValIn kept) (λ v. tt) tt vs) (AreItemsIn kept role stack_set)
+    (λ vs h. record { few = h.0.0; pushed = h.0.1; each = all_of_chain (IsValIn kept) vs h.1 }) (λ vs h. ((h.few, h.pushed), chain_of_all (IsValIn kept) vs h.each))
+    (IsFormat-counted {S = Unit {0}} (item_count_at Extended role stack_set) spelled_byte (λ n. (n ≤ item_limit Extended) × (may_be_pushed Extended role stack_set n ≡ true)) (λ s. val_at kept) (λ v. tt) spelled.val (λ s. IsValIn kept) tt (IsFormat-item_count Extended role stack_set) (λ s. IsFormat-val kept few))
+
+from_cell : Cell → ℕ × Val
+from_cell c = (c.address, c.val)
+
+IsFormat-cell : (kept : ℕ) (region : Region) (least : ℕ) → kept ≤ 16 → IsFormat (cell_at kept region least) spelled.cell (IsCellIn kept region least)
+unfolding cell_at from_cell spelled.cell
+IsFormat-cell kept region least few =
+    IsFormat-as (cell_at kept region least) spelled.cell (λ c. IsFreeFrom region least c.address × IsValIn kept c.val) (IsCellIn kept region least) (λ c h. record { address = h.0; val = h.1 }) (λ c h. (h.address, h.val))
+    (IsFormat-mapped to_cell from_cell _ _ _ (λ x h. refl) (λ y h. refl) (IsFormat-both _ _ _ _ _ _ (IsFormat-free_address region least) (IsFormat-val kept few)))
+
+pub record AreCellsIn (kept : ℕ) (region : Region) (cells : List Cell) : Type 0 where
+  pub few : length cells ≤ cell_room Extended
+  pub chain : IsChain (IsCellIn kept region) after_cell 0 cells
+
+cell_room_small : cell_room Extended < 256
+unfolding cell_room
+cell_room_small = omega arith
+
+IsFormat-cells : (kept : ℕ) (region : Region) → kept ≤ 16 → IsFormat (cells_at kept region) (simple.counted spelled.cell) (AreCellsIn kept region)
+unfolding cells_at
+IsFormat-cells kept region few =
+    IsFormat-as (cells_at kept region) (simple.counted spelled.cell) (λ cs. (length cs ≤ cell_room Extended) × IsChain (IsCellIn kept region) after_cell 0 cs) (AreCellsIn kept region) (λ cs h. record { few = h.0; chain = h.1 }) (λ cs h. (h.few, h.chain))
+    (IsFormat-counted (count_within (cell_room Extended)) spelled_byte (λ n. n ≤ cell_room Extended) (cell_at kept region) after_cell spelled.cell (IsCellIn kept region) 0 (IsFormat-count_within (cell_room Extended) cell_room_small) (λ least. IsFormat-cell kept region least few))
+
+-- ---- what is known and said
+
+abbrev Told : Type 0
+Told = Relations × SummaryParts
+
+abbrev ToldParts : Type 0
+ToldParts = (Present × Declared) × ((OneByte × (Option WordPair × Pairs)) × SummaryParts)
+
+from_told : Told → ToldParts
+from_told t = ((told.present_in t.0, spelled.declared_in t.1), ((t.0.byte, (t.0.zero, t.0.pairs)), t.1))
+
+abbrev AreToldParts : ℕ → Region → Bool → Option ℕ → ToldParts → Type 0
+AreToldParts facts region may test p = ((is_present test p.0.0 ≡ true) × (may_be_declared may p.0.1 ≡ true)) × (ArePresent region test p.0.0 p.1.0 × IsSummaryFor facts region p.0.1 p.1.1)
+
+-- what there may be beside a state's test
+abbrev pub IsToldIn : ℕ → Region → Bool → Option ℕ → Told → Type 0
+IsToldIn facts region may test t = IsTold region test t.0 × IsSummary facts region may t.1
+
+within-is : (o : Option Bounds) → IfSome o AreBounds → IfSome o IsWithin
+within-is None h = tt
+within-is (Some b) h = record { order = h.0; last = h.1 }
+
+is-within : (o : Option Bounds) → IfSome o IsWithin → IfSome o AreBounds
+is-within None h = tt
+is-within (Some b) h = (h.order, h.last)
+
+told-there : (facts : ℕ) (region : Region) (may : Bool) (test : Option ℕ) (p : ToldParts) → AreToldParts facts region may test p → (from_told (to_told p) ≡ p) × IsToldIn facts region may test (to_told p)
+unfolding from_told from_relations
+told-there facts region may test p h =
+    let r = relations-there region test (p.0.0, p.1.0) (h.0.0, h.1.0) in
+    let s = h.1.1 in
+    let d = declared-same _ _ _ p.0.1.shadows p.0.1.levels p.0.1.aside s.has_shadows s.has_levels s.has_aside in (
+      parts-same _ p.0.0 _ p.0.1 (ap (λ (x : All). x.0) r.0) d,
+      (
+        r.1,
+        record {
+          level = s.level;
+          few = s.few;
+          fills = s.fills;
+          first = s.first;
+          second = s.second;
+          aside = within-is p.1.1.aside s.aside;
+          may = ap (λ b. may || not b) s.has_aside ∙ h.0.1;
+        },
+      ),
+    )
+  where
+    parts-same : (a b : Present) (c d : Declared) → a ≡ b → c ≡ d → (let q : ToldParts = ((a, c), p.1) in q) ≡ ((b, d), p.1)
+    parts-same a b c d e f = rw (e, f) refl
+
+told-again : (facts : ℕ) (region : Region) (may : Bool) (test : Option ℕ) (t : Told) → IsToldIn facts region may test t → AreToldParts facts region may test (from_told t) × (to_told (from_told t) ≡ t)
+unfolding from_told from_relations
+told-again facts region may test t h =
+    let r = relations-again region test t.0 h.0 in
+    let s = h.1 in (
+      (
+        (r.0.0, s.may),
+        (
+          r.0.1,
+          record { level = s.level; few = s.few; fills = s.fills; first = s.first; second = s.second; aside = is-within t.1.aside s.aside; has_shadows = refl; has_levels = refl; has_aside = refl },
+        ),
+      ),
+      refl,
+    )
+
+abbrev told_all : ToldParts → List ℕ
+told_all p = (spelled_present p.0.0 ++ spelled_declared p.0.1) ++ (told_parts p.1.0 ++ spelled.summary p.1.1)
+
+IsFormat-told : (facts : ℕ) (region : Region) (may : Bool) (test : Option ℕ) → facts < 65536 → IfSome test (λ n. n < 256) → IsFormat (told_at facts region may test) spelled.told (IsToldIn facts region may test)
+unfolding told_at from_told told_byte spelled.told
+IsFormat-told facts region may test small byte =
+    IsFormat-onto to_told from_told _ told_all (AreToldParts facts region may test) (IsToldIn facts region may test) (told-there facts region may test) (told-again facts region may test)
+    (IsFormat-followed (both (present_at test) (declared_at may)) (λ d. both (parts_at region test d.0) (summary_at facts region d.1)) (λ d. spelled_present d.0 ++ spelled_declared d.1) (λ d q. told_parts q.0 ++ spelled.summary q.1) (λ d. (is_present test d.0 ≡ true) × (may_be_declared may d.1 ≡ true))
+    (λ d q. ArePresent region test d.0 q.0 × IsSummaryFor facts region d.1 q.1) (IsFormat-both (present_at test) (declared_at may) _ _ _ _ (IsFormat-present test) (IsFormat-declared may))
+    (λ d h. IsFormat-both (parts_at region test d.0) (summary_at facts region d.1) told_parts spelled.summary (ArePresent region test d.0) (IsSummaryFor facts region d.1) (IsFormat-parts region test d.0 byte h.0) (IsFormat-summary facts region d.1 small)))
+
+-- ---- states
+
+abbrev StateParts : Type 0
+StateParts = Tested × (List Val × (Told × List Cell))
+
+from_state : AbsState → StateParts
+from_state s = ((s.core, compared s.relations.byte.test), (s.items, ((s.relations, s.summary), s.cells)))
+
+abbrev spelled_state : StateParts → List ℕ
+spelled_state p = spelled_core p.0 ++ (simple.counted spelled.val p.1.0 ++ (spelled.told p.1.1.0 ++ simple.counted spelled.cell p.1.1.1))
+
+abbrev AreStateParts : ℕ → ℕ → Role → Region → StateParts → Type 0
+AreStateParts facts kept role region p = IsCoreOf kept role p.0 × (AreItemsIn kept role p.0.0.stack_set p.1.0 × (IsToldIn facts region (may_be_aside role p.0.0) p.0.1 p.1.1.0 × AreCellsIn kept region p.1.1.1))
+
+state-there : (facts kept : ℕ) (role : Role) (region : Region) (p : StateParts) → AreStateParts facts kept role region p → (from_state (to_state p) ≡ p) × IsStateIn facts kept role region (to_state p)
+unfolding from_state
+state-there facts kept role region p h = (
+  ap (λ (o : Option ℕ). (let q : StateParts = ((p.0.0, o), p.1) in q)) h.1.1.0.0.1,
+  record {
+    core = h.0.core;
+    stack = h.0.stack;
+    pushed = h.1.0.pushed;
+    items = h.1.0.each;
+    item_count = h.1.0.few;
+    cells = h.1.1.1.chain;
+    cell_count = h.1.1.1.few;
+    relations = h.1.1.0.0.0;
+    summary = h.1.1.0.1;
+  },
+)
+
+state-again : (facts kept : ℕ) (role : Role) (region : Region) (s : AbsState) → IsStateIn facts kept role region s → AreStateParts facts kept role region (from_state s) × (to_state (from_state s) ≡ s)
+unfolding from_state
+state-again facts kept role region s h = (
+  (
+    record { core = h.core; stack = h.stack; test = compared-small s.relations.byte.test h.relations.byte.test },
+    (record { few = h.item_count; pushed = h.pushed; each = h.items }, (((h.relations, refl), h.summary), record { few = h.cell_count; chain = h.cells })),
+  ),
+  refl,
+)
+
+-- Exactly the states of version 4 are read where they are spelled.
+pub IsFormat-state : (facts kept : ℕ) (role : Role) (region : Region) → facts < 65536 → kept ≤ 16 → IsFormat (state_at facts kept role region) spelled.state (IsStateIn facts kept role region)
+unfolding state_at from_state spelled.state
+IsFormat-state facts kept role region small few =
+    IsFormat-onto to_state from_state _ spelled_state (AreStateParts facts kept role region) (IsStateIn facts kept role region) (state-there facts kept role region) (state-again facts kept role region)
+    (IsFormat-followed (core_at kept role) (λ k. both (items_at kept role k.0.stack_set) (both (told_at facts region (may_be_aside role k.0) k.1) (cells_at kept region))) spelled_core (λ k p. simple.counted spelled.val p.0 ++ (spelled.told p.1.0 ++ simple.counted spelled.cell p.1.1)) (IsCoreOf kept role)
+    (λ k p. AreItemsIn kept role k.0.stack_set p.0 × (IsToldIn facts region (may_be_aside role k.0) k.1 p.1.0 × AreCellsIn kept region p.1.1)) (IsFormat-core kept role few)
+    (λ k h. IsFormat-both (items_at kept role k.0.stack_set) _ (simple.counted spelled.val) _ (AreItemsIn kept role k.0.stack_set) _ (IsFormat-items kept role k.0.stack_set few)
+    (IsFormat-both (told_at facts region (may_be_aside role k.0) k.1) (cells_at kept region) spelled.told (simple.counted spelled.cell) (IsToldIn facts region (may_be_aside role k.0) k.1) (AreCellsIn kept region) (IsFormat-told facts region (may_be_aside role k.0) k.1 small h.test) (IsFormat-cells kept region few))))

@@ -1,0 +1,219 @@
+//! What the states behind an instruction say of the whole program.
+
+ghost use Rattle.std.specs.Prelude.{◌≡◌, None};
+ghost use Rattle.gb_domain.specs.declared.rules.Rules.TheVariants.{Extended};
+ghost use Rattle.gb_successors.specs.Behind as Behind;
+ghost use Rattle.gb_successors.specs.Behind.{summary_or};
+ghost use Rattle.gb_successors.specs.Summaries as Summaries;
+
+use crate::stacks::Stack;
+use crate::way::{Moved, move_state};
+use arrayvec::ArrayVec;
+use gb_domain::LowBits;
+use gb_domain::interval::low_bits_of;
+use gb_domain::low_bits::none;
+use gb_domain::pairs::Bounds;
+use gb_domain::relations::Relations;
+use gb_domain::summary::Summary;
+use gb_domain::types::{Abs, Cell, Core, Rules, Val};
+use gb_domain::values::interval_of;
+use gb_ops::machine::Kind;
+use gb_ops::op::{Op, Pair, Pointer};
+use gb_ops::registers::Registers;
+use gb_product::{AbsWrite, AddressSet, Program, Stored, Values, sp_bounds, summary_after};
+
+/// What is known of the low bits of an address that goes by a pointer: those of its low byte.
+fn pointed_bits(pointer: Option<Pointer>, registers: &Registers<Val>) -> LowBits
+    ensures { result ≡ Summaries.pointed_bits pointer registers.now }
+{
+    match pointer {
+        None => none(),
+        Some(pointer) => low_bits_of(interval_of(registers.get(pointer.low()))),
+    }
+}
+
+/// What an instruction stores, and where it may.
+#[tactic(auto, unfolding(crate::specs::Summaries::stored_by))]
+fn stored_by(op: Op, registers: &Registers<Val>, write: AbsWrite) -> Stored
+    ensures { result ≡ Summaries.stored_by op registers.now write }
+{
+    match write {
+        AbsWrite::Byte(span, val) => {
+            let addresses = AddressSet {
+                first: span.first,
+                last: span.last,
+                low: pointed_bits(op.pointer(), registers),
+            };
+            Stored::Byte(addresses, interval_of(val))
+        }
+        AbsWrite::Word(address, low, high) => {
+            Stored::Word(address, interval_of(low), interval_of(high))
+        }
+        AbsWrite::Nothing | AbsWrite::Push { .. } => Stored::Nothing,
+    }
+}
+
+/// Whether an instruction leaves SP where it is, and interrupts off.
+fn keeps_aside(op: Op) -> bool
+    ensures { result ≡ Summaries.keeps_aside op }
+{
+    match op {
+        Op::EnableInterrupts
+        | Op::LoadPair(Pair::Sp, _)
+        | Op::IncrementPair(Pair::Sp)
+        | Op::DecrementPair(Pair::Sp)
+        | Op::ReturnIf(_)
+        | Op::Return
+        | Op::ReturnFromInterrupt
+        | Op::Pop(_)
+        | Op::Push(_)
+        | Op::CallIf(_, _)
+        | Op::Call(_)
+        | Op::Restart(_)
+        | Op::AddSp(_)
+        | Op::LoadSpHl => false,
+        _ => true,
+    }
+}
+
+/// The same, but for where SP is put aside.
+fn without_aside(summary: &Summary) -> Summary
+    ensures { result ≡ record summary.now { aside = None } }
+{
+    let mut fills = ArrayVec::new();
+    if fills.try_extend_from_slice(summary.fills()).is_err() {
+        unreachable!();
+    }
+    Summary::of_parts(summary.level(), fills, summary.shadows(), None)
+}
+
+/// Where SP is put aside is said behind an instruction that leaves it there.
+fn aside_kept(op: Op, summary: &Summary) -> Summary
+    ensures { result ≡ Summaries.aside_kept op summary.now }
+{
+    if keeps_aside(op) {
+        summary.copied()
+    } else {
+        without_aside(summary)
+    }
+}
+
+/// What is said behind it, with the cells that are there then.
+#[tactic(auto, unfolding(crate::specs::Summaries::summary_by))]
+fn summary_with(
+    stack: &Stack,
+    program: &Program<'_>,
+    op: Op,
+    state: &Abs,
+    core: &Core,
+    relations: &Relations,
+    write: AbsWrite,
+    cells: &[Cell],
+) -> Summary
+    ensures { result ≡ Summaries.summary_by Extended stack.now program.now op state.now (record { core = core.now; relations = relations.now }) write cells.now }
+{
+    let values = Values {
+        registers: core.registers,
+        pairs: relations.pairs,
+    };
+    summary_after(
+        program.kind,
+        program.facts,
+        stack.region,
+        cells,
+        op,
+        sp_bounds(stack.setting, state),
+        &values,
+        &relations.byte,
+        stored_by(op, &core.registers, write),
+        &aside_kept(op, state.summary()),
+    )
+}
+
+/// What is said behind it, of which it is said what it moves.
+#[inline(never)]
+fn summary_moved(
+    stack: &Stack,
+    program: &Program<'_>,
+    op: Op,
+    state: &Abs,
+    core: &Core,
+    relations: &Relations,
+    write: AbsWrite,
+    moved: Option<Moved>,
+) -> Summary
+    ensures { result ≡ Summaries.summary_by Extended stack.now program.now op state.now (record { core = core.now; relations = relations.now }) write (Behind.moved_by moved write state.now).cells }
+{
+    match moved {
+        None => summary_with(
+            stack,
+            program,
+            op,
+            state,
+            core,
+            relations,
+            write,
+            state.cells(),
+        ),
+        Some(moved) => {
+            let mut after = state.copied();
+            move_state(moved, write, &mut after);
+            summary_with(
+                stack,
+                program,
+                op,
+                state,
+                core,
+                relations,
+                write,
+                after.cells(),
+            )
+        }
+    }
+}
+
+/// Whether a store tells nothing of the controller's registers.
+fn tells_nothing(rules: Rules, kind: Kind) -> bool
+    ensures { result ≡ Summaries.tells_nothing rules kind }
+{
+    match rules {
+        Rules::Simple => true,
+        Rules::Extended => matches!(kind, Kind::Rom),
+    }
+}
+
+/// Whether nothing was said, and nothing will be.
+#[inline(always)]
+#[tactic(auto, unfolding(crate::specs::Summaries::stays_silent))]
+fn stays_silent(rules: Rules, program: &Program<'_>, summary: &Summary) -> bool
+    ensures { result ≡ Summaries.stays_silent rules program.now summary.now }
+{
+    tells_nothing(rules, program.kind) && summary.is_silent()
+}
+
+/// What is said behind an instruction that is taken, where it isn't what was said before.
+#[inline(always)]
+#[tactic(auto, using(crate::proofs::SilentLaws::silent_behind), unfolding(crate::specs::Summaries::summary_by))]
+pub(crate) fn summary_behind(
+    rules: Rules,
+    stack: &Stack,
+    program: &Program<'_>,
+    op: Op,
+    state: &Abs,
+    core: &Core,
+    relations: &Relations,
+    write: AbsWrite,
+    moved: Option<Moved>,
+) -> Option<Summary>
+    ensures { summary_or result state.now.summary ≡ Summaries.summary_by rules stack.now program.now op state.now (record { core = core.now; relations = relations.now }) write (Behind.moved_by moved write state.now).cells }
+{
+    if stays_silent(rules, program, state.summary()) {
+        return None;
+    }
+    match rules {
+        Rules::Simple => Some(Summary::none()),
+        Rules::Extended => Some(summary_moved(
+            stack, program, op, state, core, relations, write, moved,
+        )),
+    }
+}

@@ -1,0 +1,11 @@
+pub mod Below
+pub mod MeaningLaws
+pub mod KnownLaws
+pub mod CoveringLaws
+pub mod StoreLaws
+pub mod MoveLaws
+pub mod TransferLaws
+pub mod ReducingLaws
+pub mod ElsewhereLaws
+pub mod InstructionLaws
+pub mod ReturningLaws

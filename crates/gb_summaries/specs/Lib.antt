@@ -1,0 +1,11 @@
+pub mod Below
+pub mod Meaning
+pub mod Known
+pub mod Covering
+pub mod Stores
+pub mod Moves
+pub mod Transfer
+pub mod Reducing
+pub mod Elsewhere
+pub mod Instruction
+pub mod Returning
