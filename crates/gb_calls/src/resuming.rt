@@ -15,8 +15,8 @@ use gb_domain::summary::Summary;
 use gb_domain::types::{Abs, Cell, Core, Ctl, KeptBanks, Origin, Range, Rules, Val};
 use gb_ops::registers::Registers;
 use gb_product::{
-    GivenBack, Kept, Program, Said, Values, is_own, only_of_a, reduce, returned, summary_returned,
-    without_origin,
+    GivenBack, Kept, KnownRam, Program, Values, is_own, only_of_a, reduce, returned,
+    summary_returned, without_origin,
 };
 
 /// The most items that a state holds by any rules.
@@ -233,11 +233,11 @@ fn said_back(
         registers: state.core().registers,
         pairs: state.relations().pairs,
     };
-    let caller = Said {
+    let caller = KnownRam {
         cells: state.cells(),
         summary: state.summary(),
     };
-    let last = Said {
+    let last = KnownRam {
         cells: exit.cells(),
         summary: exit.summary(),
     };

@@ -12,7 +12,7 @@ use gb_ops::op::{Indirect, Op, Operand, Pair, Pointer, Register};
 use gb_ops::registers::Registers;
 use gb_ram_bounds::AddressSet;
 use gb_relations::Values;
-use gb_summaries::instruction::{Stored, summary_after};
+use gb_summaries::instruction::{InstructionStore, summary_after};
 use std::process::Abort;
 
 /// The stack.
@@ -82,9 +82,9 @@ fn before() -> Summary {
     Summary::of_parts(1, fills, BankShadows::default(), None)
 }
 
-fn stored(l: (u8, u8), byte: Option<u8>) -> Stored {
+fn stored(l: (u8, u8), byte: Option<u8>) -> InstructionStore {
     let Some(byte) = byte else {
-        return Stored::Nothing;
+        return InstructionStore::Nothing;
     };
     let addresses = AddressSet {
         first: 0xC000 + u16::from(l.0),
@@ -96,7 +96,7 @@ fn stored(l: (u8, u8), byte: Option<u8>) -> Stored {
         hi: byte,
         count: 0,
     };
-    Stored::Byte(addresses, value)
+    InstructionStore::Byte(addresses, value)
 }
 
 fn is_left(summary: &Summary, level: u16, left: Left) -> bool {

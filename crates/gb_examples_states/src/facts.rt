@@ -12,7 +12,7 @@ use gb_samples::states::{ANY, EITHER, entered, from_to, with_carry};
 
 /// A fact of a state. Of what no fact speaks nothing is known.
 #[derive(Clone, Copy)]
-pub enum Fact {
+pub enum StateFact {
     /// A register is in these bounds.
     Byte(Register, u8, u8),
     /// These registers hold one byte.
@@ -51,7 +51,7 @@ fn facts_of(pair: WordPair, pairs: &mut Pairs) -> &mut PairFacts {
 
 impl KnownFact {
     /// What these facts say.
-    pub fn new(facts: &[Fact]) -> KnownFact {
+    pub fn new(facts: &[StateFact]) -> KnownFact {
         let mut known = KnownFact {
             registers: Registers {
                 a: ANY,
@@ -71,24 +71,24 @@ impl KnownFact {
         known
     }
 
-    fn learn(&mut self, fact: Fact) {
+    fn learn(&mut self, fact: StateFact) {
         let relations = &mut self.relations;
         match fact {
-            Fact::Byte(register, lo, hi) => self.registers.set(register, from_to(lo, hi)),
-            Fact::Same(registers) => {
+            StateFact::Byte(register, lo, hi) => self.registers.set(register, from_to(lo, hi)),
+            StateFact::Same(registers) => {
                 for register in registers {
                     relations.byte.registers.set(*register, true);
                 }
             }
-            Fact::At(address) => relations.byte.address = Some(address),
-            Fact::Memory(lo, hi) => self.memory = from_to(lo, hi),
-            Fact::Compared(value) => relations.byte.test = Some(Test::Compare(value)),
-            Fact::Bits(mask) => relations.byte.test = Some(Test::Bits(mask)),
-            Fact::Zero(pair) => relations.zero = Some(pair),
-            Fact::Word(pair, first, last) => {
+            StateFact::At(address) => relations.byte.address = Some(address),
+            StateFact::Memory(lo, hi) => self.memory = from_to(lo, hi),
+            StateFact::Compared(value) => relations.byte.test = Some(Test::Compare(value)),
+            StateFact::Bits(mask) => relations.byte.test = Some(Test::Bits(mask)),
+            StateFact::Zero(pair) => relations.zero = Some(pair),
+            StateFact::Word(pair, first, last) => {
                 facts_of(pair, &mut relations.pairs).bounds = Bounds { first, last };
             }
-            Fact::Link(pair, factor, other, sum) => {
+            StateFact::Link(pair, factor, other, sum) => {
                 facts_of(pair, &mut relations.pairs).link = Some(Link { other, factor, sum });
             }
         }

@@ -1,8 +1,8 @@
 //! What follows from what is known of several parts of a state together: sides of a branch, values that pairs and links leave, and
 //! which states stand for others. An example is a list of steps, which one function plays.
 
-use crate::facts::Fact::{self, At, Bits, Byte, Compared, Link, Memory, Same, Word, Zero};
 use crate::facts::KnownFact;
+use crate::facts::StateFact::{self, At, Bits, Byte, Compared, Link, Memory, Same, Word, Zero};
 use gb_copies::sides::{PlaceContents, narrowed};
 use gb_domain::pairs::WordPair::{Bc, De, Hl};
 use gb_domain::pairs::{ANY_BOUNDS, Bounds, Other};
@@ -22,7 +22,7 @@ use gb_samples::states::ANY;
 use std::process::Abort;
 
 /// What is known.
-type Facts = &'static [Fact];
+type Facts = &'static [StateFact];
 
 #[derive(Clone, Copy)]
 pub enum RelatedStep {

@@ -1,8 +1,8 @@
 //! What instructions leave of what is known of several parts of a state together, by the rules of version 3: an example is a list
 //! of steps, which one function plays.
 
-use crate::facts::Fact::{self, At, Bits, Byte, Compared, Link, Same, Word, Zero};
 use crate::facts::KnownFact;
+use crate::facts::StateFact::{self, At, Bits, Byte, Compared, Link, Same, Word, Zero};
 use gb_domain::pairs::WordPair::{Bc, De, Hl};
 use gb_domain::pairs::{ANY_BOUNDS, Bounds, Other};
 use gb_domain::types::{Rules, Val};
@@ -15,7 +15,7 @@ use gb_samples::states::{ANY, from_to};
 use std::process::Abort;
 
 /// What is known.
-type Facts = &'static [Fact];
+type Facts = &'static [StateFact];
 
 /// An instruction, what is known before it, and what is then known together.
 #[derive(Clone, Copy)]

@@ -1,6 +1,6 @@
 //! A part of a state that another state doesn't cover.
 
-use crate::said::Said;
+use crate::said::ShownSummary;
 use crate::together::fmt_relations;
 use gb_ops::op::Register;
 use gb_verify::{ImeSet, KeptBanks, May, Origin, Relations, Val};
@@ -67,7 +67,7 @@ pub enum KnownPart {
     Set(bool),
     Test(Option<u8>),
     Together(Relations),
-    Said(Said),
+    Summary(ShownSummary),
 }
 
 /// A part of a state that another doesn't cover. What is left there is the first state's, what is claimed the other's.
@@ -251,7 +251,7 @@ impl fmt::Display for KnownPart {
             KnownPart::Test(None) => write!(f, "none"),
             KnownPart::Test(Some(value)) => write!(f, "${value:02X}"),
             KnownPart::Together(relations) => fmt_relations(&relations, f),
-            KnownPart::Said(said) => write!(f, "{said}"),
+            KnownPart::Summary(said) => write!(f, "{said}"),
         }
     }
 }

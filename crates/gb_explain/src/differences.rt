@@ -8,7 +8,7 @@ ghost use Rattle.gb_verify.specs.Below.gb_product.Below.gb_summaries.Covering.{c
 ghost use Rattle.gb_explain.specs.Noted.{IsNoted};
 
 use crate::difference::{KnownPart, StateDifference, StatePart};
-use crate::said::Said;
+use crate::said::ShownSummary;
 use crate::together::{compared, is_test_alone};
 use gb_ops::op::Register;
 use gb_ops::registers::Registers;
@@ -232,8 +232,8 @@ impl Differences {
         ensures { IsNoted self.old.count self.new.count (covers_summary program.now (values_of states.now.core.now.registers states.now.relations.now.pairs) states.now.core.now.ctl states.now.lists.now.cells states.now.summary.now t.now.cells t.now.summary) }
     {
         let known = (
-            KnownPart::Said(Said::of(states.summary)),
-            KnownPart::Said(Said::of(t.summary())),
+            KnownPart::Summary(ShownSummary::of(states.summary)),
+            KnownPart::Summary(ShownSummary::of(t.summary())),
         );
         let is_covered = covers_said(program, states, t.cells(), t.summary());
         self.note(is_covered, StatePart::Program, known);

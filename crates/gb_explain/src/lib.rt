@@ -34,7 +34,7 @@ pub use gap::{
     After, Amount, Claim, Gap, GapKind, Gaps, GoesOn, TooDeep, Uncallable, Uncovered, Unreturnable,
 };
 pub use refusal::explain;
-pub use said::Said;
+pub use said::ShownSummary;
 
 // What lies below, for the crates above.
 pub use gb_spelling::{

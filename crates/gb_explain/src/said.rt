@@ -9,17 +9,17 @@ const BETWEEN: &str = "; ";
 
 /// How many facts hold, how many fills there are, which places shadow the bank registers, and where SP is put aside.
 #[derive(Clone, Copy)]
-pub struct Said {
+pub struct ShownSummary {
     level: u16,
     fills: usize,
     shadows: BankShadows,
     aside: Option<Bounds>,
 }
 
-impl Said {
+impl ShownSummary {
     /// What this says.
-    pub(crate) fn of(summary: &Summary) -> Said {
-        Said {
+    pub(crate) fn of(summary: &Summary) -> ShownSummary {
+        ShownSummary {
             level: summary.level(),
             fills: summary.fills().len(),
             shadows: summary.shadows(),
@@ -72,7 +72,7 @@ fn fmt_count<W: fmt::Write>(
     Ok(BETWEEN)
 }
 
-impl fmt::Display for Said {
+impl fmt::Display for ShownSummary {
     fn fmt<W: fmt::Write>(&self, f: &mut fmt::Formatter<W>) -> fmt::Result {
         let before = fmt_count("", "facts", usize::from(self.level), f)?;
         let before = fmt_count(before, "fills", self.fills, f)?;

@@ -3,9 +3,9 @@
 use crate::device::{Device, Pace, StreamEnding};
 use crate::disk::Disk;
 use crate::rows::{
-    Content, ExpectedOutput, ExpectedPage, FilePlace, Given, Program, Scenario, WrittenFiles,
+    Content, ExpectedOutput, ExpectedPage, FilePlace, Given, Scenario, Tool, WrittenFiles,
 };
-use crate::said::Said;
+use crate::said::OutputBytes;
 use crate::stage::{Entry, Names, Stage};
 use std::alloc::Global;
 use std::io::ErrorKind;
@@ -96,11 +96,11 @@ impl<'a> Contents<'a> {
     }
 
     /// What is to be written.
-    fn said(&self, written: ExpectedOutput) -> Said<'a> {
+    fn said(&self, written: ExpectedOutput) -> OutputBytes<'a> {
         match written {
-            ExpectedOutput::Text(text) => Said::Bytes(text.as_bytes()),
-            ExpectedOutput::Screen(ending) => Said::Screen(ending.as_bytes()),
-            ExpectedOutput::Upgraded => Said::Bytes(self.upgraded),
+            ExpectedOutput::Text(text) => OutputBytes::Bytes(text.as_bytes()),
+            ExpectedOutput::Screen(ending) => OutputBytes::Screen(ending.as_bytes()),
+            ExpectedOutput::Upgraded => OutputBytes::Bytes(self.upgraded),
         }
     }
 
@@ -128,9 +128,9 @@ impl<'a> Contents<'a> {
 
 /// Whether a program ends with this status on a stage, and does there what it has to.
 fn is_right(row: &Scenario, stage: &Stage<'_>, status: u8) -> bool {
-    let ended = match row.program {
-        Program::Gulmyrek => gb_program::run(stage, row.is_shown),
-        Program::Certify => gb_certify::run(stage, row.is_shown),
+    let ended = match row.tool {
+        Tool::Gulmyrek => gb_program::run(stage, row.is_shown),
+        Tool::Certify => gb_certify::run(stage, row.is_shown),
     };
     ended == ExitCode::from(status) && stage.is_as_wanted()
 }

@@ -3,9 +3,9 @@
 use crate::device::{Pace, StreamEnding};
 use std::io::ErrorKind;
 
-/// Which program is played.
+/// Which of the two programs is played.
 #[derive(Clone, Copy)]
-pub enum Program {
+pub enum Tool {
     Gulmyrek,
     Certify,
 }
@@ -61,7 +61,7 @@ pub enum ExpectedOutput {
 #[derive(Clone, Copy)]
 pub struct Scenario {
     pub about: &'static str,
-    pub program: Program,
+    pub tool: Tool,
     pub words: &'static [&'static [u8]],
     pub game: Given,
     pub cert: Given,
@@ -190,7 +190,7 @@ procedure 0: 0 bytes of stack, does not return, writes no RAM\n    \
 /// Both files are read, and the verdict is written.
 pub(crate) const VERIFY: Scenario = Scenario {
     about: "verify",
-    program: Program::Gulmyrek,
+    tool: Tool::Gulmyrek,
     words: &[b"gulmyrek", b"verify", b"game.gb", b"game.cert"],
     game: CARTRIDGE,
     cert: CERTIFICATE,
@@ -282,7 +282,7 @@ pub(crate) const VERIFY_INPUT: Scenario = Scenario {
 /// No certificate can be made of the cartridge, and none is written.
 pub(crate) const CERTIFY: Scenario = Scenario {
     about: "certify: an undefined opcode",
-    program: Program::Certify,
+    tool: Tool::Certify,
     words: &[b"certify", b"game.gb", b"game.cert"],
     game: UNDEFINED,
     cert: MISSING,
@@ -317,7 +317,7 @@ pub(crate) const NO_LINES: Scenario = Scenario {
 
 pub(crate) const LIST: Scenario = Scenario {
     about: "certify --list",
-    program: Program::Certify,
+    tool: Tool::Certify,
     words: &[b"certify", b"--list", b"game.gb", b"game.cert"],
     written: LISTED,
     ..VERIFY
@@ -326,7 +326,7 @@ pub(crate) const LIST: Scenario = Scenario {
 /// A page can't be written.
 pub(crate) const REPORT: Scenario = Scenario {
     about: "certify --report: a page that may not be written",
-    program: Program::Certify,
+    tool: Tool::Certify,
     words: &[
         b"certify",
         b"--report",

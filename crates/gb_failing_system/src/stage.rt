@@ -4,7 +4,7 @@ ghost use Rattle.std.specs.Prelude.{◌≤◌, length};
 
 use crate::device::{Device, Opened};
 use crate::disk::Disk;
-use crate::said::Said;
+use crate::said::OutputBytes;
 use std::alloc::{Allocator, Global};
 use std::cell::Cell;
 use std::env::FillError;
@@ -53,7 +53,7 @@ pub struct Stage<'a> {
     words: &'a [&'a [u8]],
     names: Names<'a>,
     /// What is to be written.
-    said: Said<'a>,
+    said: OutputBytes<'a>,
     /// The bytes that standard output takes in all.
     room: usize,
     /// The bytes that it took.
@@ -76,7 +76,7 @@ impl<'a> Stage<'a> {
         alloc: Global,
         words: &'a [&'a [u8]],
         names: Names<'a>,
-        said: Said<'a>,
+        said: OutputBytes<'a>,
         told: &'a str,
     ) -> Stage<'a> {
         Stage {

@@ -31,8 +31,8 @@ pub use gb_abs_effects::{
     covers_controller, covers_ime, covers_origin, end, is_own, known, may_enable, may_have_bit,
     own, pass, push, resize, settle, single, sp_bounds, sp_halves, with_cell, without_origin,
 };
-pub use gb_summaries::instruction::{Stored, summary_after};
-pub use gb_summaries::returning::{GivenBack, Said, summary_returned};
+pub use gb_summaries::instruction::{InstructionStore, summary_after};
+pub use gb_summaries::returning::{GivenBack, KnownRam, summary_returned};
 pub use gb_summaries::{
     AddressSet, Kept, Values, known_carry, only_of_a, pointer_bounds, reduce, relations_after,
     returned,

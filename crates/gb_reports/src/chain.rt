@@ -36,7 +36,7 @@ pub struct CallChain {
 
 /// How a node is reached from the one before it.
 #[derive(Clone, Copy)]
-enum Move {
+enum Approach {
     /// By a call.
     Call,
     /// By an interrupt.
@@ -77,29 +77,29 @@ pub(crate) fn is_return(op: Option<Op>) -> bool {
 }
 
 /// How a node that begins no procedure is reached.
-fn move_within(run: &Run<'_>, before: &RunNode, address: u16) -> Move {
+fn move_within(run: &Run<'_>, before: &RunNode, address: u16) -> Approach {
     let op = op_of(run, before);
     if is_call_of(op, address) {
-        Move::Call
+        Approach::Call
     } else if !is_far(before.key.address, address) {
-        Move::On
+        Approach::On
     } else if is_return(op) {
-        Move::Return
+        Approach::Return
     } else if interrupt_at(address).is_some() {
-        Move::Dispatch
+        Approach::Dispatch
     } else {
-        Move::On
+        Approach::On
     }
 }
 
-fn move_of(run: &Run<'_>, before: &RunNode, node: &RunNode) -> Move {
+fn move_of(run: &Run<'_>, before: &RunNode, node: &RunNode) -> Approach {
     if !node.key.is_entry {
         return move_within(run, before, node.key.address);
     }
     if is_handler(run, node.key.procedure) {
-        Move::Dispatch
+        Approach::Dispatch
     } else {
-        Move::Call
+        Approach::Call
     }
 }
 
@@ -188,22 +188,21 @@ impl<'a, 'r> Gathering<'a, 'r> {
     /// Goes back over a node; something where the chain begins with it.
     fn go_back(&mut self, before: &RunNode, node: &RunNode) -> Result<Option<Root>, AllocError> {
         match move_of(self.run, before, node) {
-            Move::On => Ok(None),
-            Move::Return => {
+            Approach::On => Ok(None),
+            Approach::Return => {
                 self.returns.push(Returned {
                     address: node.key.address,
                     bytes: node.state.items().len(),
                 })?;
                 Ok(None)
             }
-            Move::Call => {
+            Approach::Call => {
                 self.add(before, node)?;
                 Ok(None)
             }
-            Move::Dispatch if !node.key.is_entry && self.has_ended(before, before.key.address) => {
-                Ok(None)
-            }
-            Move::Dispatch => Ok(Some(Root::Interrupt {
+            Approach::Dispatch
+                if !node.key.is_entry && self.has_ended(before, before.key.address) => { Ok(None) }
+            Approach::Dispatch => Ok(Some(Root::Interrupt {
                 vector: node.key.address,
             })),
         }

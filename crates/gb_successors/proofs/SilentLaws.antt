@@ -35,8 +35,8 @@ use Rattle.gb_product.specs.Below.gb_summaries.Below.gb_ram_bounds.declared.addr
 use Rattle.gb_product.specs.Below.gb_relations.Bytes.{at_indirect}
 use Rattle.gb_product.specs.Below.gb_relations.Places.{is_ram, stored_place, loaded_place}
 use Rattle.gb_product.specs.Below.gb_relations.Written.{counted, written}
-use Rattle.gb_product.specs.Below.gb_summaries.declared.instruction.Stored.{Stored}
-use Rattle.gb_product.specs.Below.gb_summaries.declared.instruction.Stored.TheVariants as stored
+use Rattle.gb_product.specs.Below.gb_summaries.declared.instruction.InstructionStore.{InstructionStore}
+use Rattle.gb_product.specs.Below.gb_summaries.declared.instruction.InstructionStore.TheVariants as stored
 use Rattle.gb_product.specs.Below.gb_summaries.declared.stores.Store.{Store}
 use Rattle.gb_product.specs.Below.gb_summaries.Instruction.{one, byte_stored, after_write, summary_after}
 use Rattle.gb_product.specs.Below.gb_summaries.Moves.{fills_moved}
@@ -204,7 +204,7 @@ silent_byte program region cells o b x v e =
     choose false false f g = refl
 
 silent_write :
-    (program : Program) (region : Region) (cells : List Cell) (o : Op) (b : OneByte) (w : Stored)
+    (program : Program) (region : Region) (cells : List Cell) (o : Op) (b : OneByte) (w : InstructionStore)
     → program.kind ≡ kind.Rom → after_write program region cells o b w no_summary ≡ no_summary
 silent_write program region cells o b stored.Nothing e = refl
 silent_write program region cells o b (stored.Byte x v) e = silent_byte program region cells o b x v e
@@ -217,7 +217,7 @@ unfolding after_registers fills_moved
 silent_registers region o sp v = ap (λ s. record { level = 0; fills = []; shadows = record { first = s; second = s }; aside = None }) (none_after region o v)
 
 silent_after :
-    (program : Program) (region : Region) (cells : List Cell) (o : Op) (sp : Bounds) (v : Values) (b : OneByte) (w : Stored)
+    (program : Program) (region : Region) (cells : List Cell) (o : Op) (sp : Bounds) (v : Values) (b : OneByte) (w : InstructionStore)
     → program.kind ≡ kind.Rom → summary_after program region cells o sp v b w no_summary ≡ no_summary
 unfolding summary_after
 silent_after program region cells o sp v b w e =

@@ -43,7 +43,7 @@ use Rattle.gb_product.specs.Below.gb_copies.Windows.{is_in_window}
 use Rattle.gb_product.specs.Below.gb_pairs.Meaning.{AreBytes}
 use Rattle.gb_product.specs.Below.gb_summaries.Below.gb_ram_bounds.Addresses.{is_in}
 use Rattle.gb_product.specs.Below.gb_relations.Places.{is_free}
-use Rattle.gb_product.specs.Below.gb_summaries.declared.instruction.Stored.TheVariants as stored_as
+use Rattle.gb_product.specs.Below.gb_summaries.declared.instruction.InstructionStore.TheVariants as stored_as
 use Rattle.gb_product.specs.Below.gb_summaries.Instruction.{banks_after, StoresByte, StoresWord, Stores}
 use Rattle.gb_product.specs.Below.gb_summaries.Stores.{ShareWindows}
 use Rattle.gb_product.proofs.Below.gb_summaries_laws.KnownLaws.{In-interval}

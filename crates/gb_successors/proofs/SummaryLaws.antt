@@ -32,7 +32,7 @@ use Rattle.gb_product.specs.Below.gb_copies.declared.windows.BankWindow.TheVaria
 use Rattle.gb_product.specs.Below.gb_copies.ShadowMeaning.{AreShadows}
 use Rattle.gb_product.specs.Below.gb_summaries.Below.gb_ram_bounds.Cells.{cell_at, is_there, has_cell}
 use Rattle.gb_product.specs.Below.gb_summaries.Below.gb_ram_bounds.Meaning.{HasCellsOf}
-use Rattle.gb_product.specs.Below.gb_summaries.declared.instruction.Stored.{Stored}
+use Rattle.gb_product.specs.Below.gb_summaries.declared.instruction.InstructionStore.{InstructionStore}
 use Rattle.gb_product.specs.Below.gb_summaries.Elsewhere.{IsFree, IsLeft}
 use Rattle.gb_product.specs.Below.gb_summaries.Instruction.{summary_after, Begins, Stores, IsSoundInstruction}
 use Rattle.gb_product.specs.Below.gb_summaries.Meaning.{HoldSummary, IsAside}
@@ -254,7 +254,7 @@ abbrev pub said_at : Situation → SummaryParts
 said_at c = summary_behind c.stack c.entry.program c.row.op c.state c.product (parts_at c)
 
 -- what it stores
-abbrev stored_in_turn : Situation → Stored
+abbrev stored_in_turn : Situation → InstructionStore
 stored_in_turn c = stored_by c.row.op c.product.core.registers (effect_at c).write
 
 -- what was said before it

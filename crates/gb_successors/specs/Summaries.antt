@@ -19,8 +19,8 @@ use Rattle.gb_domain.specs.Silent.{is_silent}
 use Rattle.gb_domain.specs.Summaries.{SummaryParts, Program, no_summary}
 use Rattle.gb_domain.specs.Types.{AbsState}
 use Rattle.gb_domain.specs.Values.{interval_of}
-use Rattle.gb_product.specs.Below.gb_summaries.declared.instruction.Stored.{Stored}
-use Rattle.gb_product.specs.Below.gb_summaries.declared.instruction.Stored.TheVariants as stored
+use Rattle.gb_product.specs.Below.gb_summaries.declared.instruction.InstructionStore.{InstructionStore}
+use Rattle.gb_product.specs.Below.gb_summaries.declared.instruction.InstructionStore.TheVariants as stored
 use Rattle.gb_product.specs.Below.gb_summaries.Instruction.{summary_after}
 use Rattle.gb_product.specs.Below.gb_abs.Located.{sp_bounds}
 use Rattle.gb_product.specs.Below.gb_abs_effects.Targets.{moves_sp}
@@ -38,7 +38,7 @@ pointed_bits None registers = no_low_bits
 pointed_bits (Some pointer) registers = low_bits_of (interval_of (get (low_register pointer) registers))
 
 -- what it stores, and where it may; the registers are those before it
-unfoldable pub stored_by : Op → Registers Val → AbsWrite → Stored
+unfoldable pub stored_by : Op → Registers Val → AbsWrite → InstructionStore
 stored_by o registers (write.Byte span v) =
     stored.Byte (record { first = span.first; last = span.last; low = pointed_bits (pointer_of o) registers }) (interval_of v)
 stored_by o registers (write.Word a low high) = stored.Word a (interval_of low) (interval_of high)

@@ -20,7 +20,9 @@ use gb_domain::values::interval_of;
 use gb_ops::machine::Kind;
 use gb_ops::op::{Op, Pair, Pointer};
 use gb_ops::registers::Registers;
-use gb_product::{AbsWrite, AddressSet, Program, Stored, Values, sp_bounds, summary_after};
+use gb_product::{
+    AbsWrite, AddressSet, InstructionStore, Program, Values, sp_bounds, summary_after,
+};
 
 /// What is known of the low bits of an address that goes by a pointer: those of its low byte.
 fn pointed_bits(pointer: Option<Pointer>, registers: &Registers<Val>) -> LowBits
@@ -34,7 +36,7 @@ fn pointed_bits(pointer: Option<Pointer>, registers: &Registers<Val>) -> LowBits
 
 /// What an instruction stores, and where it may.
 #[tactic(auto, unfolding(crate::specs::Summaries::stored_by))]
-fn stored_by(op: Op, registers: &Registers<Val>, write: AbsWrite) -> Stored
+fn stored_by(op: Op, registers: &Registers<Val>, write: AbsWrite) -> InstructionStore
     ensures { result ≡ Summaries.stored_by op registers.now write }
 {
     match write {
@@ -44,12 +46,12 @@ fn stored_by(op: Op, registers: &Registers<Val>, write: AbsWrite) -> Stored
                 last: span.last,
                 low: pointed_bits(op.pointer(), registers),
             };
-            Stored::Byte(addresses, interval_of(val))
+            InstructionStore::Byte(addresses, interval_of(val))
         }
         AbsWrite::Word(address, low, high) => {
-            Stored::Word(address, interval_of(low), interval_of(high))
+            InstructionStore::Word(address, interval_of(low), interval_of(high))
         }
-        AbsWrite::Nothing | AbsWrite::Push { .. } => Stored::Nothing,
+        AbsWrite::Nothing | AbsWrite::Push { .. } => InstructionStore::Nothing,
     }
 }
 

@@ -37,8 +37,8 @@ use Rattle.gb_ram_bounds.specs.declared.addresses.AddressSet.{AddressSet}
 use Rattle.gb_ram_bounds.specs.declared.pointers.Pointers.{Pointers}
 use Rattle.gb_ram_bounds.specs.Fills.{at_pointer}
 use Rattle.gb_ram_bounds.specs.Meaning.{HoldFacts, HoldFills, GoesThrough, HasCellsOf}
-use Rattle.gb_summaries.specs.declared.instruction.Stored.{Stored}
-use Rattle.gb_summaries.specs.declared.instruction.Stored.TheVariants.{Nothing, Byte, Word}
+use Rattle.gb_summaries.specs.declared.instruction.InstructionStore.{InstructionStore}
+use Rattle.gb_summaries.specs.declared.instruction.InstructionStore.TheVariants.{Nothing, Byte, Word}
 use Rattle.gb_summaries.specs.declared.stores.Store.{Store}
 use Rattle.gb_summaries.specs.Elsewhere.{AreFreeFacts, IsFree, IsLeft}
 use Rattle.gb_summaries.specs.Meaning.{HoldSummary, IsAside, pointers_of}
@@ -256,7 +256,7 @@ HoldSummary-word program region o b s before cells p memory after banks r a low 
     i.second (g ((c + 1) % 65536)) (f (n / 256))
 
 HoldSummary-write :
-    (program : Program) (region : Region) (o : Op) (b : OneByte) (s : SummaryParts) (before cells : List Cell) (p : Processor) (memory after : ℕ → ℕ) (banks r : Banks) (l h : ℕ) (w : Stored) (t : Write)
+    (program : Program) (region : Region) (o : Op) (b : OneByte) (s : SummaryParts) (before cells : List Cell) (p : Processor) (memory after : ℕ → ℕ) (banks r : Banks) (l h : ℕ) (w : InstructionStore) (t : Write)
     → Moment program region b s before cells p memory banks → (effect_of o p l h).write ≡ t → Stores program.kind region w t memory after banks r
     → HoldSummary program cells (after_write program region cells o b w s) p after r
 HoldSummary-write program region o b s before cells p memory after banks r l h Nothing write.Nothing m e i =
@@ -280,7 +280,7 @@ HoldSummary-write program region o b s before cells p memory after banks r l h (
 HoldSummary-write program region o b s before cells p memory after banks r l h (Word a low high) (write.Byte c n) m e i = absurd i
 HoldSummary-write program region o b s before cells p memory after banks r l h (Word a low high) (write.Push c n) m e i = absurd i
 
-same_aside : (program : Program) (region : Region) (cells : List Cell) (o : Op) (b : OneByte) (w : Stored) (s : SummaryParts) → (after_write program region cells o b w s).aside ≡ s.aside
+same_aside : (program : Program) (region : Region) (cells : List Cell) (o : Op) (b : OneByte) (w : InstructionStore) (s : SummaryParts) → (after_write program region cells o b w s).aside ≡ s.aside
 same_aside program region cells o b Nothing s = refl
 same_aside program region cells o b (Byte x v) s = same_aside-byte program region cells o b x v s
 same_aside program region cells o b (Word a low high) s =
@@ -288,7 +288,7 @@ same_aside program region cells o b (Word a low high) s =
     ∙ same_aside-byte program region cells o no_byte (one a) low s
 
 free-write :
-    (program : Program) (region : Region) (cells : List Cell) (o : Op) (b : OneByte) (w : Stored) (s : SummaryParts)
+    (program : Program) (region : Region) (cells : List Cell) (o : Op) (b : OneByte) (w : InstructionStore) (s : SummaryParts)
     → IsByteFree region b.address → IsFree region s → IsFree region (after_write program region cells o b w s)
 free-write program region cells o b Nothing s f h = h
 free-write program region cells o b (Byte x v) s f h = free-byte program region cells o b x v s f h
@@ -297,11 +297,11 @@ free-write program region cells o b (Word a low high) s f h =
     (free-byte program region cells o no_byte (one a) low s tt h)
 
 same_memory :
-    (k : Kind) (region : Region) (w : Stored) (t : Write) (memory after : ℕ → ℕ) (banks r : Banks)
+    (k : Kind) (region : Region) (w : InstructionStore) (t : Write) (memory after : ℕ → ℕ) (banks r : Banks)
     → t ≡ write.Nothing → Stores k region w t memory after banks r → (a : ℕ) → after a ≡ memory a
 same_memory k region w t memory after banks r e i = nothing w (subst (λ u. Stores k region w u memory after banks r) e i)
   where
-    nothing : (u : Stored) → Stores k region u write.Nothing memory after banks r → (a : ℕ) → after a ≡ memory a
+    nothing : (u : InstructionStore) → Stores k region u write.Nothing memory after banks r → (a : ℕ) → after a ≡ memory a
     nothing Nothing j a = j.0 a
     nothing (Byte x v) j a = absurd j
     nothing (Word c low high) j a = absurd j
@@ -314,7 +314,7 @@ Reads-same (read.Word a) memory after l same h = tt
 -- ---- all of it
 
 HoldSummary-instruction :
-    (program : Program) (region : Region) (cells : List Cell) (o : Op) (sp : Bounds) (v : Values) (b : OneByte) (w : Stored) (s : SummaryParts) (before : List Cell) (p : Processor) (memory after : ℕ → ℕ) (banks r : Banks) (l h : ℕ)
+    (program : Program) (region : Region) (cells : List Cell) (o : Op) (sp : Bounds) (v : Values) (b : OneByte) (w : InstructionStore) (s : SummaryParts) (before : List Cell) (p : Processor) (memory after : ℕ → ℕ) (banks r : Banks) (l h : ℕ)
     → HasCellsOf before cells → Begins program region o sp v b s p memory l h
     → Stores program.kind region w (effect_of o p l h).write memory after banks r → IsAside s.aside (effect_of o p l h).processor
     → HoldSummary program before s p memory banks
@@ -334,7 +334,7 @@ HoldSummary-instruction program region cells o sp v b w s before p memory after 
     (record { byte = g.byte; byte_free = g.byte_free; facts = g.facts; free = g.free; more = c; summary = m }) refl i)
 
 IsSoundInstruction-after :
-    (program : Program) (region : Region) (cells : List Cell) (o : Op) (sp : Bounds) (v : Values) (b : OneByte) (w : Stored) (s : SummaryParts)
+    (program : Program) (region : Region) (cells : List Cell) (o : Op) (sp : Bounds) (v : Values) (b : OneByte) (w : InstructionStore) (s : SummaryParts)
     → IsSoundInstruction program region cells o sp v b w s (summary_after program region cells o sp v b w s)
 unfolding summary_after
 IsSoundInstruction-after program region cells o sp v b w s =
@@ -344,7 +344,7 @@ IsSoundInstruction-after program region cells o sp v b w s =
     }
 
 pub summary_after_sound :
-    (program : Program) (region : Region) (cells : List Cell) (o : Op) (sp : Bounds) (v : Values) (b : OneByte) (w : Stored) (s t : SummaryParts)
+    (program : Program) (region : Region) (cells : List Cell) (o : Op) (sp : Bounds) (v : Values) (b : OneByte) (w : InstructionStore) (s t : SummaryParts)
     → t ≡ summary_after program region cells o sp v b w s → IsSoundInstruction program region cells o sp v b w s t
 summary_after_sound program region cells o sp v b w s t e =
     subst (λ u. IsSoundInstruction program region cells o sp v b w s u) (sym e) (IsSoundInstruction-after program region cells o sp v b w s)

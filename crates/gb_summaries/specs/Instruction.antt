@@ -26,8 +26,8 @@ use Rattle.gb_relations.specs.Sound.{IsByteFree, IsKeptBut, Reads}
 use Rattle.gb_ram_bounds.specs.declared.addresses.AddressSet.{AddressSet}
 use Rattle.gb_ram_bounds.specs.Addresses.{is_in}
 use Rattle.gb_ram_bounds.specs.Meaning.{HasCellsOf}
-use Rattle.gb_summaries.specs.declared.instruction.Stored.{Stored}
-use Rattle.gb_summaries.specs.declared.instruction.Stored.TheVariants.{Nothing, Byte, Word}
+use Rattle.gb_summaries.specs.declared.instruction.InstructionStore.{InstructionStore}
+use Rattle.gb_summaries.specs.declared.instruction.InstructionStore.TheVariants.{Nothing, Byte, Word}
 use Rattle.gb_summaries.specs.Elsewhere.{AreFreeFacts, IsFree, IsLeft}
 use Rattle.gb_summaries.specs.Meaning.{HoldSummary, IsAside}
 use Rattle.gb_summaries.specs.Stores.{ShareWindows, stored_in_ram, switched}
@@ -46,14 +46,14 @@ abbrev pub one : ℕ → AddressSet
 one a = record { first = a; last = a; low = no_low_bits }
 
 -- of a word first its low byte is; both are no register's
-abbrev pub after_write : Program → Region → List Cell → Op → OneByte → Stored → SummaryParts → SummaryParts
+abbrev pub after_write : Program → Region → List Cell → Op → OneByte → InstructionStore → SummaryParts → SummaryParts
 after_write program region cells o b Nothing s = s
 after_write program region cells o b (Byte x v) s = byte_stored program region cells o b x v s
 after_write program region cells o b (Word a low high) s =
     byte_stored program region cells o no_byte (one ((a + 1) % 65536)) high (byte_stored program region cells o no_byte (one a) low s)
 
 -- what is said behind a taken instruction: first it stores, then its work on registers; values and places are those before it
-unfoldable pub summary_after : Program → Region → List Cell → Op → Bounds → Values → OneByte → Stored → SummaryParts → SummaryParts
+unfoldable pub summary_after : Program → Region → List Cell → Op → Bounds → Values → OneByte → InstructionStore → SummaryParts → SummaryParts
 summary_after program region cells o sp v b w s = after_registers region o sp v (after_write program region cells o b w s)
 
 -- ---- what that promises
@@ -82,7 +82,7 @@ pub record StoresWord (k : Kind) (a : ℕ) (low high : StridedInterval) (c n : �
   pub second : StoresByte k (one ((a + 1) % 65536)) high ((c + 1) % 65536) (n / 256) middle after between r
 
 -- the same after a write of the machine; a push stays in the stack region
-abbrev pub Stores : Kind → Region → Stored → Write → (ℕ → ℕ) → (ℕ → ℕ) → Banks → Banks → Type 0
+abbrev pub Stores : Kind → Region → InstructionStore → Write → (ℕ → ℕ) → (ℕ → ℕ) → Banks → Banks → Type 0
 Stores k region Nothing write.Nothing memory after banks r = ((a : ℕ) → after a ≡ memory a) × (r ≡ banks)
 Stores k region Nothing (write.Push sp w) memory after banks r = IsLeft region memory after × (r ≡ banks)
 Stores k region (Byte x v) (write.Byte a n) memory after banks r = StoresByte k x v a n memory after banks r
@@ -103,7 +103,7 @@ pub record Begins (program : Program) (region : Region) (o : Op) (sp : Bounds) (
   pub reads : Reads (Effects.read_of o p) memory l
 
 -- the summary holds behind each effect of the instruction, where SP still stands where it says
-pub record IsSoundInstruction (program : Program) (region : Region) (cells : List Cell) (o : Op) (sp : Bounds) (v : Values) (b : OneByte) (w : Stored) (s after : SummaryParts) : Type 0 where
+pub record IsSoundInstruction (program : Program) (region : Region) (cells : List Cell) (o : Op) (sp : Bounds) (v : Values) (b : OneByte) (w : InstructionStore) (s after : SummaryParts) : Type 0 where
   pub gives :
       (before : List Cell) (p : Processor) (memory stored : ℕ → ℕ) (banks r : Banks) (l h : ℕ)
       → HasCellsOf before cells → Begins program region o sp v b s p memory l h

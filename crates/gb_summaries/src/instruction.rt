@@ -20,7 +20,7 @@ use gb_relations::places::is_ram;
 
 /// What an instruction stores.
 #[derive(Clone, Copy)]
-pub enum Stored {
+pub enum InstructionStore {
     /// Nothing, or a word on the stack.
     Nothing,
     /// One of the values at one of the addresses.
@@ -76,17 +76,17 @@ fn after_write(
     cells: &[Cell],
     op: Op,
     byte: &OneByte,
-    stored: Stored,
+    stored: InstructionStore,
     summary: &Summary,
 ) -> Summary
     ensures { result ≡ Instruction.after_write (record { kind = kind; facts = facts.now }) region cells.now op byte.now stored summary.now }
 {
     match stored {
-        Stored::Nothing => summary.copied(),
-        Stored::Byte(addresses, value) => byte_stored(
+        InstructionStore::Nothing => summary.copied(),
+        InstructionStore::Byte(addresses, value) => byte_stored(
             kind, facts, region, cells, op, byte, addresses, value, summary,
         ),
-        Stored::Word(address, low, high) => {
+        InstructionStore::Word(address, low, high) => {
             let no_byte = OneByte::default();
             let next = one(address.wrapping_add(1));
             let address = one(address);
@@ -108,7 +108,7 @@ fn after_effect(
     sp: Bounds,
     values: &Values,
     byte: &OneByte,
-    stored: Stored,
+    stored: InstructionStore,
     summary: &Summary,
 ) -> Summary
     ensures { result ≡ Instruction.summary_after (record { kind = kind; facts = facts.now }) region cells.now op sp values.now byte.now stored summary.now }
@@ -129,7 +129,7 @@ pub fn summary_after(
     sp: Bounds,
     values: &Values,
     byte: &OneByte,
-    stored: Stored,
+    stored: InstructionStore,
     summary: &Summary,
 ) -> Summary
     ensures exact { result ≡ Instruction.summary_after (record { kind = kind; facts = facts.now }) region cells.now op sp values.now byte.now stored summary.now }

@@ -30,7 +30,7 @@ pub struct GivenBack {
 
 /// What a state says of bytes in RAM: its cells, and what is said of the whole program.
 #[derive(Clone, Copy)]
-pub struct Said<'a> {
+pub struct KnownRam<'a> {
     pub cells: &'a [Cell],
     pub summary: &'a Summary,
 }
@@ -179,8 +179,8 @@ fn level_and_fills(
     ranges: &[Range],
     given: &GivenBack,
     values: &Values,
-    caller: &Said<'_>,
-    exit: &Said<'_>,
+    caller: &KnownRam<'_>,
+    exit: &KnownRam<'_>,
     cells: &[Cell],
 ) -> (u16, ArrayVec<Fill, 8>)
     ensures level { result.0 ≡ staying ranges.now exit.now.cells.now cells.now facts.now exit.now.summary.now.level caller.now.summary.now.level }
@@ -216,8 +216,8 @@ fn said_with(
     given: &GivenBack,
     addresses: &[u16],
     values: &Values,
-    caller: &Said<'_>,
-    exit: &Said<'_>,
+    caller: &KnownRam<'_>,
+    exit: &KnownRam<'_>,
     has_room: bool,
     cells: &[Cell],
 ) -> Summary
@@ -263,8 +263,8 @@ pub fn summary_returned(
     given: &GivenBack,
     addresses: &[u16],
     values: &Values,
-    caller: &Said<'_>,
-    exit: &Said<'_>,
+    caller: &KnownRam<'_>,
+    exit: &KnownRam<'_>,
     has_room: bool,
     cells: &[Cell],
 ) -> Summary
