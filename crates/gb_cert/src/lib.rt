@@ -34,7 +34,7 @@ pub use find::{First, Search};
 pub use gb_rows::Found;
 pub use gb_states::CertFault;
 pub use node::NodeRef;
-pub use parse::one_spelling;
+pub use parse::{begins_fourth, one_spelling};
 pub use procedure::ProcedureRef;
 pub use state::StateRef;
 pub use writer::{NodePlan, ProcedurePlan, Version, WriteFault, write_certificate};

@@ -144,7 +144,7 @@ pub(crate) fn walk(alloc: Global, bytes: &[u8]) -> Result<Walked, CertFault>
 }
 
 /// Whether the bytes begin as those of a certificate of version 4 do.
-pub(crate) fn begins_fourth(bytes: &[u8]) -> bool
+pub fn begins_fourth(bytes: &[u8]) -> bool
     ensures { result ≡ begins_fourth bytes.now }
 {
     match any_version_at(bytes) {
