@@ -1,5 +1,5 @@
 -- What covers an abstract state stands for its machine states, part by part.
-use Rattle.std.proofs.Common.{◌≡◌, ℕ, suc, length, ◌+◌, ◌-◌, ◌≤◌, Bool, true, false, ◌==◌, if◌then◌else◌, cond, List, [], ◌∷◌, Option, Some, None, refl, sym, ◌∙◌, ap, subst, arith}
+use Rattle.std.proofs.Common.{◌≡◌, ℕ, suc, length, ◌+◌, ◌-◌, ◌%◌, ◌≤◌, Bool, true, false, ◌==◌, if◌then◌else◌, cond, List, [], ◌∷◌, Option, Some, None, refl, sym, ◌∙◌, ap, subst, arith}
 use Rattle.std.proofs.lemmas.Bool.{and_parts, eqb-true, leb-true}
 use Rattle.std.proofs.lemmas.Bool.Decides.{nat_tests}
 use Rattle.std.specs.List.{AllByRecursion, list_all}
@@ -10,6 +10,8 @@ use Rattle.gb_ops.specs.declared.registers.Flags.{Flags}
 use Rattle.gb_ops.specs.declared.registers.Ime.{Ime}
 use Rattle.gb_ops.specs.declared.registers.Ime.TheVariants.{Off, Pending, On}
 use Rattle.gb_ops.specs.declared.machine.Banks.{Banks}
+use Rattle.gb_ops.specs.declared.machine.Kind.{Kind}
+use Rattle.gb_ops.specs.declared.machine.Kind.TheVariants as kind
 use Rattle.gb_ops.specs.Registers.{get}
 use Rattle.gb_ops.specs.Memory.{Storage}
 use Rattle.gb_ops.specs.Play.{MState}
@@ -26,8 +28,8 @@ use Rattle.gb_domain.specs.declared.types.Core.{Core}
 use Rattle.gb_domain.specs.Types.{AbsState}
 use Rattle.gb_domain.proofs.ValueLaws.{has_covered}
 use Rattle.gb_abs.specs.Storage.{peek}
-use Rattle.gb_abs.specs.Meaning.{Activation, Holds, HoldsFlags, KeepsBanks, HoldsController, MeansCore, AreItems, MeansParts, IsMemory, ime_may_be}
-use Rattle.gb_abs.specs.Covering.{origin_number, covers_origin, covers_val, covers_may, covers_flags, covers_ime, covers_kept, covers_controller, covers_registers, covers_core, covers_items, cell_at, covers_cells, covers_parts, implied}
+use Rattle.gb_abs.specs.Meaning.{Activation, Holds, HoldsFlags, KeepsBanks, HoldsLowBank, HoldsController, MeansCore, AreItems, MeansParts, IsMemory, ime_may_be}
+use Rattle.gb_abs.specs.Covering.{origin_number, covers_origin, covers_val, covers_may, covers_flags, covers_ime, covers_kept, covers_low_bank, covers_controller, covers_registers, covers_core, covers_items, cell_at, covers_cells, covers_parts, implied}
 use Rattle.gb_abs.specs.Sound.{IsPartOf}
 use Rattle.gb_vals.specs.Vals.{any_val}
 use Rattle.gb_vals.specs.Meaning.{may_be}
@@ -124,9 +126,9 @@ ime_covered s t Off h m = implied_use _ _ (and_parts _ _ (and_parts _ _ h).0).0 
 ime_covered s t Pending h m = implied_use _ _ (and_parts _ _ (and_parts _ _ h).0).1 m
 ime_covered s t On h m = implied_use _ _ (and_parts _ _ h).1 m
 
-kept_covered : (s t : KeptBanks) (before x : Banks) → covers_kept s t ≡ true → KeepsBanks s before x → KeepsBanks t before x
+kept_covered : (k : Kind) (s t : KeptBanks) (before x : Banks) → covers_kept s t ≡ true → KeepsBanks k s before x → KeepsBanks k t before x
 unfolding covers_kept
-kept_covered s t before x h m =
+kept_covered k s t before x h m =
     let mode = and_parts _ _ h in
     let gate = and_parts _ _ mode.0 in
     let second = and_parts _ _ gate.0 in
@@ -139,27 +141,42 @@ kept_covered s t before x h m =
       high_bank = λ e. m.high_bank (implied_use _ _ mode.1 e);
     }
 
-controller_covered : (s t : Ctl) (entry : Activation) (x : Banks) → covers_controller s t ≡ true → HoldsController s entry x → HoldsController t entry x
+low_covered : (k : Kind) (s t : Ctl) (bank : ℕ) → covers_low_bank k s t ≡ true → HoldsLowBank k s bank → HoldsLowBank k t bank
+unfolding covers_low_bank
+low_covered kind.Rom s t bank h m = tt
+low_covered kind.Mbc1 s t bank h m = tt
+low_covered kind.Mbc3 s t bank h m = tt
+low_covered kind.Mbc5 s t bank h m =
+    let both = and_parts _ _ h in
+    let least : t.bank_lo % 256 ≤ s.bank_lo % 256 = leb-true _ _ both.0 in
+    let most : s.bank_hi % 256 ≤ t.bank_hi % 256 = leb-true _ _ both.1 in
+    let lo = m.0 in
+    let hi = m.1 in
+    (omega arith, omega arith)
+
+controller_covered : (k : Kind) (s t : Ctl) (entry : Activation) (x : Banks) → entry.program.kind ≡ k → covers_controller k s t ≡ true → HoldsController s entry x → HoldsController t entry x
 unfolding covers_controller
-controller_covered s t entry x h m =
+controller_covered k s t entry x is h m =
     let kept = and_parts _ _ h in
     let mode = and_parts _ _ kept.0 in
     let gate = and_parts _ _ mode.0 in
     let hi = and_parts _ _ gate.0 in
     let lo = and_parts _ _ hi.0 in
     let bank = and_parts _ _ lo.0 in
-    let f1 : t.bank_lo ≤ s.bank_lo = leb-true _ _ bank.0 in
+    let low = and_parts _ _ bank.0 in
+    let f1 : t.bank_lo ≤ s.bank_lo = leb-true _ _ low.1 in
     let f2 : s.bank_hi ≤ t.bank_hi = leb-true _ _ bank.1 in
     let f3 : t.second_lo ≤ s.second_lo = leb-true _ _ lo.1 in
     let f4 : s.second_hi ≤ t.second_hi = leb-true _ _ hi.1 in
     record {
       bank_least = let a = m.bank_least in omega arith;
       bank_most = let a = m.bank_most in omega arith;
+      low_bank = low_covered entry.program.kind s t x.bank (subst (λ q. covers_low_bank q s t ≡ true) (sym is) low.0) m.low_bank;
       second_least = let a = m.second_least in omega arith;
       second_most = let a = m.second_most in omega arith;
       gate = may_covered s.gate t.gate x.gate gate.1 m.gate;
       mode = may_covered s.mode t.mode x.mode mode.1 m.mode;
-      kept = kept_covered s.kept t.kept _ x kept.1 m.kept;
+      kept = kept_covered entry.program.kind s.kept t.kept _ x kept.1 m.kept;
     }
 
 pub register_covered : (s t : Registers Val) (r : Register) → covers_registers s t ≡ true → covers_val (get r s) (get r t) ≡ true
@@ -173,9 +190,9 @@ register_covered s t r h =
     let b = and_parts _ _ c.0 in
     elim r as (λ q. covers_val (get q s) (get q t) ≡ true) [ A ↦ b.0 | B ↦ b.1 | C ↦ c.1 | D ↦ d.1 | E ↦ e.1 | H ↦ h'.1 | L ↦ l.1 ]
 
-core_covered : (s t : Core) (entry : Activation) (x : MState) → covers_core s t ≡ true → MeansCore s entry x → MeansCore t entry x
+core_covered : (k : Kind) (s t : Core) (entry : Activation) (x : MState) → entry.program.kind ≡ k → covers_core k s t ≡ true → MeansCore s entry x → MeansCore t entry x
 unfolding covers_core
-core_covered s t entry x h m =
+core_covered k s t entry x is h m =
     let stack = and_parts _ _ h in
     let bound = and_parts _ _ stack.0 in
     let controller = and_parts _ _ bound.0 in
@@ -188,15 +205,15 @@ core_covered s t entry x h m =
       flags = flags_covered s.flags t.flags entry x.processor.flags flags.1 m.flags;
       ie = Holds-covered _ _ _ _ ie.1 m.ie;
       ime = ime_covered s.ime t.ime x.processor.ime ime.1 m.ime;
-      controller = controller_covered s.ctl t.ctl entry x.storage.banks controller.1 m.controller;
+      controller = controller_covered k s.ctl t.ctl entry x.storage.banks is controller.1 m.controller;
       count = let a = m.count in omega arith;
       locked = m.locked;
       stopped = m.stopped;
     }
 
-stack_covered : (s t : Core) → covers_core s t ≡ true → t.stack_set ≡ true → s.stack_set ≡ true
+stack_covered : (k : Kind) (s t : Core) → covers_core k s t ≡ true → t.stack_set ≡ true → s.stack_set ≡ true
 unfolding covers_core
-stack_covered s t h e =
+stack_covered k s t h e =
     let stack = and_parts _ _ h in
     implied_use _ _ stack.1 e
 
@@ -233,16 +250,16 @@ cells_covered ss (t ∷ ts) entry m k h a =
     (Holds-covered _ _ _ _ p.0 (Holds-cell ss t.address entry m k a), cells_covered ss ts entry m k p.1 a)
 
 -- what covers an abstract state stands for each of its machine states
-pub MeansParts-covered : (s t : AbsState) (entry : Activation) (base : ℕ) (x : MState) → covers_parts s t ≡ true → MeansParts s entry base x → MeansParts t entry base x
+pub MeansParts-covered : (k : Kind) (s t : AbsState) (entry : Activation) (base : ℕ) (x : MState) → entry.program.kind ≡ k → covers_parts k s t ≡ true → MeansParts s entry base x → MeansParts t entry base x
 unfolding covers_parts covers_cells
-MeansParts-covered s t entry base x h m =
+MeansParts-covered k s t entry base x is h m =
     let cells = and_parts _ _ h in
     let items = and_parts _ _ cells.0 in
     record {
-      core = core_covered s.core t.core entry x items.0 m.core;
+      core = core_covered k s.core t.core entry x is items.0 m.core;
       memory = m.memory;
       sp = m.sp;
-      stack = λ e. ap (λ n. x.processor.sp + n) (sym (lengths s.items t.items items.1)) ∙ m.stack (stack_covered s.core t.core items.0 e);
+      stack = λ e. ap (λ n. x.processor.sp + n) (sym (lengths s.items t.items items.1)) ∙ m.stack (stack_covered k s.core t.core items.0 e);
       items = items_covered s.items t.items entry base x.storage items.1 m.items;
       cells = cells_covered s.cells t.cells entry x.storage m.memory cells.1 m.cells;
     }
@@ -253,5 +270,5 @@ MeansParts-covered s t entry base x h m =
     lengths (s ∷ ss) [] h = cc
     lengths (s ∷ ss) (t ∷ ts) h = ap suc (lengths ss ts (and_parts _ _ h).1)
 
-pub covers_parts_sound : (s t : AbsState) (o : Bool) → o ≡ covers_parts s t → o ≡ true → IsPartOf s t
-covers_parts_sound s t o e h = record { gives = λ entry base x m. MeansParts-covered s t entry base x (sym e ∙ h) m }
+pub covers_parts_sound : (k : Kind) (s t : AbsState) (o : Bool) → o ≡ covers_parts k s t → o ≡ true → IsPartOf k s t
+covers_parts_sound k s t o e h = record { gives = λ entry base x is m. MeansParts-covered k s t entry base x is (sym e ∙ h) m }

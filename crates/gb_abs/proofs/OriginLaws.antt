@@ -1,5 +1,5 @@
 -- What is no copy holds relative to one entry as to any other; what an origin holds in a state is its own there.
-use Rattle.std.proofs.Common.{◌≡◌, ℕ, ◌-◌, false, List, [], ◌∷◌, map, Some, refl, sym, subst}
+use Rattle.std.proofs.Common.{◌≡◌, ℕ, ◌-◌, ◌%◌, ◌≤◌, false, List, [], ◌∷◌, map, Some, refl, sym, subst}
 use Rattle.gb_ops.specs.declared.op.Register.{Register}
 use Rattle.gb_ops.specs.declared.op.Register.TheVariants.{A, B, C, D, E, H, L}
 use Rattle.gb_ops.specs.declared.registers.Registers.{Registers}
@@ -10,9 +10,12 @@ use Rattle.gb_domain.specs.declared.types.Origin.{Origin}
 use Rattle.gb_domain.specs.declared.types.Val.{Val}
 use Rattle.gb_domain.specs.declared.types.Cell.{Cell}
 use Rattle.gb_domain.specs.declared.types.Core.{Core}
+use Rattle.gb_domain.specs.declared.types.Ctl.{Ctl}
 use Rattle.gb_ops.specs.declared.machine.Banks.{Banks}
+use Rattle.gb_ops.specs.declared.machine.Kind.{Kind}
+use Rattle.gb_ops.specs.declared.machine.Kind.TheVariants as kind
 use Rattle.gb_domain.specs.Types.{origin_of_register, all_or_none}
-use Rattle.gb_abs.specs.Meaning.{Activation, origin_value, Holds, KeepsBanks, AreItems, MeansCore}
+use Rattle.gb_abs.specs.Meaning.{Activation, origin_value, Holds, KeepsBanks, HoldsLowBank, AreItems, MeansCore}
 use Rattle.gb_abs.specs.Origins.{own, without_origin, cell_without_origin, registers_without_origins, core_without_origins}
 use Rattle.gb_abs.specs.Storage.{peek}
 use Rattle.gb_abs.proofs.CoveringLaws.{AreCells}
@@ -59,12 +62,19 @@ register-without_origin s H = refl
 register-without_origin s L = refl
 
 -- where nothing is said to be kept, that is so
-pub nothing_kept : (before x : Banks) → KeepsBanks (all_or_none false) before x
-nothing_kept before x = record { bank = λ e. absurd (cc); second = λ e. absurd (cc); gate = λ e. absurd (cc); mode = λ e. absurd (cc); high_bank = λ e. absurd (cc) }
+pub nothing_kept : (k : Kind) (before x : Banks) → KeepsBanks k (all_or_none false) before x
+nothing_kept k before x = record { bank = λ e. absurd (cc); second = λ e. absurd (cc); gate = λ e. absurd (cc); mode = λ e. absurd (cc); high_bank = λ e. absurd (cc) }
 
-pub MeansCore-without_origins : (s : Core) (entry other : Activation) (x : MState) → MeansCore s entry x → MeansCore (core_without_origins s) other x
+-- the low bank is held by the bank's bounds alone
+pub HoldsLowBank-bounds : (k : Kind) (c d : Ctl) (bank : ℕ) → c.bank_lo ≡ d.bank_lo → c.bank_hi ≡ d.bank_hi → HoldsLowBank k c bank → HoldsLowBank k d bank
+HoldsLowBank-bounds kind.Rom c d bank lo hi h = tt
+HoldsLowBank-bounds kind.Mbc1 c d bank lo hi h = tt
+HoldsLowBank-bounds kind.Mbc3 c d bank lo hi h = tt
+HoldsLowBank-bounds kind.Mbc5 c d bank lo hi h = (subst (λ n. n % 256 ≤ bank % 256) lo h.0, subst (λ n. bank % 256 ≤ n % 256) hi h.1)
+
+pub MeansCore-without_origins : (s : Core) (entry other : Activation) (x : MState) → entry.program.kind ≡ other.program.kind → MeansCore s entry x → MeansCore (core_without_origins s) other x
 unfolding core_without_origins
-MeansCore-without_origins s entry other x m =
+MeansCore-without_origins s entry other x same m =
     record {
       registers = λ r. subst (λ v. Holds v other (get r x.processor.registers)) (sym (register-without_origin s.registers r))
           (Holds-without_origin (get r s.registers) entry other (get r x.processor.registers) (m.registers r));
@@ -80,11 +90,12 @@ MeansCore-without_origins s entry other x m =
       controller = record {
         bank_least = m.controller.bank_least;
         bank_most = m.controller.bank_most;
+        low_bank = HoldsLowBank-bounds other.program.kind s.ctl _ x.storage.banks.bank refl refl (subst (λ k. HoldsLowBank k s.ctl x.storage.banks.bank) same m.controller.low_bank);
         second_least = m.controller.second_least;
         second_most = m.controller.second_most;
         gate = m.controller.gate;
         mode = m.controller.mode;
-        kept = nothing_kept _ _;
+        kept = nothing_kept _ _ _;
       };
       count = m.count;
       locked = m.locked;

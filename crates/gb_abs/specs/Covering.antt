@@ -1,6 +1,8 @@
 -- Covering: one abstract state stands for all that another one does (abstract interpretation: inclusion).
-use Rattle.std.specs.Prelude.{ℕ, ◌+◌, Bool, true, false, not, ◌&&◌, ◌||◌, ◌==◌, if◌then◌else◌, nat_le, List, [], ◌∷◌, Option, Some, None}
+use Rattle.std.specs.Prelude.{ℕ, ◌+◌, ◌%◌, Bool, true, false, not, ◌&&◌, ◌||◌, ◌==◌, if◌then◌else◌, nat_le, List, [], ◌∷◌, Option, Some, None}
 use Rattle.std.specs.List.{list_all}
+use Rattle.gb_ops.specs.declared.machine.Kind.{Kind}
+use Rattle.gb_ops.specs.declared.machine.Kind.TheVariants as kind
 use Rattle.gb_ops.specs.declared.registers.Registers.{Registers}
 use Rattle.gb_domain.specs.declared.types.Origin.{Origin}
 use Rattle.gb_domain.specs.declared.types.Origin.TheVariants as origin
@@ -65,9 +67,14 @@ covers_kept s t =
     implied t.bank s.bank && implied t.second s.second && implied t.gate s.gate && implied t.mode s.mode
     && implied t.high_bank s.high_bank
 
-unfoldable pub covers_controller : Ctl → Ctl → Bool
-covers_controller s t =
-    nat_le t.bank_lo s.bank_lo && nat_le s.bank_hi t.bank_hi && nat_le t.second_lo s.second_lo
+-- of MBC5 the low eight bits of the bank have bounds of their own
+unfoldable pub covers_low_bank : Kind → Ctl → Ctl → Bool
+covers_low_bank kind.Mbc5 s t = nat_le (t.bank_lo % 256) (s.bank_lo % 256) && nat_le (s.bank_hi % 256) (t.bank_hi % 256)
+covers_low_bank _ s t = true
+
+unfoldable pub covers_controller : Kind → Ctl → Ctl → Bool
+covers_controller k s t =
+    covers_low_bank k s t && nat_le t.bank_lo s.bank_lo && nat_le s.bank_hi t.bank_hi && nat_le t.second_lo s.second_lo
     && nat_le s.second_hi t.second_hi && covers_may s.gate t.gate && covers_may s.mode t.mode && covers_kept s.kept t.kept
 
 unfoldable pub covers_registers : Registers Val → Registers Val → Bool
@@ -75,10 +82,11 @@ covers_registers s t =
     covers_val s.a t.a && covers_val s.b t.b && covers_val s.c t.c && covers_val s.d t.d && covers_val s.e t.e
     && covers_val s.h t.h && covers_val s.l t.l
 
-unfoldable pub covers_core : Core → Core → Bool
-covers_core s t =
+-- with this controller
+unfoldable pub covers_core : Kind → Core → Core → Bool
+covers_core k s t =
     covers_registers s.registers t.registers && covers_flags s.flags t.flags && covers_val s.ie t.ie && covers_ime s.ime t.ime
-    && covers_controller s.ctl t.ctl && nat_le s.bound t.bound && implied t.stack_set s.stack_set
+    && covers_controller k s.ctl t.ctl && nat_le s.bound t.bound && implied t.stack_set s.stack_set
 
 -- equally many, each covered
 abbrev pub covers_items : List Val → List Val → Bool
@@ -96,5 +104,5 @@ unfoldable pub covers_cells : List Cell → List Cell → Bool
 covers_cells s t = list_all (λ c. covers_val (cell_at c.address s) c.val) t
 
 -- each part of t stands for what that part of s stands for, by itself
-unfoldable pub covers_parts : AbsState → AbsState → Bool
-covers_parts s t = covers_core s.core t.core && covers_items s.items t.items && covers_cells s.cells t.cells
+unfoldable pub covers_parts : Kind → AbsState → AbsState → Bool
+covers_parts k s t = covers_core k s.core t.core && covers_items s.items t.items && covers_cells s.cells t.cells

@@ -6,6 +6,8 @@ use Rattle.gb_ops.specs.declared.registers.Flags.{Flags}
 use Rattle.gb_ops.specs.declared.registers.Ime.{Ime}
 use Rattle.gb_ops.specs.declared.registers.Ime.TheVariants.{Off, Pending, On}
 use Rattle.gb_ops.specs.declared.machine.Banks.{Banks}
+use Rattle.gb_ops.specs.declared.machine.Kind.{Kind}
+use Rattle.gb_ops.specs.declared.machine.Kind.TheVariants as kind
 use Rattle.gb_ops.specs.Registers.{get}
 use Rattle.gb_ops.specs.Flags.{flags_byte}
 use Rattle.gb_ops.specs.Memory.{Storage}
@@ -68,22 +70,40 @@ ime_may_be s Off = s.off
 ime_may_be s Pending = s.pending
 ime_may_be s On = s.on
 
--- the registers that are kept are what they were; of the bank the low eight bits, and what is above them
-pub record KeepsBanks (k : KeptBanks) (before x : Banks) : Type 0 where
-  pub bank : k.bank ≡ true → x.bank % 256 ≡ before.bank % 256
+-- two banks are equal where one register holds them, or else in their low eight bits
+abbrev pub IsBankKept : Kind → ℕ → ℕ → Type 0
+IsBankKept kind.Mbc1 before x = x ≡ before
+IsBankKept kind.Mbc3 before x = x ≡ before
+IsBankKept _ before x = x % 256 ≡ before % 256
+
+-- where that isn't one register, they are equal in what is above these bits
+abbrev pub IsHighBankKept : Kind → ℕ → ℕ → Type 0
+IsHighBankKept kind.Mbc1 before x = Unit {0}
+IsHighBankKept kind.Mbc3 before x = Unit {0}
+IsHighBankKept _ before x = x / 256 ≡ before / 256
+
+-- the registers that are kept are what they were
+pub record KeepsBanks (kind : Kind) (k : KeptBanks) (before x : Banks) : Type 0 where
+  pub bank : k.bank ≡ true → IsBankKept kind before.bank x.bank
   pub second : k.second ≡ true → x.second ≡ before.second
   pub gate : k.gate ≡ true → x.gate ≡ before.gate
   pub mode : k.mode ≡ true → x.mode ≡ before.mode
-  pub high_bank : k.high_bank ≡ true → x.bank / 256 ≡ before.bank / 256
+  pub high_bank : k.high_bank ≡ true → IsHighBankKept kind before.bank x.bank
+
+-- MBC5 has the bank's low eight bits in a register of their own (MBC5): they are within those of the least and of the greatest bank
+abbrev pub HoldsLowBank : Kind → Ctl → ℕ → Type 0
+HoldsLowBank kind.Mbc5 c bank = (c.bank_lo % 256 ≤ bank % 256) × (bank % 256 ≤ c.bank_hi % 256)
+HoldsLowBank _ c bank = Unit {0}
 
 pub record HoldsController (c : Ctl) (entry : Activation) (x : Banks) : Type 0 where
   pub bank_least : c.bank_lo ≤ x.bank
   pub bank_most : x.bank ≤ c.bank_hi
+  pub low_bank : HoldsLowBank entry.program.kind c x.bank
   pub second_least : c.second_lo ≤ x.second
   pub second_most : x.second ≤ c.second_hi
   pub gate : may_be c.gate x.gate ≡ true
   pub mode : may_be c.mode x.mode ≡ true
-  pub kept : KeepsBanks c.kept entry.entered.storage.banks x
+  pub kept : KeepsBanks entry.program.kind c.kept entry.entered.storage.banks x
 
 -- all but the stack, the cells and the HALT mark, of which the operations say nothing
 pub record MeansCore (core : Core) (entry : Activation) (s : MState) : Type 0 where

@@ -1,5 +1,6 @@
 -- What operations on abstract states promise of the machine (abstract interpretation: soundness; own).
 use Rattle.std.specs.Prelude.{◌≡◌, ℕ, ◌+◌, ◌/◌, ◌%◌, ◌≤◌, ◌<◌, ◌-◌, Bool, true, false, ◌==◌, List, length, ◌⊎◌}
+use Rattle.gb_ops.specs.declared.machine.Kind.{Kind}
 use Rattle.gb_ops.specs.declared.machine.Region.{Region}
 use Rattle.gb_ops.specs.declared.machine.Read.TheVariants as read
 use Rattle.gb_ops.specs.declared.machine.Write.TheVariants as write
@@ -22,9 +23,9 @@ use Rattle.gb_abs.specs.Poked.{IsPoked}
 use Rattle.gb_abs.specs.Storage.{is_ram, peek}
 use Rattle.gb_abs.specs.Stack.{AreInRegion}
 
--- t means each machine state that s means
-pub record IsPartOf (s t : AbsState) : Type 0 where
-  pub gives : (entry : Activation) (base : ℕ) (x : MState) → MeansParts s entry base x → MeansParts t entry base x
+-- in programs with this controller t means each machine state that s means
+pub record IsPartOf (kind : Kind) (s t : AbsState) : Type 0 where
+  pub gives : (entry : Activation) (base : ℕ) (x : MState) → entry.program.kind ≡ kind → MeansParts s entry base x → MeansParts t entry base x
 
 -- ---- cores
 

@@ -2,10 +2,11 @@
 
 ghost use Rattle.std.specs.Prelude.{◌≡◌, ◌&&◌, true};
 ghost use Rattle.gb_abs.specs.Sound.{IsPartOf};
-ghost use Rattle.gb_abs.specs.Covering.{origin_number, implied, covers_origin, covers_val, covers_may, covers_flags, covers_ime, covers_kept, covers_controller, covers_registers, covers_core, covers_items, cell_at, covers_cells, covers_parts};
+ghost use Rattle.gb_abs.specs.Covering.{origin_number, implied, covers_origin, covers_val, covers_may, covers_flags, covers_ime, covers_kept, covers_low_bank, covers_controller, covers_registers, covers_core, covers_items, cell_at, covers_cells, covers_parts};
 
 use gb_domain::types::{Abs, Cell, Core, Ctl, Flg, ImeSet, KeptBanks, May, Origin, Val};
 use gb_domain::values::covers_low_bits;
+use gb_ops::machine::Kind;
 use gb_ops::registers::Registers;
 use gb_vals::vals::any;
 
@@ -103,13 +104,26 @@ fn covers_kept(s: KeptBanks, t: KeptBanks) -> bool
         && implied(t.high_bank, s.high_bank)
 }
 
-/// Whether each value that the controller's registers may have in s is one that they may have in t.
+/// Whether each value that the low eight bits of MBC5's bank may have in s is one that they may have in t.
+#[inline(always)]
+#[tactic(auto, unfolding(crate::specs::Covering::covers_low_bank))]
+fn covers_low_bank(kind: Kind, s: &Ctl, t: &Ctl) -> bool
+    ensures { result ≡ covers_low_bank kind s.now t.now }
+{
+    match kind {
+        Kind::Mbc5 => t.bank_lo % 256 <= s.bank_lo % 256 && s.bank_hi % 256 <= t.bank_hi % 256,
+        _ => true,
+    }
+}
+
+/// Whether each value that the registers of such a controller may have in s is one that they may have in t.
 #[inline(always)]
 #[tactic(auto, unfolding(crate::specs::Covering::covers_controller))]
-pub fn covers_controller(s: &Ctl, t: &Ctl) -> bool
-    ensures { result ≡ covers_controller s.now t.now }
+pub fn covers_controller(kind: Kind, s: &Ctl, t: &Ctl) -> bool
+    ensures { result ≡ covers_controller kind s.now t.now }
 {
-    t.bank_lo <= s.bank_lo
+    covers_low_bank(kind, s, t)
+        && t.bank_lo <= s.bank_lo
         && s.bank_hi <= t.bank_hi
         && t.second_lo <= s.second_lo
         && s.second_hi <= t.second_hi
@@ -132,17 +146,17 @@ fn covers_registers(s: &Registers<Val>, t: &Registers<Val>) -> bool
         && covers_val(&s.l, &t.l)
 }
 
-/// Whether each part of t stands for what the part of s does, but for items and cells.
+/// Whether each part of t stands for what the part of s does, but for items and cells, in a cartridge with such a controller.
 #[inline(always)]
 #[tactic(auto, unfolding(crate::specs::Covering::covers_core))]
-pub fn covers_core(s: &Core, t: &Core) -> bool
-    ensures { result ≡ covers_core s.now t.now }
+pub fn covers_core(kind: Kind, s: &Core, t: &Core) -> bool
+    ensures { result ≡ covers_core kind s.now t.now }
 {
     covers_registers(&s.registers, &t.registers)
         && covers_flags(&s.flags, &t.flags)
         && covers_val(&s.ie, &t.ie)
         && covers_ime(&s.ime, &t.ime)
-        && covers_controller(&s.ctl, &t.ctl)
+        && covers_controller(kind, &s.ctl, &t.ctl)
         && s.bound <= t.bound
         && implied(t.stack_set, s.stack_set)
 }
@@ -185,22 +199,22 @@ fn covers_cells(s: &[Cell], t: &[Cell]) -> bool
 }
 
 #[tactic(auto, unfolding(crate::specs::Covering::covers_parts))]
-fn covers_each(s: &Abs, t: &Abs) -> bool
-    ensures { result ≡ covers_parts s.now t.now }
+fn covers_each(kind: Kind, s: &Abs, t: &Abs) -> bool
+    ensures { result ≡ covers_parts kind s.now t.now }
 {
-    covers_core(s.core(), t.core())
+    covers_core(kind, s.core(), t.core())
         && covers_items(s.items(), t.items())
         && covers_cells(s.cells(), t.cells())
 }
 
 /// Whether each part of t stands for what that part of s does, by itself (abstract interpretation: inclusion; the parts'
-/// tests are own).
+/// tests are own), in a program with such a controller.
 #[tactic(auto, using(crate::proofs::CoveringLaws::covers_parts_sound))]
-pub fn covers_parts(s: &Abs, t: &Abs) -> bool
-    ensures exact { result ≡ covers_parts s.now t.now }
-    ensures sound { result ≡ true → IsPartOf s.now t.now }
+pub fn covers_parts(kind: Kind, s: &Abs, t: &Abs) -> bool
+    ensures exact { result ≡ covers_parts kind s.now t.now }
+    ensures sound { result ≡ true → IsPartOf kind s.now t.now }
 {
-    covers_each(s, t)
+    covers_each(kind, s, t)
 }
 
 /// Whether the items and the cells of t stand for what those of s do.

@@ -1,6 +1,6 @@
 -- What the state after a store is: its parts are such as before, and a second store, to the next address, is asked as
 -- it was before the first.
-use Rattle.std.proofs.Common.{◌≡◌, ℕ, ◌+◌, ◌%◌, ◌≤◌, ◌<◌, Bool, true, false, not, ◌&&◌, ◌||◌, nat_le, if◌then◌else◌, ◌⊎◌, inl, inr, List, Option, Some, None, refl, sym, ◌∙◌, ap, subst, arith}
+use Rattle.std.proofs.Common.{◌≡◌, ℕ, ◌+◌, ◌%◌, ◌≤◌, ◌<◌, Bool, true, false, cond, not, ◌&&◌, ◌||◌, nat_le, if◌then◌else◌, ◌⊎◌, inl, inr, List, Option, Some, None, refl, sym, ◌∙◌, ap, subst, arith}
 use Rattle.std.proofs.lemmas.Bool.Decides.{nat_tests}
 use Rattle.std.proofs.lemmas.List.Elements.{All-from_recursion}
 use Rattle.std.specs.List.{AllByRecursion}
@@ -22,7 +22,7 @@ use Rattle.gb_abs_memory.specs.declared.windows.ControllerRegister.TheVariants a
 use Rattle.gb_abs_memory.specs.declared.windows.Window.{Window}
 use Rattle.gb_abs_memory.specs.declared.store.Area.{Area}
 use Rattle.gb_abs_memory.specs.declared.store.Area.TheVariants as area
-use Rattle.gb_abs_memory.specs.Windows.{windows, window_of, ctl_after, ctl_written}
+use Rattle.gb_abs_memory.specs.Windows.{windows, window_of, ctl_after, high_half_after, is_high, ctl_by, ctl_written}
 use Rattle.gb_abs_memory.specs.Access.{may_be_closed, meets_closed_ram, may_copy_closed_ram, store_meets_closed_ram, is_limited, is_store_limited, area_by, area_of, is_storable, ram_stored, stored_in, stored_state, starts_oam_transfer}
 use Rattle.gb_abs_memory.specs.Sound.{IsSoundStore}
 use Rattle.gb_abs_memory.proofs.StoreLaws.{IsSoundStore-stored_state}
@@ -136,6 +136,14 @@ gate-other k register.HighBank v c n = refl
 gate-other k register.Second v c n = refl
 gate-other k register.Mode v c n = refl
 
+gate-written : (w : Bool) (k : Kind) (r : ControllerRegister) (v : Val) (c : Ctl) → (r ≡ register.Gate → ⊥) → (ctl_written w k r v c).gate ≡ c.gate
+unfolding ctl_by
+gate-written w k r v c n = choose (w && is_high r)
+  where
+    choose : (b : Bool) → (cond b (high_half_after v c) (ctl_after k r v c)).gate ≡ c.gate
+    choose true = refl
+    choose false = gate-other k r v c n
+
 -- a store leaves the gate, or lies below 2000
 gate-stored :
     (z : Setting) (region : Region) (k : Kind) (span : Span) (v : Val) (s : AbsState) (a : ℕ) → IsIn span a
@@ -148,11 +156,11 @@ gate-stored z region k span v s a i =
   where
     written : (r : ControllerRegister) → (r ≡ register.Gate → a < 0x2000) → ((ctl_written z.is_whole k r v s.core.ctl).gate ≡ s.core.ctl.gate) ⊎ (a < 0x2000)
     written register.Gate low = inr (low refl)
-    written register.Bank low = inl (gate-other k register.Bank v s.core.ctl (λ e. cc))
-    written register.LowBank low = inl (gate-other k register.LowBank v s.core.ctl (λ e. cc))
-    written register.HighBank low = inl (gate-other k register.HighBank v s.core.ctl (λ e. cc))
-    written register.Second low = inl (gate-other k register.Second v s.core.ctl (λ e. cc))
-    written register.Mode low = inl (gate-other k register.Mode v s.core.ctl (λ e. cc))
+    written register.Bank low = inl (gate-written z.is_whole k register.Bank v s.core.ctl (λ e. cc))
+    written register.LowBank low = inl (gate-written z.is_whole k register.LowBank v s.core.ctl (λ e. cc))
+    written register.HighBank low = inl (gate-written z.is_whole k register.HighBank v s.core.ctl (λ e. cc))
+    written register.Second low = inl (gate-written z.is_whole k register.Second v s.core.ctl (λ e. cc))
+    written register.Mode low = inl (gate-written z.is_whole k register.Mode v s.core.ctl (λ e. cc))
 
 -- a store's test for closed cartridge RAM, by whether the gate may be closed
 abbrev met_by : List ℕ → Bool → Span → Val → Bool

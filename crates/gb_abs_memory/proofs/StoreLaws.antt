@@ -32,7 +32,7 @@ use Rattle.gb_abs.specs.Storage.{is_ram, peek}
 use Rattle.gb_abs.specs.Operations.{with_core}
 use Rattle.gb_abs.specs.Cells.{ArePlaced}
 use Rattle.gb_abs.specs.Stack.{AreInRegion}
-use Rattle.gb_abs.specs.Meaning.{Activation, Holds, KeepsBanks, HoldsController, MeansCore, AreItems, MeansParts, IsMemory}
+use Rattle.gb_abs.specs.Meaning.{Activation, Holds, KeepsBanks, HoldsLowBank, HoldsController, MeansCore, AreItems, MeansParts, IsMemory}
 use Rattle.gb_abs.proofs.StorageLaws.{region_in_ram, wrote-poked, wrote_ram-starting, wrote_ram-rom}
 use Rattle.gb_abs_memory.specs.declared.windows.ControllerRegister.{ControllerRegister}
 use Rattle.gb_abs_memory.specs.declared.windows.ControllerRegister.TheVariants as register
@@ -40,14 +40,13 @@ use Rattle.gb_abs_memory.specs.declared.windows.Window.{Window}
 use Rattle.gb_abs_memory.specs.declared.store.Area.{Area}
 use Rattle.gb_abs_memory.specs.declared.store.Area.TheVariants as area
 use Rattle.gb_abs_memory.specs.declared.store.Stored.{Stored}
-use Rattle.gb_abs_memory.specs.Windows.{InCtl, windows, window_of, ctl_after, kept_after, ctl_written}
+use Rattle.gb_abs_memory.specs.Windows.{InHalves, known_kind, windows, window_of, kept_after, ctl_written}
 use Rattle.gb_abs_memory.specs.Access.{may_be_closed, meets_closed_ram, may_copy_closed_ram, store_meets_closed_ram, is_limited, may_start_oam_transfer, is_store_limited, area_by, area_of, is_range, is_below_base, is_ram_allowed, is_allowed, is_storable, store_reason, ram_stored, stored_in, stored_state, starts_oam_transfer, store}
 use Rattle.gb_abs_memory.specs.Sound.{view, IsStored, IsSoundStore}
 use Rattle.gb_abs_memory.specs.Kept.{keeps, keeps_by, IsKept}
 use Rattle.gb_abs_memory.proofs.ItemLaws.{items_stored-simple, length-items_stored}
 use Rattle.gb_abs_memory.proofs.RamLaws.{AtRam, ArePlaced-ram_stored, MeansParts-ram_stored}
-use Rattle.gb_abs_memory.proofs.WindowLaws.{after_window}
-use Rattle.gb_abs_memory.proofs.ControllerLaws.{IsInWindow, IsInWindow-window_of, window-sound, window-nothing, kept_after_sound}
+use Rattle.gb_abs_memory.proofs.ControllerLaws.{IsInWindow, IsInWindow-window_of, window-written, window-nothing, kept_after_sound}
 use Rattle.gb_abs_memory.proofs.LoadLaws.{both_false, within_ctl, rom_at, ram-open, not_limited, taken, not_refused, if_ok}
 
 -- ---- no fault
@@ -175,17 +174,22 @@ controller_core core ctl entry x banks m h =
 
 controller_holds :
     (whole : Bool) (k : Kind) (r : ControllerRegister) (v : Val) (c : Ctl) (entry : Activation) (banks : Banks)
-    → InCtl (ctl_after k r v c) banks → KeepsBanks (kept_after whole r c.kept) entry.entered.storage.banks banks
+    → entry.program.kind ≡ known_kind whole k → InHalves (known_kind whole k) (ctl_written whole k r v c) banks
+    → KeepsBanks (known_kind whole k) (kept_after whole r c.kept) entry.entered.storage.banks banks
     → HoldsController (ctl_written whole k r v c) entry banks
-controller_holds whole k r v c entry banks i m = record {
-  bank_least = i.bank_least;
-  bank_most = i.bank_most;
-  second_least = i.second_least;
-  second_most = i.second_most;
-  gate = i.gate;
-  mode = i.mode;
-  kept = m;
+controller_holds whole k r v c entry banks is i m = record {
+  bank_least = i.within.bank_least;
+  bank_most = i.within.bank_most;
+  low_bank = subst (λ q. HoldsLowBank q (ctl_written whole k r v c) banks.bank) (sym is) i.low;
+  second_least = i.within.second_least;
+  second_most = i.within.second_most;
+  gate = i.within.gate;
+  mode = i.within.mode;
+  kept = subst (λ q. KeepsBanks q (kept_after whole r c.kept) entry.entered.storage.banks banks) (sym is) m;
 }
+
+in_halves : (k : Kind) (c : Ctl) (entry : Activation) (r : Banks) → entry.program.kind ≡ k → HoldsController c entry r → InHalves k c r
+in_halves k c entry r is h = record { within = within_ctl c entry r h; low = subst (λ q. HoldsLowBank q c r.bank) is h.low_bank }
 
 -- the controller after a store to a window
 abbrev written_in : Bool → Kind → Option ControllerRegister → Val → Ctl → Ctl
@@ -195,14 +199,15 @@ written_in whole k (Some r) v c = ctl_written whole k r v c
 -- a store in a window
 window_holds :
     (whole : Bool) (k : Kind) (w : Window) (a n : ℕ) (v : Val) (c : Ctl) (entry : Activation) (old : Banks) (o : Option ControllerRegister) → IsInWindow k w a → w.register ≡ o
+    → entry.program.kind ≡ known_kind whole k → v.hi ≤ 255
     → HoldsController c entry old → Holds v entry n → n ≤ 255 → HoldsController (written_in whole k o v c) entry (kind_after k old a n)
-window_holds whole k w a n v c entry old None at e h m byte = subst (λ b. HoldsController c entry b) (sym (window-nothing k w a n old at e)) h
-window_holds whole k w a n v c entry old (Some r) at e h m byte =
-    controller_holds whole k r v c entry _
-    (subst (λ o. InCtl (after_window k o v c) (kind_after k old a n)) e
-    (window-sound k w a n v c old at (within_ctl c entry old h) (record { least = m.least; most = m.most }) byte))
+window_holds whole k w a n v c entry old None at e is hi h m byte = subst (λ b. HoldsController c entry b) (sym (window-nothing k w a n old at e)) h
+window_holds whole k w a n v c entry old (Some r) at e is hi h m byte =
+    controller_holds whole k r v c entry _ is
+    (window-written whole k w a n v c old r at e (in_halves (known_kind whole k) c entry old is h) (record { least = m.least; most = m.most }) byte hi)
     ((kept_after_sound whole r c.kept _ refl).gives k a n entry.entered.storage.banks old
-    (record { window = w; is_window = at.is_window; register = e; first = at.first; last = at.last }) byte h.kept)
+    (record { window = w; is_window = at.is_window; register = e; first = at.first; last = at.last }) byte
+    (subst (λ q. KeepsBanks q c.kept entry.entered.storage.banks old) is h.kept))
 
 -- ---- one store
 
@@ -221,6 +226,8 @@ pub record AtStore (z : Setting) (rom : List ℕ) (region : Region) (ranges : Li
   pub address : a < 65536
   pub holds : Holds v entry n
   pub byte : n ≤ 255
+  pub hi : v.hi ≤ 255
+  pub kind : entry.program.kind ≡ known_kind z.is_whole (kind_of rom)
   pub faults : write_faults (view rom x starting) a n ≡ no_faults
   pub free : is_closed x.storage a ≡ false
   pub seen : may_start_oam_transfer span ≡ false
@@ -300,7 +307,7 @@ stored_window z rom region ranges s span v entry base x starting a n w h e =
     let m = h.means in
     let banks = kind_after (kind_of rom) x.storage.banks a n in
     let ctl = written_in z.is_whole (kind_of rom) w.register v s.core.ctl in
-    let holds = window_holds z.is_whole (kind_of rom) w a n v s.core.ctl entry x.storage.banks w.register at refl m.core.controller h.holds h.byte in
+    let holds = window_holds z.is_whole (kind_of rom) w a n v s.core.ctl entry x.storage.banks w.register at refl h.kind h.hi m.core.controller h.holds h.byte in
     let core = controller_core s.core ctl entry x banks m.core holds in
     subst (λ (t : AbsState). IsStored z (view rom x starting) a n region ranges s entry base x (record { state = t; starts = starts_oam_transfer span })) (window_state z region (kind_of rom) w.register span v s)
     (stored_as z (view rom x starting) (wrote_by mapped.Rom (view rom x starting) a n) a n region ranges s entry base x _ (written_at (view rom x starting) a n mapped.Rom h.free (rom_at a low)) h.faults
@@ -604,7 +611,7 @@ pub IsSoundStore-stored_state :
     → IsSoundStore z rom region ranges s span v (record { state = stored_state z region (kind_of rom) span v s; starts = starts_oam_transfer span })
 unfolding is_storable area_of stored_state is_store_limited
 IsSoundStore-stored_state z rom region ranges s span v storable ram limited = record {
-  gives = λ entry base x starting a n right m placed room region_is i lt k byte.
+  gives = λ entry base x starting a n right kind m placed room region_is i lt k byte hi.
       let both = or_parts _ _ limited in
       stored_by z rom region ranges s span v entry base x starting a n (window_of (kind_of rom) span)
       (record {
@@ -616,6 +623,8 @@ IsSoundStore-stored_state z rom region ranges s span v storable ram limited = re
         address = lt;
         holds = k;
         byte = byte;
+        hi = hi;
+        kind = kind;
         faults = write-faultless rom s.core entry x starting span v a n ram both.0 m.core i k;
         free = not_limited s.core entry x span a m.core i both.0;
         seen = both.1;

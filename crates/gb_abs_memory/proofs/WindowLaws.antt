@@ -1,5 +1,5 @@
 -- A store to a register of a controller: the bounds and sets after it hold what the machine's register may be, and no more.
-use Rattle.std.proofs.Common.{◌≡◌, ℕ, ◌+◌, ◌-◌, ◌*◌, ◌/◌, ◌%◌, ◌<◌, ◌≤◌, Bool, true, false, ◌||◌, ◌==◌, Option, Some, None, refl, sym, ap, subst, arith}
+use Rattle.std.proofs.Common.{◌≡◌, ℕ, ◌+◌, ◌-◌, ◌*◌, ◌/◌, ◌%◌, ◌<◌, ◌≤◌, Bool, true, false, cond, ◌&&◌, ◌||◌, ◌==◌, nat_le, Option, Some, None, refl, sym, ap, subst, arith}
 use Rattle.std.proofs.lemmas.Bool.Decides.{nat_tests}
 use Rattle.gb_ops.specs.declared.machine.Banks.{Banks}
 use Rattle.gb_ops.specs.declared.machine.Kind.{Kind}
@@ -16,7 +16,7 @@ use Rattle.gb_abs.proofs.Below.gb_vals_laws.MeaningLaws.{may_be-by}
 use Rattle.gb_abs_memory.specs.declared.windows.ControllerRegister.{ControllerRegister}
 use Rattle.gb_abs_memory.specs.declared.windows.ControllerRegister.TheVariants as register
 use Rattle.gb_abs_memory.specs.declared.windows.Window.{Window}
-use Rattle.gb_abs_memory.specs.Windows.{kept_but, ctl_written, cut_least, cut_most, has_rest, has_other_rest, gate_after, mode_after, bank_after, low_bank_after, high_bank_after, second_after, bank_values, second_values, ctl_after, InCtl, Leads, IsLeast}
+use Rattle.gb_abs_memory.specs.Windows.{kept_but, low_bank_least, low_bank_most, high_half_after, is_high, ctl_by, ctl_written, cut_least, cut_most, has_rest, has_other_rest, gate_after, mode_after, bank_after, low_bank_after, high_bank_after, second_after, bank_values, second_values, ctl_after, InCtl, InHalves, Leads, IsLeast}
 use Rattle.gb_abs_memory.proofs.CutLaws.{cut_holds, cut_least-reached, cut_most-reached, cut_most-below, cut_order}
 
 -- ---- the gate and the mode
@@ -305,23 +305,26 @@ kept_in None k = k
 kept_in (Some r) k = kept_but r k
 
 -- a write leaves what is kept
-abbrev pub Keeps : Option ControllerRegister → (Banks → ℕ → Banks) → Type 0
-Keeps o write = (kept : KeptBanks) (before old : Banks) (n : ℕ) → n ≤ 255 → KeepsBanks kept before old → KeepsBanks (kept_in o kept) before (write old n)
+abbrev pub Keeps : Kind → Option ControllerRegister → (Banks → ℕ → Banks) → Type 0
+Keeps k o write = (kept : KeptBanks) (before old : Banks) (n : ℕ) → n ≤ 255 → KeepsBanks k kept before old → KeepsBanks k (kept_in o kept) before (write old n)
 
-pub gate_keeps : (g : ℕ → Bool) → Keeps (Some register.Gate) (write_gate g)
-gate_keeps g kept before old n byte m = record { bank = m.bank; second = m.second; gate = λ e. absurd (cc); mode = m.mode; high_bank = m.high_bank }
+pub gate_keeps : (k : Kind) (g : ℕ → Bool) → Keeps k (Some register.Gate) (write_gate g)
+gate_keeps k g kept before old n byte m = record { bank = m.bank; second = m.second; gate = λ e. absurd (cc); mode = m.mode; high_bank = m.high_bank }
 
-pub mode_keeps : (g : ℕ → Bool) → Keeps (Some register.Mode) (write_mode g)
-mode_keeps g kept before old n byte m = record { bank = m.bank; second = m.second; gate = m.gate; mode = λ e. absurd (cc); high_bank = m.high_bank }
+pub mode_keeps : (k : Kind) (g : ℕ → Bool) → Keeps k (Some register.Mode) (write_mode g)
+mode_keeps k g kept before old n byte m = record { bank = m.bank; second = m.second; gate = m.gate; mode = λ e. absurd (cc); high_bank = m.high_bank }
 
-pub second_keeps : (g : ℕ → ℕ) → Keeps (Some register.Second) (write_second g)
-second_keeps g kept before old n byte m = record { bank = m.bank; second = λ e. absurd (cc); gate = m.gate; mode = m.mode; high_bank = m.high_bank }
+pub second_keeps : (k : Kind) (g : ℕ → ℕ) → Keeps k (Some register.Second) (write_second g)
+second_keeps k g kept before old n byte m = record { bank = m.bank; second = λ e. absurd (cc); gate = m.gate; mode = m.mode; high_bank = m.high_bank }
 
-pub bank_keeps : (g : ℕ → ℕ → ℕ) → Keeps (Some register.Bank) (write_bank g)
-bank_keeps g kept before old n byte m = record { bank = λ e. absurd (cc); second = m.second; gate = m.gate; mode = m.mode; high_bank = λ e. absurd (cc) }
+pub mbc1_keeps : (g : ℕ → ℕ → ℕ) → Keeps kind.Mbc1 (Some register.Bank) (write_bank g)
+mbc1_keeps g kept before old n byte m = record { bank = λ e. absurd (cc); second = m.second; gate = m.gate; mode = m.mode; high_bank = λ e. tt }
 
-pub nothing_keeps : Keeps None (λ old n. old)
-nothing_keeps kept before old n byte m = m
+pub mbc3_keeps : (g : ℕ → ℕ → ℕ) → Keeps kind.Mbc3 (Some register.Bank) (write_bank g)
+mbc3_keeps g kept before old n byte m = record { bank = λ e. absurd (cc); second = m.second; gate = m.gate; mode = m.mode; high_bank = λ e. tt }
+
+pub nothing_keeps : (k : Kind) → Keeps k None (λ old n. old)
+nothing_keeps k kept before old n byte m = m
 
 -- a store to a window leaves registers within the bounds, and no smaller ones hold them; what is kept by the others stays so
 pub record IsRight (k : Kind) (w : Window) : Type 0 where
@@ -329,7 +332,7 @@ pub record IsRight (k : Kind) (w : Window) : Type 0 where
   pub least : (a : ℕ) (v : Val) (c : Ctl) → w.first ≤ a → a ≤ w.last → IsVal v → IsCtl c → IsLeast (λ old n. kind_after k old a n) v c (after_window k w.register v c)
   pub keeps :
       (a n : ℕ) (kept : KeptBanks) (before old : Banks)
-      → w.first ≤ a → a ≤ w.last → n ≤ 255 → KeepsBanks kept before old → KeepsBanks (kept_in w.register kept) before (kind_after k old a n)
+      → w.first ≤ a → a ≤ w.last → n ≤ 255 → KeepsBanks k kept before old → KeepsBanks k (kept_in w.register kept) before (kind_after k old a n)
 
 leads_as :
     (f g : Banks → ℕ → Banks) (v : Val) (c : Ctl) (P : Banks → Type 0) → ((n : ℕ) (old : Banks) → n ≤ 255 → f old n ≡ g old n) → IsVal v
@@ -360,11 +363,11 @@ least_as f g v c after e q l = record {
 pub is_right :
     (k : Kind) (w : Window) (write : Banks → ℕ → Banks) → IsWrite k w write
     → ((v : Val) (c : Ctl) → IsSound write v c (after_window k w.register v c))
-    → ((v : Val) (c : Ctl) → IsVal v → IsCtl c → IsLeast write v c (after_window k w.register v c)) → Keeps w.register write → IsRight k w
+    → ((v : Val) (c : Ctl) → IsVal v → IsCtl c → IsLeast write v c (after_window k w.register v c)) → Keeps k w.register write → IsRight k w
 is_right k w write e sound least keep = record {
   sound = λ a n v c old first last m i byte. subst (λ r. InCtl (after_window k w.register v c) r) (sym (e a n old first last byte)) ((sound v c).gives n old m i byte);
   least = λ a v c first last q k'. least_as (λ old n. kind_after k old a n) write v c (after_window k w.register v c) (λ n old byte. e a n old first last byte) q (least v c q k');
-  keeps = λ a n kept before old first last byte m. subst (KeepsBanks (kept_in w.register kept) before) (sym (e a n old first last byte)) (keep kept before old n byte m);
+  keeps = λ a n kept before old first last byte m. subst (KeepsBanks k (kept_in w.register kept) before) (sym (e a n old first last byte)) (keep kept before old n byte m);
 }
 
 -- ---- the registers' new values
@@ -422,6 +425,32 @@ high_sound v c =
     let r = low.least_le in
     let s = low.le_most in
     (omega arith, omega arith))
+
+-- bit 8 is stored where the low eight bits have bounds of their own
+pub high_half_sound : (v : Val) (c : Ctl) (old : Banks) (n : ℕ) → InHalves kind.Mbc5 c old → InBounds v n → InHalves kind.Mbc5 (high_half_after v c) (write_bank high_written old n)
+unfolding low_bank_least low_bank_most
+high_half_sound v c old n m i =
+    let bit = cut_holds 2 v.lo v.hi n (omega arith) i.least i.most in
+    let p = bit.least_le in
+    let q = bit.le_most in
+    let low = m.low.0 in
+    let high = m.low.1 in
+    let ordered : nat_le (c.bank_lo % 256) (c.bank_hi % 256) ≡ true = grind (arith, nat_tests) in
+    let least : low_bank_least c ≡ c.bank_lo % 256 = rw ordered refl in
+    let most : low_bank_most c ≡ c.bank_hi % 256 = rw ordered refl in
+    let bit_lo = cut_least 2 v.lo v.hi in
+    let bit_hi = cut_most 2 v.lo v.hi in
+    record {
+      within = record {
+        bank_least = rw least (omega arith);
+        bank_most = rw most (omega arith);
+        second_least = m.within.second_least;
+        second_most = m.within.second_most;
+        gate = m.within.gate;
+        mode = m.within.mode;
+      };
+      low = (rw least (omega arith), rw most (omega arith));
+    }
 
 pub high_least : (v : Val) (c : Ctl) → IsVal v → IsCtl c → IsLeast (write_bank high_written) v c (high_bank_after v c)
 high_least v c q k =
@@ -515,13 +544,35 @@ ctl_after-valid k register.Mode v c p q = record {
   mode = value_from (mode_after v) _ (mode_holds v v.lo (least_in v p));
 }
 
-pub low_keeps : Keeps (Some register.LowBank) (write_bank low_written)
+pub low_keeps : Keeps kind.Mbc5 (Some register.LowBank) (write_bank low_written)
 low_keeps kept before old n byte m = record { bank = λ e. absurd (cc); second = m.second; gate = m.gate; mode = m.mode; high_bank = λ e. let h = m.high_bank e in omega arith }
 
-pub high_keeps : Keeps (Some register.HighBank) (write_bank high_written)
+pub high_keeps : Keeps kind.Mbc5 (Some register.HighBank) (write_bank high_written)
 high_keeps kept before old n byte m = record { bank = λ e. let h = m.bank e in omega arith; second = m.second; gate = m.gate; mode = m.mode; high_bank = λ e. absurd (cc) }
+
+-- the ends of the low eight bits are bytes in order
+pub low_ends_small : (c : Ctl) → (low_bank_least c ≤ low_bank_most c) × (low_bank_most c ≤ 255)
+unfolding low_bank_least low_bank_most
+low_ends_small c = (grind (arith, nat_tests), grind (arith, nat_tests))
+
+pub high_half-valid : (v : Val) (c : Ctl) → IsVal v → IsCtl c → IsCtl (high_half_after v c)
+high_half-valid v c p q =
+    let bit = cut_most-below 2 v.lo v.hi (omega arith) in
+    let first = cut_order 2 v.lo v.hi (omega arith) p.order in
+    let small = low_ends_small c in
+    let order = small.0 in
+    let most = small.1 in
+    bank_valid c _ _ q (omega arith) (omega arith)
+
+ctl_by-valid : (whole : Bool) (k : Kind) (r : ControllerRegister) (v : Val) (c : Ctl) → IsVal v → IsCtl c → IsCtl (ctl_by whole k r v c)
+unfolding ctl_by
+ctl_by-valid whole k r v c p q = choose (whole && is_high r)
+  where
+    choose : (b : Bool) → IsCtl (cond b (high_half_after v c) (ctl_after k r v c))
+    choose true = high_half-valid v c p q
+    choose false = ctl_after-valid k r v c p q
 
 pub ctl_written-valid : (whole : Bool) (k : Kind) (r : ControllerRegister) (v : Val) (c : Ctl) → IsVal v → IsCtl c → IsCtl (ctl_written whole k r v c)
 ctl_written-valid whole k r v c p q =
-    let h = ctl_after-valid k r v c p q in
+    let h = ctl_by-valid whole k r v c p q in
     record { bank = h.bank; bank_hi = h.bank_hi; second = h.second; second_hi = h.second_hi; gate = h.gate; mode = h.mode }

@@ -2,7 +2,7 @@
 use Rattle.std.specs.Prelude.{◌≡◌, ℕ, ◌*◌, ◌^◌, ◌<◌, ◌≤◌, Bool, true, false, ◌||◌, ◌==◌, List, slice_index, length}
 use Rattle.std.specs.List.{AllByRecursion, list_any}
 use Rattle.gb_ops.specs.declared.machine.Region.{Region}
-use Rattle.gb_ops.specs.Cartridge.{rom_banks}
+use Rattle.gb_ops.specs.Cartridge.{kind_of, rom_banks}
 use Rattle.gb_ops.specs.Memory.{View, wrote}
 use Rattle.gb_ops.specs.Machine.{read_at}
 use Rattle.gb_ops.specs.Faults.{no_faults, access_faults, write_faults}
@@ -25,6 +25,7 @@ use Rattle.gb_abs.specs.Meaning.{Activation, Holds, MeansParts}
 use Rattle.gb_abs_memory.specs.declared.store.Stored.{Stored}
 use Rattle.gb_abs_memory.specs.Access.{is_range}
 use Rattle.gb_abs_memory.specs.Kept.{keeps, IsKept}
+use Rattle.gb_abs_memory.specs.Windows.{known_kind}
 
 -- a number of banks that a cartridge may have: 2 to 512
 pub record IsSize (banks : ℕ) : Type 0 where
@@ -72,9 +73,11 @@ pub record IsStored (z : Setting) (m : View) (a n : ℕ) (region : Region) (rang
   pub items : z.rules ≡ Simple → o.state.items ≡ s.items
   pub placed : ArePlaced region o.state.cells
 
--- of each of these states, of a procedure whose base is what is said, to each of these addresses, each byte that v stands for
+-- of each of these states, of a procedure whose base is what is said in a program whose controller is known by the rules of version 4,
+-- to each of these addresses, each byte that v stands for
 pub record IsSoundStore (z : Setting) (rom : List ℕ) (region : Region) (ranges : List Range) (s : AbsState) (span : Span) (v : Val) (o : Stored) : Type 0 where
   pub gives : (entry : Activation) (base : ℕ) (x : MState) (starting : Bool) (a n : ℕ)
-      → IsBase z base → MeansParts s entry base x → ArePlaced region s.cells → AreInRegion region base (length s.items) → IsRegion region
-      → IsIn span a → a < 65536 → Holds v entry n → n ≤ 255
+      → IsBase z base → entry.program.kind ≡ known_kind z.is_whole (kind_of rom) → MeansParts s entry base x
+      → ArePlaced region s.cells → AreInRegion region base (length s.items) → IsRegion region
+      → IsIn span a → a < 65536 → Holds v entry n → n ≤ 255 → v.hi ≤ 255
       → IsStored z (view rom x starting) a n region ranges s entry base x o

@@ -1,5 +1,5 @@
 -- The windows of a controller's registers, and what a store there leaves (MBCs; the least bounds are own).
-use Rattle.std.specs.Prelude.{◌≡◌, ℕ, ◌+◌, ◌-◌, ◌*◌, ◌/◌, ◌%◌, ◌≤◌, Bool, true, false, not, ◌||◌, ◌==◌, nat_lt, nat_le, if◌then◌else◌, List, [], ◌∷◌, Option, Some, None}
+use Rattle.std.specs.Prelude.{◌≡◌, ℕ, ◌+◌, ◌-◌, ◌*◌, ◌/◌, ◌%◌, ◌≤◌, Bool, true, false, not, ◌&&◌, ◌||◌, ◌==◌, nat_lt, nat_le, if◌then◌else◌, List, [], ◌∷◌, Option, Some, None}
 use Rattle.std.specs.List.{find, Contains}
 use Rattle.gb_ops.specs.declared.machine.Banks.{Banks}
 use Rattle.gb_ops.specs.declared.machine.Kind.{Kind}
@@ -11,7 +11,7 @@ use Rattle.gb_domain.specs.declared.types.Ctl.{Ctl}
 use Rattle.gb_domain.specs.declared.types.KeptBanks.{KeptBanks}
 use Rattle.gb_domain.specs.Types.{all_or_none}
 use Rattle.gb_abs.specs.Below.gb_vals.Meaning.{InBounds, may_be}
-use Rattle.gb_abs.specs.Meaning.{KeepsBanks}
+use Rattle.gb_abs.specs.Meaning.{HoldsLowBank, KeepsBanks}
 use Rattle.gb_abs.specs.declared.span.Span.{Span}
 use Rattle.gb_abs.specs.Span.{is_inside}
 use Rattle.gb_abs_memory.specs.declared.windows.ControllerRegister.{ControllerRegister}
@@ -84,7 +84,7 @@ abbrev pub bank_after : ℕ → Val → Ctl → Ctl
 bank_after n v c =
     record c { bank_lo = at_least_one (cut_least n v.lo v.hi); bank_hi = at_least_one (cut_most n v.lo v.hi) }
 
--- the bank of MBC5: its low eight bits, and its bit 8
+-- the bank of MBC5: its low eight bits, and its bit 8, as one number
 abbrev pub low_bank_after : Val → Ctl → Ctl
 low_bank_after v c =
     record c { bank_lo = c.bank_lo / 256 * 256 + v.lo; bank_hi = c.bank_hi / 256 * 256 + v.hi }
@@ -108,10 +108,33 @@ ctl_after k register.HighBank v c = high_bank_after v c
 ctl_after k register.Second v c = second_after (second_values k) v c
 ctl_after k register.Mode v c = record c { mode = mode_after v }
 
--- all that is kept but the register; a bank that is one register is both its parts
+-- the low eight bits of the least and of the greatest bank; where these are out of order no bank is meant, and they are any
+abbrev pub are_low_ordered : Ctl → Bool
+are_low_ordered c = nat_le (c.bank_lo % 256) (c.bank_hi % 256)
+
+unfoldable pub low_bank_least : Ctl → ℕ
+low_bank_least c = if are_low_ordered c then c.bank_lo % 256 else 0
+
+unfoldable pub low_bank_most : Ctl → ℕ
+low_bank_most c = if are_low_ordered c then c.bank_hi % 256 else 255
+
+-- MBC5's bit 8 is stored, where the low eight bits have bounds of their own
+abbrev pub high_half_after : Val → Ctl → Ctl
+high_half_after v c =
+    record c { bank_lo = cut_least 2 v.lo v.hi * 256 + low_bank_least c; bank_hi = cut_most 2 v.lo v.hi * 256 + low_bank_most c }
+
+abbrev pub is_high : ControllerRegister → Bool
+is_high register.HighBank = true
+is_high _ = false
+
+-- by the rules of version 4 the halves of MBC5's bank have bounds of their own, by those before the whole bank has
+unfoldable pub ctl_by : Bool → Kind → ControllerRegister → Val → Ctl → Ctl
+ctl_by w k r v c = if w && is_high r then high_half_after v c else ctl_after k r v c
+
+-- all that is kept but the register
 abbrev pub kept_but : ControllerRegister → KeptBanks → KeptBanks
 kept_but register.Gate k = record k { gate = false }
-kept_but register.Bank k = record k { bank = false; high_bank = false }
+kept_but register.Bank k = record k { bank = false }
 kept_but register.LowBank k = record k { bank = false }
 kept_but register.HighBank k = record k { high_bank = false }
 kept_but register.Second k = record k { second = false }
@@ -124,7 +147,7 @@ kept_after false r k = all_or_none false
 
 -- the controller after a store
 abbrev pub ctl_written : Bool → Kind → ControllerRegister → Val → Ctl → Ctl
-ctl_written w k r v c = record (ctl_after k r v c) { kept = kept_after w r c.kept }
+ctl_written w k r v c = record (ctl_by w k r v c) { kept = kept_after w r c.kept }
 
 -- ---- what that promises
 
@@ -177,8 +200,24 @@ IsWrittenAlone register.Second c after = after ≡ record c { second_lo = after.
 IsWrittenAlone register.Mode c after = after ≡ record c { mode = after.mode }
 IsWrittenAlone _ c after = after ≡ record c { bank_lo = after.bank_lo; bank_hi = after.bank_hi }
 
+-- the controller of which states speak: the cartridge's by the rules of version 4, and none by those before
+abbrev pub known_kind : Bool → Kind → Kind
+known_kind true k = k
+known_kind false k = kind.Rom
+
 -- of the registers that were what they were before something, those that are said to be kept are so after the store
-pub record IsSoundKeeping (r : ControllerRegister) (kept after : KeptBanks) : Type 0 where
+pub record IsSoundKeeping (w : Bool) (r : ControllerRegister) (kept after : KeptBanks) : Type 0 where
   pub gives :
       (k : Kind) (a n : ℕ) (before old : Banks)
-      → IsAddressOf k r a → n ≤ 255 → KeepsBanks kept before old → KeepsBanks after before (kind_after k old a n)
+      → IsAddressOf k r a → n ≤ 255 → KeepsBanks (known_kind w k) kept before old → KeepsBanks (known_kind w k) after before (kind_after k old a n)
+
+-- the registers lie within the bounds and sets, and the low eight bits of MBC5's bank within their own
+pub record InHalves (k : Kind) (c : Ctl) (r : Banks) : Type 0 where
+  pub within : InCtl c r
+  pub low : HoldsLowBank k c r.bank
+
+-- whatever the registers are and whichever byte within the bounds is stored, they are within the result, by the rules of the version
+pub record IsSoundWriting (w : Bool) (k : Kind) (r : ControllerRegister) (v : Val) (c after : Ctl) : Type 0 where
+  pub gives :
+      (a n : ℕ) (old : Banks) → IsAddressOf k r a → InHalves (known_kind w k) c old → InBounds v n → n ≤ 255 → v.hi ≤ 255
+      → InHalves (known_kind w k) after (kind_after k old a n)

@@ -267,7 +267,29 @@ fn written(kind: Kind, register: ControllerRegister, val: &Val, ctl: &Ctl) -> Ct
     }
 }
 
-/// All that is kept but a register. A bank that is one register is both its parts.
+/// The least and the greatest low eight bits of MBC5's bank, where they have bounds of their own: any where these are out of order.
+#[tactic(auto, unfolding(crate::specs::Windows::low_bank_least, crate::specs::Windows::low_bank_most))]
+pub fn low_ends(ctl: &Ctl) -> (u8, u8)
+    ensures { result ≡ (Windows.low_bank_least ctl.now, Windows.low_bank_most ctl.now) }
+{
+    let (lo, hi) = ((ctl.bank_lo % 256) as u8, (ctl.bank_hi % 256) as u8);
+    if lo <= hi { (lo, hi) } else { (0, 255) }
+}
+
+/// MBC5's bank with another bit 8, where its low eight bits have bounds of their own.
+fn high_half_after(val: &Val, ctl: &Ctl) -> Ctl
+    ensures { result ≡ Windows.high_half_after val.now ctl.now }
+{
+    let (lo, hi) = (val.lo as u16, val.hi as u16);
+    let (low_least, low_most) = low_ends(ctl);
+    Ctl {
+        bank_lo: cut_least(2, lo, hi) * 256 + u16::from(low_least),
+        bank_hi: cut_most(2, lo, hi) * 256 + u16::from(low_most),
+        ..*ctl
+    }
+}
+
+/// All that is kept but a register.
 fn kept_but(register: ControllerRegister, kept: KeptBanks) -> KeptBanks
     ensures { result ≡ Windows.kept_but register kept }
 {
@@ -276,12 +298,7 @@ fn kept_but(register: ControllerRegister, kept: KeptBanks) -> KeptBanks
             gate: false,
             ..kept
         },
-        ControllerRegister::Bank => KeptBanks {
-            bank: false,
-            high_bank: false,
-            ..kept
-        },
-        ControllerRegister::LowBank => KeptBanks {
+        ControllerRegister::Bank | ControllerRegister::LowBank => KeptBanks {
             bank: false,
             ..kept
         },
@@ -315,12 +332,41 @@ fn kept_by(is_whole: bool, register: ControllerRegister, kept: KeptBanks) -> Kep
 #[tactic(auto, using(crate::proofs::ControllerLaws::kept_after_sound))]
 pub fn kept_after(is_whole: bool, register: ControllerRegister, kept: KeptBanks) -> KeptBanks
     ensures exact { result ≡ Windows.kept_after is_whole register kept }
-    ensures sound { Windows.IsSoundKeeping register kept result }
+    ensures sound { Windows.IsSoundKeeping is_whole register kept result }
 {
     kept_by(is_whole, register, kept)
 }
 
-/// The controller after a store of any of these bytes to one of its registers: what `ctl_after` and `kept_after` say.
+fn is_high(register: ControllerRegister) -> bool
+    ensures { result ≡ Windows.is_high register }
+{
+    matches!(register, ControllerRegister::HighBank)
+}
+
+fn written_by(is_whole: bool, kind: Kind, register: ControllerRegister, val: &Val, ctl: &Ctl) -> Ctl
+    ensures { result ≡ Windows.ctl_written is_whole kind register val.now ctl.now }
+{
+    Ctl {
+        kept: kept_after(is_whole, register, ctl.kept),
+        ..ctl_by(is_whole, kind, register, val, ctl)
+    }
+}
+
+/// The controller's registers after a store of any of these bytes to one of them: by the rules of version 4 (`is_whole`) the halves of
+/// MBC5's bank have bounds of their own, by those of the others the whole bank has.
+#[tactic(auto, unfolding(crate::specs::Windows::ctl_by))]
+fn ctl_by(is_whole: bool, kind: Kind, register: ControllerRegister, val: &Val, ctl: &Ctl) -> Ctl
+    ensures { result ≡ Windows.ctl_by is_whole kind register val.now ctl.now }
+{
+    if is_whole && is_high(register) {
+        high_half_after(val, ctl)
+    } else {
+        ctl_after(kind, register, val, ctl)
+    }
+}
+
+/// The controller after a store of any of these bytes to one of its registers: its registers, and what is kept (`kept_after`).
+#[tactic(auto, using(crate::proofs::ControllerLaws::ctl_written_sound))]
 pub fn ctl_written(
     is_whole: bool,
     kind: Kind,
@@ -328,12 +374,10 @@ pub fn ctl_written(
     val: &Val,
     ctl: &Ctl,
 ) -> Ctl
-    ensures { result ≡ Windows.ctl_written is_whole kind register val.now ctl.now }
+    ensures exact { result ≡ Windows.ctl_written is_whole kind register val.now ctl.now }
+    ensures sound { Windows.IsSoundWriting is_whole kind register val.now ctl.now result }
 {
-    Ctl {
-        kept: kept_after(is_whole, register, ctl.kept),
-        ..ctl_after(kind, register, val, ctl)
-    }
+    written_by(is_whole, kind, register, val, ctl)
 }
 
 /// The controller's registers after a store of any of these bytes to one of them: the least bounds

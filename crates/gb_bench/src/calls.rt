@@ -2,7 +2,7 @@
 
 use crate::certificates::{ANY, BASE, FEW, REGION, node};
 use arrayvec::ArrayVec;
-use gb_cert::{NodePlan, ProcedurePlan, Version, WriteFault, write_certificate};
+use gb_cert::{CertificatePlan, NodePlan, ProcedurePlan, Version, WriteFault, write_certificate};
 use gb_domain::relations::Relations;
 use gb_domain::types::{Abs, Core, Flg, May, Origin, Val};
 use gb_ops::registers::Registers;
@@ -139,6 +139,8 @@ pub fn bytes(alloc: Global, start: Core) -> Result<Vec<u8>, WriteFault> {
         base: BASE,
         need: 2,
         ranges: &[],
+        kept: &[],
+        mark: 0,
         exit: None,
     };
     let callee = ProcedurePlan {
@@ -146,6 +148,8 @@ pub fn bytes(alloc: Global, start: Core) -> Result<Vec<u8>, WriteFault> {
         base: 0,
         need: 0,
         ranges: &[],
+        kept: &[],
+        mark: 0,
         exit: Some(&any),
     };
     let mut nodes = Vec::new(alloc);
@@ -153,11 +157,12 @@ pub fn bytes(alloc: Global, start: Core) -> Result<Vec<u8>, WriteFault> {
     nodes.push(node(1, CALLEE, &called))?;
     let left = FEW - TIMES * MAINS - 1;
     push_times(left, node(1, CALLEE + 1, &called), &mut nodes)?;
-    write_certificate(
-        alloc,
-        Version::Three,
-        REGION,
-        &[main, callee],
-        nodes.as_slice(),
-    )
+    let plan = CertificatePlan {
+        version: Version::Three,
+        region: REGION,
+        facts: &[],
+        procedures: &[main, callee],
+        nodes: nodes.as_slice(),
+    };
+    write_certificate(alloc, &plan)
 }

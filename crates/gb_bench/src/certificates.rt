@@ -1,7 +1,7 @@
 //! Certificates of many nodes, each with the cartridge that it is for. In all of them each node is right. `Sample` names them.
 
 use crate::{calls, crowded};
-use gb_cert::{NodePlan, ProcedurePlan, Version, WriteFault, write_certificate};
+use gb_cert::{CertificatePlan, NodePlan, ProcedurePlan, Version, WriteFault, write_certificate};
 use gb_domain::types::{Abs, Core, Val};
 use gb_ops::machine::Region;
 use gb_ops::registers::Registers;
@@ -107,12 +107,14 @@ fn procedure(entry: u32, base: u16) -> ProcedurePlan<'static> {
         base,
         need: 0,
         ranges: &[],
+        kept: &[],
+        mark: 0,
         exit: None,
     }
 }
 
 /// A node in the bank that is shown at its address.
-pub(crate) fn node(procedure: u8, address: u16, state: &Abs) -> NodePlan<'_> {
+pub(crate) fn node(procedure: u16, address: u16, state: &Abs) -> NodePlan<'_> {
     NodePlan {
         procedure,
         address,
@@ -128,7 +130,14 @@ fn main_alone(
     entry: u32,
     nodes: &[NodePlan<'_>],
 ) -> Result<Vec<u8>, WriteFault> {
-    write_certificate(alloc, version, REGION, &[procedure(entry, BASE)], nodes)
+    let plan = CertificatePlan {
+        version,
+        region: REGION,
+        facts: &[],
+        procedures: &[procedure(entry, BASE)],
+        nodes,
+    };
+    write_certificate(alloc, &plan)
 }
 
 /// Straight-line code: each address has two or three nodes, all in the same state.
@@ -166,7 +175,7 @@ fn push_below<'a>(
     nodes: &mut Vec<NodePlan<'a>>,
 ) -> Result<(), AllocError> {
     for place in 0..ADDRESSES {
-        nodes.push(node(number, address_of(place), state))?;
+        nodes.push(node(u16::from(number), address_of(place), state))?;
     }
     Ok(())
 }
@@ -187,13 +196,14 @@ fn procedures(alloc: Global, start: Core) -> Result<Vec<u8>, WriteFault> {
         procedures.push(procedure(TWICE + u32::from(number) * ADDRESSES, 0))?;
         push_below(number, &below, &mut nodes)?;
     }
-    write_certificate(
-        alloc,
-        Version::Two,
-        REGION,
-        procedures.as_slice(),
-        nodes.as_slice(),
-    )
+    let plan = CertificatePlan {
+        version: Version::Two,
+        region: REGION,
+        facts: &[],
+        procedures: procedures.as_slice(),
+        nodes: nodes.as_slice(),
+    };
+    write_certificate(alloc, &plan)
 }
 
 /// 65,535 nodes at 0100, all in the same state.

@@ -4,7 +4,7 @@
 use crate::calls::put;
 use crate::certificates::{ANY, BASE, REGION, node};
 use arrayvec::ArrayVec;
-use gb_cert::{NodePlan, ProcedurePlan, Version, WriteFault, write_certificate};
+use gb_cert::{CertificatePlan, NodePlan, ProcedurePlan, Version, WriteFault, write_certificate};
 use gb_domain::pairs::{ANY_BOUNDS, Link, Other, PairFacts, Pairs};
 use gb_domain::relations::Relations;
 use gb_domain::types::{Abs, Core, Val};
@@ -142,6 +142,8 @@ pub fn bytes(alloc: Global, start: Core) -> Result<Vec<u8>, WriteFault> {
         base: BASE,
         need: 0,
         ranges: &[],
+        kept: &[],
+        mark: 0,
         exit: None,
     };
     let mut nodes = Vec::new(alloc);
@@ -153,5 +155,12 @@ pub fn bytes(alloc: Global, start: Core) -> Result<Vec<u8>, WriteFault> {
     for _ in 0..TIMES {
         push_each(0x158, wide.as_slice(), &mut nodes)?;
     }
-    write_certificate(alloc, Version::Three, REGION, &[main], nodes.as_slice())
+    let plan = CertificatePlan {
+        version: Version::Three,
+        region: REGION,
+        facts: &[],
+        procedures: &[main],
+        nodes: nodes.as_slice(),
+    };
+    write_certificate(alloc, &plan)
 }

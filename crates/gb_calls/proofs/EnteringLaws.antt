@@ -12,11 +12,13 @@ use Rattle.gb_domain.specs.declared.types.Val.{Val}
 use Rattle.gb_domain.specs.declared.types.Core.{Core}
 use Rattle.gb_domain.specs.Types.{AbsState, origin_of_register}
 use Rattle.gb_product.specs.Below.gb_abs.Storage.{peek}
-use Rattle.gb_product.specs.Below.gb_abs.Meaning.{Activation, Holds, MeansCore}
+use Rattle.gb_ops.specs.declared.machine.Kind.{Kind}
+use Rattle.gb_ops.specs.declared.machine.Kind.TheVariants as kind
+use Rattle.gb_product.specs.Below.gb_abs.Meaning.{Activation, Holds, IsBankKept, IsHighBankKept, HoldsLowBank, MeansCore}
 use Rattle.gb_product.specs.Below.gb_abs.Origins.{own, cell_without_origin}
 use Rattle.gb_product.specs.Below.gb_summaries.Meaning.{HoldSummary}
 use Rattle.gb_product.proofs.SummaryLaws.{HoldSummary-with_cells}
-use Rattle.gb_product.proofs.Below.gb_abs_laws.OriginLaws.{origin_value-of_register, Holds-own, AreCells-without_origins}
+use Rattle.gb_product.proofs.Below.gb_abs_laws.OriginLaws.{origin_value-of_register, Holds-own, HoldsLowBank-bounds, AreCells-without_origins}
 use Rattle.gb_product.proofs.Below.gb_summaries_laws.MeaningLaws.{nothing_holds}
 use Rattle.gb_product.specs.Meaning.{Means}
 use Rattle.gb_calls.specs.Calls.{own_registers, entered_core, entered_by}
@@ -36,8 +38,21 @@ register_own s E = refl
 register_own s H = refl
 register_own s L = refl
 
-MeansCore-entered : (s : Core) (entry begun : Activation) → MeansCore s entry begun.entered → MeansCore (entered_core s) begun begun.entered
-MeansCore-entered s entry begun m =
+-- what stays is kept
+bank_kept_itself : (k : Kind) (b : ℕ) → IsBankKept k b b
+bank_kept_itself kind.Rom b = refl
+bank_kept_itself kind.Mbc1 b = refl
+bank_kept_itself kind.Mbc3 b = refl
+bank_kept_itself kind.Mbc5 b = refl
+
+high_kept_itself : (k : Kind) (b : ℕ) → IsHighBankKept k b b
+high_kept_itself kind.Rom b = refl
+high_kept_itself kind.Mbc1 b = tt
+high_kept_itself kind.Mbc3 b = tt
+high_kept_itself kind.Mbc5 b = refl
+
+MeansCore-entered : (s : Core) (entry begun : Activation) → begun.program ≡ entry.program → MeansCore s entry begun.entered → MeansCore (entered_core s) begun begun.entered
+MeansCore-entered s entry begun same m =
     record {
       registers = λ r. subst (λ v. Holds v begun (get r begun.entered.processor.registers)) (sym (register_own s.registers r))
           (Holds-own (origin_of_register r) (get r s.registers) entry begun (get r begun.entered.processor.registers) (m.registers r)
@@ -54,11 +69,19 @@ MeansCore-entered s entry begun m =
       controller = record {
         bank_least = m.controller.bank_least;
         bank_most = m.controller.bank_most;
+        low_bank = HoldsLowBank-bounds begun.program.kind s.ctl (entered_core s).ctl begun.entered.storage.banks.bank refl refl
+            (subst (λ p. HoldsLowBank p.kind s.ctl begun.entered.storage.banks.bank) (sym same) m.controller.low_bank);
         second_least = m.controller.second_least;
         second_most = m.controller.second_most;
         gate = m.controller.gate;
         mode = m.controller.mode;
-        kept = record { bank = λ e. refl; second = λ e. refl; gate = λ e. refl; mode = λ e. refl; high_bank = λ e. refl };
+        kept = record {
+          bank = λ e. bank_kept_itself begun.program.kind _;
+          second = λ e. refl;
+          gate = λ e. refl;
+          mode = λ e. refl;
+          high_bank = λ e. high_kept_itself begun.program.kind _;
+        };
       };
       count = m.count;
       locked = m.locked;
@@ -82,13 +105,13 @@ MeansCore-with_word s entry x m =
 -- a procedure that is entered, its return word at SP and no item of its caller's, begins with what is said
 pub Means-entered :
     (k : ℕ) (s : AbsState) (entry : Activation) (base : ℕ) (begun : Activation)
-    → Means s entry base (without_word begun.entered) → begun.entered.processor.sp < 65536
+    → begun.program ≡ entry.program → Means s entry base (without_word begun.entered) → begun.entered.processor.sp < 65536
     → Means (entered_by Simple k s) begun begun.entered.processor.sp begun.entered
 unfolding entered_by
-Means-entered k s entry base begun m lt =
+Means-entered k s entry base begun e m lt =
     record {
       parts = record {
-        core = MeansCore-entered s.core entry begun (MeansCore-with_word s.core entry begun.entered m.parts.core);
+        core = MeansCore-entered s.core entry begun e (MeansCore-with_word s.core entry begun.entered m.parts.core);
         memory = m.parts.memory;
         sp = lt;
         stack = λ e. omega arith;
@@ -107,7 +130,7 @@ unfolding entered_by
 Means-taken_over k s entry base begun e h =
     record {
       parts = record {
-        core = MeansCore-entered s.core entry begun h.caller.parts.core;
+        core = MeansCore-entered s.core entry begun e h.caller.parts.core;
         memory = h.caller.parts.memory;
         sp = h.caller.parts.sp;
         stack = λ e. taken_over-pointer k s.items begun.entered.processor.sp base h.few (h.caller.parts.stack h.stack_set);
@@ -125,7 +148,7 @@ Means-begun :
     (rules : Rules) (k : ℕ) (s : AbsState) (entry : Activation) (base : ℕ) (begun : Activation)
     → begun.program ≡ entry.program → Begins rules k s entry base begun.entered
     → Means (entered_by rules k s) begun (callee_base rules k s.items base begun.entered) begun.entered
-Means-begun Simple k s entry base begun e h = Means-entered k s entry base begun h.0 h.1
+Means-begun Simple k s entry base begun e h = Means-entered k s entry base begun e h.0 h.1
 Means-begun Extended k s entry base begun e h = Means-taken_over k s entry base begun e h
 
 pub enter_sound : (rules : Rules) (k : ℕ) (s o : AbsState) → o ≡ entered_by rules k s → IsSoundEntering rules k s o

@@ -1,5 +1,5 @@
 -- What a caller goes on with holds of the machine, whatever its callee did.
-use Rattle.std.proofs.Common.{◌≡◌, ℕ, ◌+◌, ◌/◌, ◌%◌, ◌≤◌, ◌<◌, Bool, true, false, ◌&&◌, not, cond, List, [], ◌∷◌, length, map, Option, Some, None, refl, sym, ◌∙◌, ap, subst, arith}
+use Rattle.std.proofs.Common.{◌≡◌, ℕ, ◌+◌, ◌*◌, ◌/◌, ◌%◌, ◌≤◌, ◌<◌, Bool, true, false, ◌&&◌, not, cond, List, [], ◌∷◌, length, map, Option, Some, None, refl, sym, ◌∙◌, ap, subst, arith}
 use Rattle.std.proofs.lemmas.Bool.{and_parts, or_from}
 use Rattle.std.proofs.lemmas.Option.{same_Some}
 use Rattle.std.specs.Prelude.{IfSome}
@@ -38,6 +38,7 @@ use Rattle.gb_domain.specs.Places.{no_byte}
 use Rattle.gb_domain.specs.Rules.{IsCore}
 use Rattle.gb_domain.specs.Summaries.{Program}
 use Rattle.gb_ops.specs.declared.machine.Kind.{Kind}
+use Rattle.gb_ops.specs.declared.machine.Kind.TheVariants as kind
 use Rattle.gb_product.specs.Below.gb_pairs.declared.values.Values.{Values}
 use Rattle.gb_product.specs.Below.gb_pairs.Meaning.{AreBytes, Holds as HoldsValues}
 use Rattle.gb_product.specs.Below.gb_pairs.Reduced.{reduced}
@@ -63,7 +64,7 @@ use Rattle.gb_domain.specs.Areas.{IsRegion, meets}
 use Rattle.gb_product.specs.Below.gb_abs.Span.{one}
 use Rattle.gb_product.specs.Below.gb_abs.Covering.{covers_origin}
 use Rattle.gb_product.specs.Below.gb_abs.Cells.{IsPlaced, ArePlaced}
-use Rattle.gb_product.specs.Below.gb_abs.Meaning.{Activation, origin_value, Holds, HoldsFlags, KeepsBanks, HoldsController, MeansCore}
+use Rattle.gb_product.specs.Below.gb_abs.Meaning.{Activation, origin_value, Holds, HoldsFlags, IsBankKept, IsHighBankKept, KeepsBanks, HoldsLowBank, HoldsController, MeansCore}
 use Rattle.gb_product.specs.Below.gb_vals.Meaning.{may_be}
 use Rattle.gb_product.proofs.Below.gb_summaries_laws.MeaningLaws.{nothing_holds}
 use Rattle.gb_product.specs.Meaning.{Means}
@@ -72,12 +73,14 @@ use Rattle.gb_product.proofs.Below.gb_abs_laws.CellLaws.{AllByRecursion-where}
 use Rattle.gb_product.proofs.Below.gb_abs_laws.CoveringLaws.{same_origin, AreCells}
 use Rattle.gb_product.proofs.Below.gb_abs_laws.StorageLaws.{region_in_ram, placed_in_ram, AreItems-same}
 use Rattle.gb_abs_memory.specs.Access.{is_range}
+use Rattle.gb_abs_memory.specs.Windows.{low_bank_least, low_bank_most}
+use Rattle.gb_abs_memory.proofs.WindowLaws.{low_ends_small}
 use Rattle.gb_abs_memory.specs.Kept.{keeps, IsKept}
 use Rattle.gb_product.specs.Below.gb_abs.Origins.{is_own, without_origin, cell_without_origin}
 use Rattle.gb_product.proofs.Below.gb_abs_laws.OriginLaws.{origin_value-of_register, Holds-without_origin, AreCells-without_origins}
 use Rattle.gb_calls.specs.declared.resuming.Resumed.{Resumed}
 use Rattle.gb_calls.specs.declared.resuming.Resumed.TheVariants.{Nothing, States, TooDeep}
-use Rattle.gb_calls.specs.Resuming.{kept_back, is_bank_kept, controller_back, given_back, registers_back, core_back, is_address_in, is_in_ranges, is_out_of_ranges, merged, byte_back, cells_back, resumed_alone, is_address_kept, own_by_register, kept_by, rejoined, with_values, with_values_if, reduced_state, resumed, IsTooDeep, IsResumed}
+use Rattle.gb_calls.specs.Resuming.{kept_back, whole_bank, joined_halves, bank_back, controller_back, given_back, registers_back, core_back, is_address_in, is_in_ranges, is_out_of_ranges, merged, byte_back, cells_back, resumed_alone, is_address_kept, own_by_register, kept_by, rejoined, with_values, with_values_if, reduced_state, resumed, IsTooDeep, IsResumed}
 use Rattle.gb_calls.specs.Sound.{ComesBack, HandsBack, ComesBackBy, MeansIf, MeansResumed, ReducesSoundly, IsSoundResuming}
 use Rattle.gb_calls.specs.TakenOver.{base_below, given_back_items}
 use Rattle.gb_calls.proofs.EnteringLaws.{MeansCore-with_word}
@@ -127,42 +130,116 @@ HoldsFlags-back s x entry called f m h = choose x.is_own refl
 same_bank : (a b : ℕ) → a % 256 ≡ b % 256 → a / 256 ≡ b / 256 → a ≡ b
 same_bank a b low high = omega arith
 
+bank_kept_twice : (k : Kind) (a b c : ℕ) → IsBankKept k a b → IsBankKept k b c → IsBankKept k a c
+bank_kept_twice kind.Rom a b c h i = i ∙ h
+bank_kept_twice kind.Mbc1 a b c h i = i ∙ h
+bank_kept_twice kind.Mbc3 a b c h i = i ∙ h
+bank_kept_twice kind.Mbc5 a b c h i = i ∙ h
+
+high_kept_twice : (k : Kind) (a b c : ℕ) → IsHighBankKept k a b → IsHighBankKept k b c → IsHighBankKept k a c
+high_kept_twice kind.Rom a b c h i = i ∙ h
+high_kept_twice kind.Mbc1 a b c h i = tt
+high_kept_twice kind.Mbc3 a b c h i = tt
+high_kept_twice kind.Mbc5 a b c h i = i ∙ h
+
 KeepsBanks-back :
-    (s x : KeptBanks) (before called b : Banks) → KeepsBanks s before called → KeepsBanks x called b → KeepsBanks (kept_back s x) before b
-KeepsBanks-back s x before called b m h =
+    (k : Kind) (s x : KeptBanks) (before called b : Banks) → KeepsBanks k s before called → KeepsBanks k x called b → KeepsBanks k (kept_back s x) before b
+KeepsBanks-back k s x before called b m h =
     record {
-      bank = λ e. let p = and_parts _ _ e in h.bank p.0 ∙ m.bank p.1;
+      bank = λ e. let p = and_parts _ _ e in bank_kept_twice k _ _ _ (m.bank p.1) (h.bank p.0);
       second = λ e. let p = and_parts _ _ e in h.second p.0 ∙ m.second p.1;
       gate = λ e. let p = and_parts _ _ e in h.gate p.0 ∙ m.gate p.1;
       mode = λ e. let p = and_parts _ _ e in h.mode p.0 ∙ m.mode p.1;
-      high_bank = λ e. let p = and_parts _ _ e in h.high_bank p.0 ∙ m.high_bank p.1;
+      high_bank = λ e. let p = and_parts _ _ e in high_kept_twice k _ _ _ (m.high_bank p.1) (h.high_bank p.0);
     }
 
-HoldsController-back :
-    (s x : Ctl) (entry called : Activation) (b : Banks)
-    → HoldsController s entry called.entered.storage.banks → HoldsController x called b → HoldsController (controller_back s x) entry b
-HoldsController-back s x entry called b m h =
+-- a bank lies between these bounds, and its low eight bits between theirs
+record IsBack (k : Kind) (bounds : ℕ × ℕ) (bank : ℕ) : Type 0 where
+  least : bounds.0 ≤ bank
+  most : bank ≤ bounds.1
+  low : (c : Ctl) → c.bank_lo ≡ bounds.0 → c.bank_hi ≡ bounds.1 → HoldsLowBank k c bank
+
+low_in : (c : Ctl) (n : ℕ) → c.bank_lo % 256 ≤ n → n ≤ c.bank_hi % 256 → (low_bank_least c ≤ n) × (n ≤ low_bank_most c)
+unfolding low_bank_least low_bank_most
+low_in c n h i = (grind (arith, nat_tests), grind (arith, nat_tests))
+
+-- the low eight bits, and what is above them, by which of two says what they are
+IsBack-halves :
+    (high low : Ctl) (bank : ℕ) → high.bank_lo / 256 ≤ bank / 256 → bank / 256 ≤ high.bank_hi / 256 → low.bank_lo % 256 ≤ bank % 256 → bank % 256 ≤ low.bank_hi % 256
+    → IsBack kind.Mbc5 (joined_halves high low) bank
+IsBack-halves high low bank least most low_least low_most =
+    let i = low_in low (bank % 256) low_least low_most in
+    let first = i.0 in
+    let last = i.1 in
+    let small = (low_ends_small low).1 in
+    let ordered = (low_ends_small low).0 in
     record {
-      bank_least = bank_least (is_bank_kept x.kept) refl;
-      bank_most = bank_most (is_bank_kept x.kept) refl;
+      least = omega arith;
+      most = omega arith;
+      low = λ c lo hi. (
+        subst (λ n. n % 256 ≤ bank % 256) (sym lo) (omega arith),
+        subst (λ n. bank % 256 ≤ n % 256) (sym hi) (omega arith),
+      );
+    }
+
+IsBack-bank :
+    (k : Kind) (s x : Ctl) (called b : Banks) → s.bank_lo ≤ called.bank → called.bank ≤ s.bank_hi → HoldsLowBank k s called.bank
+    → x.bank_lo ≤ b.bank → b.bank ≤ x.bank_hi → HoldsLowBank k x b.bank → KeepsBanks k x.kept called b → IsBack k (bank_back k s x) b.bank
+unfolding bank_back
+IsBack-bank kind.Rom s x called b least most low x_least x_most x_low kept = choose (x.kept.bank && x.kept.high_bank) refl
+  where
+    choose : (o : Bool) → (x.kept.bank && x.kept.high_bank) ≡ o → IsBack kind.Rom (whole_bank (cond o s x)) b.bank
+    choose true e =
+        let p = and_parts _ _ e in
+        let same = same_bank b.bank called.bank (kept.bank p.0) (kept.high_bank p.1) in
+        record { least = omega arith; most = omega arith; low = λ c lo hi. tt }
+    choose false e = record { least = x_least; most = x_most; low = λ c lo hi. tt }
+IsBack-bank kind.Mbc1 s x called b least most low x_least x_most x_low kept = choose x.kept.bank refl
+  where
+    choose : (o : Bool) → x.kept.bank ≡ o → IsBack kind.Mbc1 (whole_bank (cond o s x)) b.bank
+    choose true e = let same = kept.bank e in record { least = omega arith; most = omega arith; low = λ c lo hi. tt }
+    choose false e = record { least = x_least; most = x_most; low = λ c lo hi. tt }
+IsBack-bank kind.Mbc3 s x called b least most low x_least x_most x_low kept = choose x.kept.bank refl
+  where
+    choose : (o : Bool) → x.kept.bank ≡ o → IsBack kind.Mbc3 (whole_bank (cond o s x)) b.bank
+    choose true e = let same = kept.bank e in record { least = omega arith; most = omega arith; low = λ c lo hi. tt }
+    choose false e = record { least = x_least; most = x_most; low = λ c lo hi. tt }
+IsBack-bank kind.Mbc5 s x called b least most low x_least x_most x_low kept =
+    IsBack-halves (cond x.kept.high_bank s x) (cond x.kept.bank s x) b.bank (high x.kept.high_bank refl).0 (high x.kept.high_bank refl).1 (below x.kept.bank refl).0 (below x.kept.bank refl).1
+  where
+    high : (o : Bool) → x.kept.high_bank ≡ o → ((cond o s x).bank_lo / 256 ≤ b.bank / 256) × (b.bank / 256 ≤ (cond o s x).bank_hi / 256)
+    high true e = let same = kept.high_bank e in (omega arith, omega arith)
+    high false e = (omega arith, omega arith)
+
+    below : (o : Bool) → x.kept.bank ≡ o → ((cond o s x).bank_lo % 256 ≤ b.bank % 256) × (b.bank % 256 ≤ (cond o s x).bank_hi % 256)
+    below true e =
+        let same = kept.bank e in
+        let lo = low.0 in
+        let hi = low.1 in
+        (omega arith, omega arith)
+    below false e = x_low
+
+HoldsController-back :
+    (k : Kind) (s x : Ctl) (entry called : Activation) (b : Banks) → entry.program.kind ≡ k → called.program.kind ≡ k
+    → HoldsController s entry called.entered.storage.banks → HoldsController x called b → HoldsController (controller_back k s x) entry b
+HoldsController-back k s x entry called b e f m h =
+    let kept = subst (λ q. KeepsBanks q x.kept called.entered.storage.banks b) f h.kept in
+    let back =
+    IsBack-bank k s x called.entered.storage.banks b m.bank_least m.bank_most (subst (λ q. HoldsLowBank q s called.entered.storage.banks.bank) e m.low_bank)
+    h.bank_least h.bank_most (subst (λ q. HoldsLowBank q x b.bank) f h.low_bank) kept in
+    record {
+      bank_least = back.least;
+      bank_most = back.most;
+      low_bank = subst (λ q. HoldsLowBank q (controller_back k s x) b.bank) (sym e) (back.low (controller_back k s x) refl refl);
       second_least = second_least x.kept.second refl;
       second_most = second_most x.kept.second refl;
       gate = gate x.kept.gate refl;
       mode = mode x.kept.mode refl;
-      kept = KeepsBanks-back s.kept x.kept entry.entered.storage.banks called.entered.storage.banks b m.kept h.kept;
+      kept = subst (λ q. KeepsBanks q (kept_back s.kept x.kept) entry.entered.storage.banks b) (sym e)
+          (KeepsBanks-back k s.kept x.kept entry.entered.storage.banks called.entered.storage.banks b
+          (subst (λ q. KeepsBanks q s.kept entry.entered.storage.banks called.entered.storage.banks) e m.kept) kept);
     }
   where
-    same : is_bank_kept x.kept ≡ true → b.bank ≡ called.entered.storage.banks.bank
-    same e = let p = and_parts _ _ e in same_bank _ _ (h.kept.bank p.0) (h.kept.high_bank p.1)
-
-    bank_least : (k : Bool) → is_bank_kept x.kept ≡ k → cond k s.bank_lo x.bank_lo ≤ b.bank
-    bank_least true e = subst (λ n. s.bank_lo ≤ n) (sym (same e)) m.bank_least
-    bank_least false e = h.bank_least
-
-    bank_most : (k : Bool) → is_bank_kept x.kept ≡ k → b.bank ≤ cond k s.bank_hi x.bank_hi
-    bank_most true e = subst (λ n. n ≤ s.bank_hi) (sym (same e)) m.bank_most
-    bank_most false e = h.bank_most
-
     second_least : (k : Bool) → x.kept.second ≡ k → cond k s.second_lo x.second_lo ≤ b.second
     second_least true e = subst (λ n. s.second_lo ≤ n) (sym (h.kept.second e)) m.second_least
     second_least false e = h.second_least
@@ -180,9 +257,9 @@ HoldsController-back s x entry called b m h =
     mode false e = h.mode
 
 MeansCore-resumed :
-    (s x : Core) (entry called : Activation) (y : MState)
-    → MeansCore s entry called.entered → MeansCore x called y → MeansCore (core_back s x) entry y
-MeansCore-resumed s x entry called y m h =
+    (k : Kind) (s x : Core) (entry called : Activation) (y : MState) → entry.program.kind ≡ k → called.program.kind ≡ k
+    → MeansCore s entry called.entered → MeansCore x called y → MeansCore (core_back k s x) entry y
+MeansCore-resumed k s x entry called y e f m h =
     record {
       registers = λ r. subst (λ v. Holds v entry (get r y.processor.registers)) (sym (register_back s.registers x.registers r))
           (Holds-given_back (origin_of_register r) (get r s.registers) (get r x.registers) entry called (get r y.processor.registers)
@@ -190,7 +267,7 @@ MeansCore-resumed s x entry called y m h =
       flags = HoldsFlags-back s.flags x.flags entry called y.processor.flags m.flags h.flags;
       ie = Holds-given_back origin.Ie s.ie x.ie entry called y.storage.ie m.ie h.ie;
       ime = h.ime;
-      controller = HoldsController-back s.ctl x.ctl entry called y.storage.banks m.controller h.controller;
+      controller = HoldsController-back k s.ctl x.ctl entry called y.storage.banks e f m.controller h.controller;
       count = h.count;
       locked = h.locked;
       stopped = h.stopped;
@@ -338,7 +415,7 @@ Means-resumed_alone region ranges s exit entry base called x h =
     let last = h.room.last in
     record {
       parts = record {
-        core = MeansCore-resumed s.core exit.core entry called x (MeansCore-with_word s.core entry called.entered h.caller.parts.core) h.exits.parts.core;
+        core = MeansCore-resumed kind.Rom s.core exit.core entry called x h.caller_unknown h.callee_unknown (MeansCore-with_word s.core entry called.entered h.caller.parts.core) h.exits.parts.core;
         memory = h.exits.parts.memory;
         sp = h.exits.parts.sp;
         stack = λ e. omega arith;
@@ -367,14 +444,15 @@ HoldsValues-caller s entry base x m =
 -- what the exit gives back of what is said of the whole program is what it was
 GivesBack-exit :
     (k : Kind) (z : Setting) (region : Region) (ranges : List Range) (base : ℕ) (exit : AbsState) (called : Activation) (x : MState)
-    → keeps z ≡ true → ((b : ℕ) → IsKept z region ranges base b → peek x.storage b ≡ peek called.entered.storage b) → MeansCore exit.core called x
+    → called.program.kind ≡ k → keeps z ≡ true → ((b : ℕ) → IsKept z region ranges base b → peek x.storage b ≡ peek called.entered.storage b) → MeansCore exit.core called x
     → GivesBack k region ranges (given_by exit.core) [] called.entered.processor x.processor (peek called.entered.storage) (peek x.storage) called.entered.storage.banks x.storage.banks
-GivesBack-exit k z region ranges base exit called x does kept h =
+GivesBack-exit k z region ranges base exit called x of does kept h =
     record {
       registers = λ r is. own-value (origin_of_register r) (get r exit.core.registers) called (get r x.processor.registers)
           (sym (register_own exit.core.registers r) ∙ is) (h.registers r)
           ∙ origin_value-of_register r called;
-      windows = λ which is. same_window k which exit.core.ctl.kept called.entered.storage.banks x.storage.banks h.controller.kept is;
+      windows = λ which is. same_window k which exit.core.ctl.kept called.entered.storage.banks x.storage.banks
+          (subst (λ q. KeepsBanks q exit.core.ctl.kept called.entered.storage.banks x.storage.banks) of h.controller.kept) is;
       outside = λ a free out. kept a (IsKept-address z region ranges base a does (same_ranges ranges a ∙ out) free);
       given = λ a is. absurd (cc);
     }
@@ -392,7 +470,7 @@ Means-rejoined program k region ranges s exit entry base called x h =
     let left : x.processor.sp + length exit.items ≡ under = h.exits.parts.stack h.exit_set in
     record {
       parts = record {
-        core = MeansCore-resumed s.core exit.core entry called x caller.parts.core h.exits.parts.core;
+        core = MeansCore-resumed program.kind s.core exit.core entry called x (ap (λ p. p.kind) h.caller_program) (ap (λ p. p.kind) h.callee_program) caller.parts.core h.exits.parts.core;
         memory = h.exits.parts.memory;
         sp = h.exits.parts.sp;
         stack = λ e. given_back-pointer k s.items exit.items base x.processor.sp h.begins.few (omega arith) left;
@@ -407,7 +485,7 @@ Means-rejoined program k region ranges s exit entry base called x h =
           caller.related h.exits.related;
       summary = HoldSummary-back program region ranges s exit entry called x h.caller_program h.callee_program h.facts h.placed.summary h.exit_free
           (HoldsValues-caller s entry base called.entered caller)
-          (GivesBack-exit program.kind h.callee region ranges under exit called x h.keeps h.kept h.exits.parts.core) caller.summary h.exits.summary;
+          (GivesBack-exit program.kind h.callee region ranges under exit called x (ap (λ p. p.kind) h.callee_program) h.keeps h.kept h.exits.parts.core) caller.summary h.exits.summary;
     }
 
 -- what registers and pairs leave each other
@@ -477,16 +555,16 @@ Means-rejoined_reduced program k region ranges s exit entry base called x sound 
 -- with more items than a state holds
 pub too_deep :
     (program : Program) (k : ℕ) (ranges : List Range) (s exit : AbsState) (kept : Kept) (core : Core) (relations : Relations) (v : Values)
-    → kept ≡ kept_by ranges s.relations.byte exit.core → core ≡ core_back s.core exit.core → relations ≡ returned kept s.relations exit.relations
+    → kept ≡ kept_by ranges s.relations.byte exit.core → core ≡ core_back program.kind s.core exit.core → relations ≡ returned kept s.relations exit.relations
     → Some v ≡ reduced (values_of core.registers relations.pairs)
     → 255 < length (given_back_items k s.items exit.items) → IsTooDeep (reduced_state (rejoined program k ranges s exit))
 unfolding rejoined reduced_state item_room
 too_deep program k ranges s exit kept core relations v is is_core are e many =
     let same : relations ≡ returned (kept_by ranges s.relations.byte exit.core) s.relations exit.relations =
     are ∙ ap (λ (o : Kept). returned o s.relations exit.relations) is in
-    let cut : Some v ≡ reduced (values_of (core_back s.core exit.core).registers (returned (kept_by ranges s.relations.byte exit.core) s.relations exit.relations).pairs) =
+    let cut : Some v ≡ reduced (values_of (core_back program.kind s.core exit.core).registers (returned (kept_by ranges s.relations.byte exit.core) s.relations exit.relations).pairs) =
     e ∙ (ap (λ (c : Core). reduced (values_of c.registers relations.pairs)) is_core
-    ∙ ap (λ (r : Relations). reduced (values_of (core_back s.core exit.core).registers r.pairs)) same) in
+    ∙ ap (λ (r : Relations). reduced (values_of (core_back program.kind s.core exit.core).registers r.pairs)) same) in
     record { state = with_values (rejoined program k ranges s exit) v; is = ap (with_values_if (rejoined program k ranges s exit)) (sym cut); deep = many }
 
 computed : (r : Resumed) (s : Option AbsState) (entry : Activation) (base : ℕ) (x : MState) → IsResumed r s → MeansIf s entry base x → MeansResumed r entry base x

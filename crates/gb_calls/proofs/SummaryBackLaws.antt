@@ -55,15 +55,15 @@ same_bank a b low high = omega arith
 
 pub same_window :
     (k : Kind) (which : BankWindow) (kept : KeptBanks) (before after : Banks)
-    → KeepsBanks kept before after → is_window_kept k which kept ≡ true → register_of k which after ≡ register_of k which before
+    → KeepsBanks k kept before after → is_window_kept k which kept ≡ true → register_of k which after ≡ register_of k which before
 unfolding is_window_kept register_of
 same_window kind.Mbc5 First kept before after m e = m.bank e
 same_window kind.Mbc5 Second kept before after m e = m.high_bank e
 same_window kind.Rom First kept before after m e = let p = and_parts kept.bank kept.high_bank e in same_bank _ _ (m.bank p.0) (m.high_bank p.1)
 same_window kind.Rom Second kept before after m e = m.second e
-same_window kind.Mbc1 First kept before after m e = let p = and_parts kept.bank kept.high_bank e in same_bank _ _ (m.bank p.0) (m.high_bank p.1)
+same_window kind.Mbc1 First kept before after m e = m.bank e
 same_window kind.Mbc1 Second kept before after m e = m.second e
-same_window kind.Mbc3 First kept before after m e = let p = and_parts kept.bank kept.high_bank e in same_bank _ _ (m.bank p.0) (m.high_bank p.1)
+same_window kind.Mbc3 First kept before after m e = m.bank e
 same_window kind.Mbc3 Second kept before after m e = m.second e
 
 -- ---- what is said

@@ -1,6 +1,8 @@
 -- What a caller goes on with behind a call (own rules: calls).
-use Rattle.std.specs.Prelude.{◌≡◌, ℕ, ◌<◌, Bool, true, false, ◌&&◌, if◌then◌else◌, nat_lt, nat_le, List, [], ◌∷◌, length, map, take, Option, Some, None}
+use Rattle.std.specs.Prelude.{◌≡◌, ℕ, ◌+◌, ◌*◌, ◌/◌, ◌<◌, Bool, true, false, ◌&&◌, if◌then◌else◌, nat_lt, nat_le, List, [], ◌∷◌, length, map, take, Option, Some, None}
 use Rattle.std.specs.List.{filter, list_any}
+use Rattle.gb_ops.specs.declared.machine.Kind.{Kind}
+use Rattle.gb_ops.specs.declared.machine.Kind.TheVariants as kind
 use Rattle.gb_ops.specs.declared.registers.Registers.{Registers}
 use Rattle.gb_domain.specs.declared.types.Origin.{Origin}
 use Rattle.gb_domain.specs.declared.types.Origin.TheVariants as origin
@@ -29,6 +31,7 @@ use Rattle.gb_product.specs.Below.gb_abs.Span.{one}
 use Rattle.gb_product.specs.Below.gb_summaries.declared.returning.GivenBack.{GivenBack}
 use Rattle.gb_product.specs.Below.gb_summaries.Returning.{summary_returned}
 use Rattle.gb_abs_memory.specs.Access.{is_range}
+use Rattle.gb_abs_memory.specs.Windows.{low_bank_least, low_bank_most}
 use Rattle.gb_calls.specs.declared.resuming.Resumed.{Resumed}
 use Rattle.gb_calls.specs.declared.resuming.Resumed.TheVariants.{Nothing, States, TooDeep}
 use Rattle.gb_calls.specs.declared.resuming.Return.{Return}
@@ -62,15 +65,31 @@ kept_back s x = record {
   high_bank = x.high_bank && s.high_bank;
 }
 
--- the callee has kept the whole bank
-abbrev pub is_bank_kept : KeptBanks → Bool
-is_bank_kept x = x.bank && x.high_bank
+-- the callee has kept the whole bank, which MBC1 and MBC3 have in one register
+abbrev pub is_bank_kept : Kind → KeptBanks → Bool
+is_bank_kept kind.Mbc1 x = x.bank
+is_bank_kept kind.Mbc3 x = x.bank
+is_bank_kept _ x = x.bank && x.high_bank
+
+-- the bounds of a bank, and of one whose halves come from two
+abbrev pub whole_bank : Ctl → ℕ × ℕ
+whole_bank c = (c.bank_lo, c.bank_hi)
+
+abbrev pub joined_halves : Ctl → Ctl → ℕ × ℕ
+joined_halves high low = (high.bank_lo / 256 * 256 + low_bank_least low, high.bank_hi / 256 * 256 + low_bank_most low)
+
+-- the bank's bounds: what the callee has kept is the caller's, of MBC5 each half by itself
+unfoldable pub bank_back : Kind → Ctl → Ctl → ℕ × ℕ
+bank_back kind.Mbc5 s x = joined_halves (if x.kept.high_bank then s else x) (if x.kept.bank then s else x)
+bank_back kind.Rom s x = whole_bank (if is_bank_kept kind.Rom x.kept then s else x)
+bank_back kind.Mbc1 s x = whole_bank (if is_bank_kept kind.Mbc1 x.kept then s else x)
+bank_back kind.Mbc3 s x = whole_bank (if is_bank_kept kind.Mbc3 x.kept then s else x)
 
 -- each register that the callee has kept is the caller's, else its exit says what it is
-abbrev pub controller_back : Ctl → Ctl → Ctl
-controller_back s x = record {
-  bank_lo = if is_bank_kept x.kept then s.bank_lo else x.bank_lo;
-  bank_hi = if is_bank_kept x.kept then s.bank_hi else x.bank_hi;
+abbrev pub controller_back : Kind → Ctl → Ctl → Ctl
+controller_back k s x = record {
+  bank_lo = (bank_back k s x).0;
+  bank_hi = (bank_back k s x).1;
   second_lo = if x.kept.second then s.second_lo else x.second_lo;
   second_hi = if x.kept.second then s.second_hi else x.second_hi;
   gate = if x.kept.gate then s.gate else x.gate;
@@ -79,12 +98,12 @@ controller_back s x = record {
 }
 
 -- interrupts and the bound are the exit's, the stack is the caller's
-abbrev pub core_back : Core → Core → Core
-core_back s x = record {
+abbrev pub core_back : Kind → Core → Core → Core
+core_back k s x = record {
   ime = x.ime;
   bound = x.bound;
   stack_set = s.stack_set;
-  ctl = controller_back s.ctl x.ctl;
+  ctl = controller_back k s.ctl x.ctl;
   flags = if x.flags.is_own then s.flags else x.flags;
   ie = given_back origin.Ie s.ie x.ie;
   registers = registers_back s.registers x.registers;
@@ -128,11 +147,11 @@ abbrev pub byte_back : AbsState → AbsState → OneByte
 byte_back s x =
     if is_own origin.A x.core.registers.a && x.core.flags.is_own then only_of_a s.relations.byte else no_byte
 
--- the caller holds what it held, its cells and a comparison of A as far as they are kept
+-- the caller holds what it held, its cells and a comparison of A as far as they are kept; of the controller's kind nothing is known
 unfoldable pub resumed_alone : List Range → AbsState → AbsState → AbsState
 resumed_alone ranges s x =
     record {
-      core = core_back s.core x.core;
+      core = core_back kind.Rom s.core x.core;
       items = s.items;
       cells = cells_back (cell_room Simple) ranges s.cells x.cells;
       relations = record no_relations { byte = byte_back s x };
@@ -180,7 +199,7 @@ summary_back program ranges s x =
 unfoldable pub rejoined : Program → ℕ → List Range → AbsState → AbsState → AbsState
 rejoined program k ranges s x =
     record {
-      core = core_back s.core x.core;
+      core = core_back program.kind s.core x.core;
       items = given_back_items k s.items x.items;
       cells = cells_back (cell_room Extended) ranges s.cells x.cells;
       relations = returned (kept_by ranges s.relations.byte x.core) s.relations x.relations;

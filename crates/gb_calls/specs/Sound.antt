@@ -1,6 +1,7 @@
 -- What entering and resuming promise of the machine (abstract interpretation: soundness; own rules: calls).
 use Rattle.std.specs.Prelude.{◌≡◌, ℕ, ◌+◌, ◌≤◌, ◌<◌, true, false, List, [], length, Option, Some, None}
 use Rattle.std.specs.List.{AllByRecursion}
+use Rattle.gb_ops.specs.declared.machine.Kind.TheVariants as kind
 use Rattle.gb_ops.specs.declared.machine.Region.{Region}
 use Rattle.gb_ops.specs.Effects.{with_sp}
 use Rattle.gb_ops.specs.Play.{MState}
@@ -60,7 +61,7 @@ pub record IsSoundEntering (rules : Rules) (k : ℕ) (s after : AbsState) : Type
 
 -- ---- resuming
 
--- By the rules of versions 1 and 2: a procedure was left in s by a call, and the callee, which stands in a setting of its own and was
+-- By the rules of versions 1 and 2, which know no controller: a procedure was left in s by a call, and the callee, which stands in a setting of its own and was
 -- entered in the state called, has come back: x is what its exit means, and what it keeps is as it was.
 pub record ComesBack (region : Region) (ranges : List Range) (s exit : AbsState) (entry : Activation) (base : ℕ) (called : Activation) (x : MState) : Type 0 where
   pub is_region : IsRegion region
@@ -73,6 +74,8 @@ pub record ComesBack (region : Region) (ranges : List Range) (s exit : AbsState)
   pub exit_items : exit.items ≡ []
   pub exit_core : IsCore exit.core
   pub exits : Means exit called (called.entered.processor.sp + 2) x
+  pub caller_unknown : entry.program.kind ≡ kind.Rom
+  pub callee_unknown : called.program.kind ≡ kind.Rom
   pub callee : Setting
   pub keeps : keeps callee ≡ true
   pub kept : (b : ℕ) → IsKept callee region ranges called.entered.processor.sp b → peek x.storage b ≡ peek called.entered.storage b

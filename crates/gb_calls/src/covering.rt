@@ -133,5 +133,6 @@ fn covers_rest(program: &Program<'_>, states: &States<'_>, claimed: &StateRef<'_
 pub fn covers_states(program: &Program<'_>, states: &States<'_>, claimed: &StateRef<'_>) -> bool
     ensures { result ≡ covers program.now (with_parts states.now.core.now states.now.relations.now states.now.summary.now states.now.lists.now) claimed.now }
 {
-    covers_core_in(states.core, claimed.bytes()) && covers_rest(program, states, claimed)
+    covers_core_in(program.kind, states.core, claimed.bytes())
+        && covers_rest(program, states, claimed)
 }

@@ -7,6 +7,7 @@ ghost use Rattle.gb_cert.specs.Below.gb_states.Reading.{origin_of};
 
 use gb_cert::{ctl_in, ime_in, origin_of};
 use gb_domain::types::{Core, Flg, Val};
+use gb_ops::machine::Kind;
 use gb_ops::registers::Registers;
 use gb_product::{covers_controller, covers_ime, covers_origin};
 
@@ -98,11 +99,11 @@ fn covers_flags_in(s: &Flg, bits: u8, own: u8) -> bool
         && (own != 2 || s.is_own)
 }
 
-/// Whether the core at the front of bytes that have been checked stands for what this one does.
+/// Whether the core at the front of bytes that have been checked stands for what this one does, in a cartridge with such a controller.
 #[tactic(auto, unfolding(crate::specs::Opened::covers_core))]
-pub(crate) fn covers_core_in(s: &Core, bytes: &[u8]) -> bool
+pub(crate) fn covers_core_in(kind: Kind, s: &Core, bytes: &[u8]) -> bool
     requires { 40 ≤ length bytes.now }
-    ensures { result ≡ Covering.covers_core s.now (core_in bytes.now) }
+    ensures { result ≡ Covering.covers_core kind s.now (core_in bytes.now) }
 {
     // The length is tested once, and not at each byte.
     if bytes.len() < CORE {
@@ -112,7 +113,7 @@ pub(crate) fn covers_core_in(s: &Core, bytes: &[u8]) -> bool
         && covers_flags_in(&s.flags, bytes[14], bytes[15])
         && covers_val_in(&s.ie, bytes, 16)
         && covers_ime(&s.ime, &ime_in(bytes[0]))
-        && covers_controller(&s.ctl, &ctl_in(bytes))
+        && covers_controller(kind, &s.ctl, &ctl_in(bytes))
         && s.bound <= bytes[1]
         && (bytes[2] != 1 || s.stack_set)
 }

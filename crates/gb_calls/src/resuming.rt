@@ -9,10 +9,12 @@ ghost use Rattle.gb_calls.specs.Sound.{IsSoundResuming, ReducesSoundly};
 ghost use Rattle.gb_calls.specs.TakenOver as TakenOver;
 
 use crate::cells::{cells_back, has_room, is_address_in};
+use gb_abs_memory::windows::low_ends;
 use gb_domain::places::OneByte;
 use gb_domain::relations::Relations;
 use gb_domain::summary::Summary;
 use gb_domain::types::{Abs, Cell, Core, Ctl, KeptBanks, Origin, Range, Rules, Val};
+use gb_ops::machine::Kind;
 use gb_ops::registers::Registers;
 use gb_product::{
     GivenBack, Kept, KnownRam, Program, Values, is_own, only_of_a, reduce, returned,
@@ -81,20 +83,56 @@ fn kept_back(caller: KeptBanks, exit: KeptBanks) -> KeptBanks
     }
 }
 
-/// Each register of the controller that the callee has kept is the caller's, else its exit says what it is.
-fn controller_back(caller: &Ctl, exit: &Ctl) -> Ctl
-    ensures { result ≡ Resuming.controller_back caller.now exit.now }
+/// Whether the callee has kept the whole bank, which MBC1 and MBC3 have in one register.
+fn is_bank_kept(kind: Kind, kept: KeptBanks) -> bool
+    ensures { result ≡ Resuming.is_bank_kept kind kept }
+{
+    match kind {
+        Kind::Mbc1 | Kind::Mbc3 => kept.bank,
+        Kind::Rom | Kind::Mbc5 => kept.bank && kept.high_bank,
+    }
+}
+
+/// The bounds of a bank whose halves come from two.
+fn joined_halves(high: &Ctl, low: &Ctl) -> (u16, u16)
+    ensures { result ≡ Resuming.joined_halves high.now low.now }
+{
+    let (least, most) = low_ends(low);
+    (
+        high.bank_lo / 256 * 256 + u16::from(least),
+        high.bank_hi / 256 * 256 + u16::from(most),
+    )
+}
+
+/// The bank's bounds: what the callee has kept is the caller's, of MBC5 each half by itself.
+#[tactic(auto, unfolding(crate::specs::Resuming::bank_back))]
+fn bank_back(kind: Kind, caller: &Ctl, exit: &Ctl) -> (u16, u16)
+    ensures { result ≡ Resuming.bank_back kind caller.now exit.now }
 {
     let kept = exit.kept;
-    let bank = if kept.bank && kept.high_bank {
+    if matches!(kind, Kind::Mbc5) {
+        let high = if kept.high_bank { caller } else { exit };
+        let low = if kept.bank { caller } else { exit };
+        return joined_halves(high, low);
+    }
+    let bank = if is_bank_kept(kind, kept) {
         caller
     } else {
         exit
     };
+    (bank.bank_lo, bank.bank_hi)
+}
+
+/// Each register of the controller that the callee has kept is the caller's, else its exit says what it is.
+fn controller_back(kind: Kind, caller: &Ctl, exit: &Ctl) -> Ctl
+    ensures { result ≡ Resuming.controller_back kind caller.now exit.now }
+{
+    let kept = exit.kept;
+    let (bank_lo, bank_hi) = bank_back(kind, caller, exit);
     let second = if kept.second { caller } else { exit };
     Ctl {
-        bank_lo: bank.bank_lo,
-        bank_hi: bank.bank_hi,
+        bank_lo,
+        bank_hi,
         second_lo: second.second_lo,
         second_hi: second.second_hi,
         gate: if kept.gate { caller.gate } else { exit.gate },
@@ -104,14 +142,14 @@ fn controller_back(caller: &Ctl, exit: &Ctl) -> Ctl
 }
 
 /// IME and the bound are the exit's, the stack is the caller's; the rest is the caller's where it is given back.
-fn core_back(caller: &Core, exit: &Core) -> Core
-    ensures { result ≡ Resuming.core_back caller.now exit.now }
+fn core_back(kind: Kind, caller: &Core, exit: &Core) -> Core
+    ensures { result ≡ Resuming.core_back kind caller.now exit.now }
 {
     Core {
         ime: exit.ime,
         bound: exit.bound,
         stack_set: caller.stack_set,
-        ctl: controller_back(&caller.ctl, &exit.ctl),
+        ctl: controller_back(kind, &caller.ctl, &exit.ctl),
         flags: if exit.flags.is_own {
             caller.flags
         } else {
@@ -161,7 +199,7 @@ fn byte_back(caller: &Abs, exit: &Abs) -> OneByte
 fn put_alone(ranges: &[Range], state: &Abs, exit: &Abs, resumed: &mut Abs)
     ensures { resumed.new ≡ Resuming.resumed_alone ranges.now state.now exit.now }
 {
-    resumed.set_plain(core_back(state.core(), exit.core()));
+    resumed.set_plain(core_back(Kind::Rom, state.core(), exit.core()));
     resumed.set_relations(Relations {
         byte: byte_back(state, exit),
         ..Relations::default()
@@ -298,6 +336,13 @@ fn are_too_many(count: u8, held: &[Val], exit: &[Val]) -> bool
     exit.len() > ITEMS - waiting
 }
 
+/// The controller that states may speak of.
+fn known_kind(program: &Program<'_>) -> Kind
+    ensures { result ≡ program.now.kind }
+{
+    program.kind
+}
+
 /// What a caller goes on with, in the place of other states: its waiting items and the exit's behind them, and what is known
 /// together on either side, cut to what registers and pairs leave each other.
 #[tactic(auto, unfolding(crate::specs::Resuming::rejoined, crate::specs::Resuming::reduced_state))]
@@ -313,7 +358,7 @@ fn put_rejoined(
     ensures reducing { ReducesSoundly (Resuming.rejoined program.now count ranges.now state.now exit.now) }
 {
     let kept = kept_by(ranges, &state.relations().byte, exit.core());
-    let mut core = core_back(state.core(), exit.core());
+    let mut core = core_back(known_kind(program), state.core(), exit.core());
     let mut relations = returned(&kept, state.relations(), exit.relations());
     if !reduce(&mut core.registers, &mut relations.pairs) {
         return Return::Nothing;

@@ -11,6 +11,7 @@ pub mod OlderLaws
 pub mod Placing
 pub mod Refusing
 pub mod Skipping
+pub mod SpelledLaws
 pub mod WholeCertificateLaws
 pub mod WholeLaying
 pub mod Written

@@ -234,6 +234,12 @@ pub spelled_older : (c : Certificate) → (c.version == 4) ≡ false → spelled
 unfolding spelled.spelling spelled.head simple_spelled.spelling simple_spelled.head
 spelled_older c k = ap (λ (b : Bool). spelled_by b c) k
 
+pub any_spells : (bytes : List ℕ) (c : Certificate) → simple_spelled.Spells bytes c → spelled.Spells bytes c
+any_spells bytes c h = record { is_certificate = any_certificate c h.is_certificate; is_spelling = h.is_spelling ∙ sym (spelled_older c (not-fourth c.version h.is_certificate.version)) }
+
+pub older_spells : (bytes : List ℕ) (c : Certificate) → spelled.Spells bytes c → (c.version == 4) ≡ false → simple_spelled.Spells bytes c
+older_spells bytes c h k = record { is_certificate = older_certificate c h.is_certificate k; is_spelling = h.is_spelling ∙ spelled_older c k }
+
 -- What was found of a certificate that isn't of version 4 is a certificate of versions 1 to 3.
 pub older_laid : (bytes : List ℕ) (version : ℕ) (region : Region) (facts : List Fact) (counts procedures nodes : List ℕ) → IsBytes bytes → begins_fourth bytes ≡ false → IsFound bytes version region facts counts procedures nodes → IsLaid bytes version region procedures nodes (certificate_in bytes)
 older_laid bytes version region facts counts procedures nodes fit older f =

@@ -177,7 +177,7 @@ IsFormat-procedures h facts is small =
     (λ is_main. IsFormat-procedure_by (h.version == 4) h.version facts h.region h.nodes is_main refl small is.few_nodes (last-of h is))
 
 -- a procedure names at most 16 addresses to be kept
-room_few : (is_main : Bool) (region : Region) (addresses : List ℕ) → AreKept is_main region addresses → length addresses ≤ 16
+pub room_few : (is_main : Bool) (region : Region) (addresses : List ℕ) → AreKept is_main region addresses → length addresses ≤ 16
 room_few true region addresses h = let few = h.few in omega (arith, few)
 room_few false region addresses h = h.few
 

@@ -2,6 +2,7 @@ pub mod AnyPlaces
 pub mod Borrowed
 pub mod Places
 pub mod Skipping
+pub mod Spelled
 pub mod Written
 pub mod Below
 pub mod Opened

@@ -22,6 +22,7 @@ mod parse;
 mod procedure;
 mod spellable;
 mod spelled;
+mod spelled_whole;
 mod state;
 mod told;
 mod walk;
@@ -34,10 +35,12 @@ pub use find::{First, Search};
 pub use gb_rows::Found;
 pub use gb_states::CertFault;
 pub use node::NodeRef;
-pub use parse::{begins_fourth, one_spelling};
+pub use parse::{begins_fourth, older_spelling, one_spelling};
 pub use procedure::ProcedureRef;
 pub use state::StateRef;
-pub use writer::{NodePlan, ProcedurePlan, Version, WriteFault, write_certificate};
+pub use writer::{
+    CertificatePlan, NodePlan, ProcedurePlan, Version, WriteFault, write_certificate,
+};
 
 // What lies below, for the crates above.
 pub use gb_states::fields::{ctl_in, ime_in, origin_of};

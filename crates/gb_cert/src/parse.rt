@@ -192,3 +192,9 @@ pub fn one_spelling()
     ensures spelling { (a b : List ℕ) (cert : Certificate) → Spells a cert → Spells b cert → a ≡ b }
     ensures certificate { (bytes : List ℕ) (a b : Certificate) → Spells bytes a → Spells bytes b → a ≡ b }
 {}
+
+/// Version 4 changes nothing for a certificate of versions 1 to 3: it is one of any version, and has the same spelling.
+pub fn older_spelling()
+    ensures any { (bytes : List ℕ) (cert : Certificate) → Spells bytes cert → spelled.Spells bytes cert }
+    ensures older { (bytes : List ℕ) (cert : Certificate) → spelled.Spells bytes cert → (cert.version == 4) ≡ false → Spells bytes cert }
+{}

@@ -1,20 +1,24 @@
 //! What a version of the format can't say of states and procedures that are to be written.
 
-ghost use Rattle.std.specs.Prelude.{◌≡◌, ◌||◌, ◌&&◌, true, false, not, nat_lt, OnOk, IfErr};
+ghost use Rattle.std.specs.Prelude.{◌≡◌, ◌||◌, ◌&&◌, true, false, not, nat_lt, length, OnOk, IfErr};
 ghost use Rattle.std.specs.List.{list_any, list_all};
 ghost use Rattle.gb_domain.specs.RelationRules.{is_a_alone, is_test_byte, is_known, are_unknown, is_test_alone};
 ghost use Rattle.gb_states.specs.Below.gb_fields.Rules.{usual_base, is_whole};
-ghost use Rattle.gb_states.specs.Rules.{is_declared_origin, may_be_of, is_sayable, are_sayable, is_all_or_none, is_core_sayable, is_cell_sayable, is_state_sayable, may_be_known};
-ghost use Rattle.gb_cert.specs.Written.{exit_of, is_odd, is_half, has_many_items, has_many_cells, is_related, has_unsayable, is_unspellable, state_has, exit_has, returns_with, stands_with, has_half_need, says_base, say_base, rules_in, AreSpellable, IsWriteFault};
+ghost use Rattle.gb_states.specs.Below.gb_fields.Limits.{kept_limit};
+ghost use Rattle.gb_states.specs.Rules.{is_declared_origin, may_be_of, is_sayable, is_all_or_none, may_be_known};
+ghost use Rattle.gb_states.specs.WholeRules.{is_origin_in};
+ghost use Rattle.gb_cert.specs.Written.{exit_of, is_odd, is_half, has_many_items, has_many_cells, is_related, has_unsayable, is_unspellable, state_has, exit_has, returns_with, stands_with, has_half_need, says_base, say_base, rules_in, is_fourth, is_tagged, says, says_registers, says_kept_by, says_core, says_cell, says_summary_by, says_state, AreSpellable, IsWriteFault};
 
 use crate::told::is_known;
-use crate::writer::{NodePlan, ProcedurePlan, Version, WriteFault};
+use crate::writer::{CertificatePlan, NodePlan, ProcedurePlan, Version, WriteFault};
 use gb_domain::pairs::Pairs;
 use gb_domain::places::{OneByte, Test, has_place};
 use gb_domain::relations::Relations;
+use gb_domain::summary::Summary;
 use gb_domain::types::{Abs, Cell, Core, KeptBanks, Origin, Rules, Val};
 use gb_ops::machine::Region;
 use gb_ops::registers::Registers;
+use gb_states::limits::KEPT_LIMIT;
 
 // ---- relations
 
@@ -88,23 +92,50 @@ fn may_be_of(rules: Rules, origin: Option<Origin>) -> bool
     }
 }
 
-/// Whether these rules' versions can say a value.
+/// Whether these rules' versions 1 to 3 can say a value.
 fn is_sayable(rules: Rules, val: Val) -> bool
     ensures { result ≡ is_sayable rules val }
 {
     may_be_of(rules, val.origin) && val.low_bits == 0
 }
 
-fn are_sayable(rules: Rules, registers: &Registers<Val>) -> bool
-    ensures { result ≡ are_sayable rules registers.now }
+/// Whether version 4 has a number for the origin, however many addresses its procedure names.
+fn is_numbered(origin: Option<Origin>) -> bool
+    ensures { result ≡ is_origin_in kept_limit origin }
 {
-    is_sayable(rules, registers.a)
-        && is_sayable(rules, registers.b)
-        && is_sayable(rules, registers.c)
-        && is_sayable(rules, registers.d)
-        && is_sayable(rules, registers.e)
-        && is_sayable(rules, registers.h)
-        && is_sayable(rules, registers.l)
+    match origin {
+        Some(Origin::Kept(number)) => number < KEPT_LIMIT,
+        _ => true,
+    }
+}
+
+/// Whether version 4 can say a value.
+fn is_tagged(val: Val) -> bool
+    ensures { result ≡ is_tagged val }
+{
+    val.low_bits < 8 && is_numbered(val.origin)
+}
+
+fn says(version: Version, val: Val) -> bool
+    ensures { result ≡ says version val }
+{
+    if version.is_fourth() {
+        is_tagged(val)
+    } else {
+        is_sayable(version.rules(), val)
+    }
+}
+
+fn says_registers(version: Version, registers: &Registers<Val>) -> bool
+    ensures { result ≡ says_registers version registers.now }
+{
+    says(version, registers.a)
+        && says(version, registers.b)
+        && says(version, registers.c)
+        && says(version, registers.d)
+        && says(version, registers.e)
+        && says(version, registers.h)
+        && says(version, registers.l)
 }
 
 /// Whether one byte can say what is kept of the controller.
@@ -114,43 +145,55 @@ fn is_all_or_none(kept: KeptBanks) -> bool
     kept.are_all() || !kept.is_some()
 }
 
-fn is_core_sayable(rules: Rules, core: &Core) -> bool
-    ensures { result ≡ is_core_sayable rules core.now }
+fn says_kept(version: Version, kept: KeptBanks) -> bool
+    ensures { result ≡ says_kept_by (is_fourth version) kept }
 {
-    is_all_or_none(core.ctl.kept)
-        && is_sayable(rules, core.ie)
-        && are_sayable(rules, &core.registers)
+    version.is_fourth() || is_all_or_none(kept)
 }
 
-fn are_items_sayable(rules: Rules, items: &[Val]) -> bool
-    ensures { result ≡ list_all (is_sayable rules) items.now }
+fn says_core(version: Version, core: &Core) -> bool
+    ensures { result ≡ says_core version core.now }
+{
+    says_kept(version, core.ctl.kept)
+        && says(version, core.ie)
+        && says_registers(version, &core.registers)
+}
+
+fn says_items(version: Version, items: &[Val]) -> bool
+    ensures { result ≡ list_all (says version) items.now }
 {
     for item in items {
-        if !is_sayable(rules, *item) {
+        if !says(version, *item) {
             return false;
         }
     }
     true
 }
 
-fn are_cells_sayable(rules: Rules, cells: &[Cell]) -> bool
-    ensures { result ≡ list_all (is_cell_sayable rules) cells.now }
+fn says_cells(version: Version, cells: &[Cell]) -> bool
+    ensures { result ≡ list_all (says_cell version) cells.now }
 {
     for cell in cells {
-        if !is_sayable(rules, cell.val) {
+        if !says(version, cell.val) {
             return false;
         }
     }
     true
 }
 
-fn is_state_sayable(rules: Rules, state: &Abs) -> bool
-    ensures { result ≡ is_state_sayable rules state.now }
+fn says_summary(version: Version, summary: &Summary) -> bool
+    ensures { result ≡ says_summary_by (is_fourth version) summary.now }
 {
-    is_core_sayable(rules, state.core())
-        && are_items_sayable(rules, state.items())
-        && are_cells_sayable(rules, state.cells())
-        && state.summary().is_silent()
+    version.is_fourth() || summary.is_silent()
+}
+
+fn says_state(version: Version, state: &Abs) -> bool
+    ensures { result ≡ says_state version state.now }
+{
+    says_core(version, state.core())
+        && says_items(version, state.items())
+        && says_cells(version, state.cells())
+        && says_summary(version, state.summary())
 }
 
 // ---- states
@@ -166,11 +209,12 @@ fn is_odd(rules: Rules, bytes: usize) -> bool
     }
 }
 
-/// Nothing, where these rules' versions can say the state, or else why they can't.
-fn check_state(rules: Rules, state: &Abs) -> Result<(), WriteFault>
-    ensures spelled { OnOk result (is_unspellable rules state.now ≡ false) }
-    ensures fault { IfErr result (λ fault. state_has rules fault state.now ≡ true) }
+/// Nothing, where the version can say the state, or else why it can't.
+fn check_state(version: Version, state: &Abs) -> Result<(), WriteFault>
+    ensures spelled { OnOk result (is_unspellable version state.now ≡ false) }
+    ensures fault { IfErr result (λ fault. state_has version fault state.now ≡ true) }
 {
+    let rules = version.rules();
     if is_odd(rules, state.items().len()) {
         return Err(WriteFault::HalfWord);
     }
@@ -183,41 +227,41 @@ fn check_state(rules: Rules, state: &Abs) -> Result<(), WriteFault>
     if !may_be_known(rules, state.relations()) {
         return Err(WriteFault::Relations);
     }
-    if !is_state_sayable(rules, state) {
+    if !says_state(version, state) {
         return Err(WriteFault::Values);
     }
     Ok(())
 }
 
-/// Nothing, where these rules' versions can say all nodes' states, or else why they can't.
-fn check_nodes(rules: Rules, nodes: &[NodePlan<'_>]) -> Result<(), WriteFault>
-    ensures spelled { OnOk result (list_any (stands_with (is_unspellable rules)) nodes.now ≡ false) }
-    ensures fault { IfErr result (λ fault. list_any (stands_with (state_has rules fault)) nodes.now ≡ true) }
+/// Nothing, where the version can say all nodes' states, or else why it can't.
+fn check_nodes(version: Version, nodes: &[NodePlan<'_>]) -> Result<(), WriteFault>
+    ensures spelled { OnOk result (list_any (stands_with (is_unspellable version)) nodes.now ≡ false) }
+    ensures fault { IfErr result (λ fault. list_any (stands_with (state_has version fault)) nodes.now ≡ true) }
 {
     for node in nodes {
-        check_state(rules, node.state)?;
+        check_state(version, node.state)?;
     }
     Ok(())
 }
 
-/// Nothing, where these rules' versions can say an exit's state, if there is one, or else why they can't.
-fn check_exit(rules: Rules, exit: Option<&Abs>) -> Result<(), WriteFault>
-    ensures spelled { OnOk result (exit_has (is_unspellable rules) (exit_of exit.entry) ≡ false) }
-    ensures fault { IfErr result (λ fault. exit_has (state_has rules fault) (exit_of exit.entry) ≡ true) }
+/// Nothing, where the version can say an exit's state, if there is one, or else why it can't.
+fn check_exit(version: Version, exit: Option<&Abs>) -> Result<(), WriteFault>
+    ensures spelled { OnOk result (exit_has (is_unspellable version) (exit_of exit.entry) ≡ false) }
+    ensures fault { IfErr result (λ fault. exit_has (state_has version fault) (exit_of exit.entry) ≡ true) }
 {
     match exit {
         None => Ok(()),
-        Some(state) => check_state(rules, state),
+        Some(state) => check_state(version, state),
     }
 }
 
-/// Nothing, where these rules' versions can say all exits' states, or else why they can't.
-fn check_exits(rules: Rules, procedures: &[ProcedurePlan<'_>]) -> Result<(), WriteFault>
-    ensures spelled { OnOk result (list_any (returns_with (is_unspellable rules)) procedures.now ≡ false) }
-    ensures fault { IfErr result (λ fault. list_any (returns_with (state_has rules fault)) procedures.now ≡ true) }
+/// Nothing, where the version can say all exits' states, or else why it can't.
+fn check_exits(version: Version, procedures: &[ProcedurePlan<'_>]) -> Result<(), WriteFault>
+    ensures spelled { OnOk result (list_any (returns_with (is_unspellable version)) procedures.now ≡ false) }
+    ensures fault { IfErr result (λ fault. list_any (returns_with (state_has version fault)) procedures.now ≡ true) }
 {
     for procedure in procedures {
-        check_exit(rules, procedure.exit)?;
+        check_exit(version, procedure.exit)?;
     }
     Ok(())
 }
@@ -279,23 +323,18 @@ fn say_base(rules: Rules, region: Region, procedures: &[ProcedurePlan<'_>]) -> b
 
 /// Nothing, where the version can say these parts, or else why it can't.
 #[tactic(auto, using(crate::proofs::Refusing::spellable, crate::proofs::Refusing::faults))]
-pub(crate) fn check(
-    version: Version,
-    region: Region,
-    procedures: &[ProcedurePlan<'_>],
-    nodes: &[NodePlan<'_>],
-) -> Result<(), WriteFault>
-    ensures spelled { OnOk result (AreSpellable version region procedures.now nodes.now) }
-    ensures fault { IfErr result (IsWriteFault version region procedures.now nodes.now) }
+pub(crate) fn check(plan: &CertificatePlan<'_>) -> Result<(), WriteFault>
+    ensures spelled { OnOk result (AreSpellable plan.now) }
+    ensures fault { IfErr result (IsWriteFault plan.now) }
 {
-    let rules = version.rules();
-    if say_base(rules, region, procedures) {
+    let rules = plan.version.rules();
+    if say_base(rules, plan.region, plan.procedures) {
         return Err(WriteFault::Base);
     }
-    if is_one_half_need(rules, procedures) {
+    if is_one_half_need(rules, plan.procedures) {
         return Err(WriteFault::HalfWord);
     }
-    check_exits(rules, procedures)?;
-    check_nodes(rules, nodes)?;
+    check_exits(plan.version, plan.procedures)?;
+    check_nodes(plan.version, plan.nodes)?;
     Ok(())
 }

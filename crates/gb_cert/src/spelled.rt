@@ -1,12 +1,17 @@
 //! The bytes of states, added to what is there.
 
-ghost use Rattle.std.specs.Prelude.{◌≡◌, ◌≤◌, ◌++◌, length, OnOk};
-ghost use Rattle.std.specs.List.{flat_map};
-ghost use Rattle.gb_cert.specs.Written.{units};
+ghost use Rattle.std.specs.Prelude.{◌≡◌, ◌≤◌, ◌++◌, true, length, OnOk};
+ghost use Rattle.std.specs.List.{flat_map, list_all};
+ghost use Rattle.gb_cert.specs.Spelled as by_version;
+ghost use Rattle.gb_cert.specs.Written.{is_fourth, rules_in, units, says, says_cell, AreRegistersSaid, IsCoreSaid, IsStateSaid};
 ghost use Rattle.gb_states.specs.Spelling as spelled;
 
+use crate::spelled_whole::{fourth_tag, kept_number, put_told};
 use crate::told::{compared, put_relations_by};
-use gb_domain::types::{Abs, Cell, Core, Ctl, Flg, ImeSet, May, Origin, Rules, Val};
+use crate::writer::Version;
+use gb_domain::relations::Relations;
+use gb_domain::summary::Summary;
+use gb_domain::types::{Abs, Cell, Core, Ctl, Flg, ImeSet, KeptBanks, May, Origin, Rules, Val};
 use gb_ops::registers::Registers;
 use std::alloc::AllocError;
 
@@ -28,7 +33,7 @@ pub(crate) fn word(word: u16) -> [u8; 2]
 
 /// An origin's number in a certificate: 0 for none. Versions 1 to 3 have no number for a kept byte or the mark; those get 255, which no
 /// reader accepts.
-fn origin_number(origin: Option<Origin>) -> u8
+pub(crate) fn origin_number(origin: Option<Origin>) -> u8
     ensures { result ≡ spelled.origin_number origin }
 {
     match origin {
@@ -48,12 +53,25 @@ fn origin_number(origin: Option<Origin>) -> u8
     }
 }
 
-/// A value: its ends, and its origin.
-#[tactic(auto, unfolding(gb_states::specs::Spelling::val))]
-fn val(val: Val) -> [u8; 3]
-    ensures { result ≡ spelled.val val }
+/// An origin's number; in version 4 how many low bits are known stands above it.
+fn tag(version: Version, val: Val) -> u8
+    requires { says version val ≡ true }
+    ensures { result ≡ by_version.tag_by (is_fourth version) val }
 {
-    [val.lo, val.hi, origin_number(val.origin)]
+    if version.is_fourth() {
+        fourth_tag(val)
+    } else {
+        origin_number(val.origin)
+    }
+}
+
+/// Adds a value: its ends, its origin, and in version 4 its low bits.
+#[tactic(auto, unfolding(crate::specs::Spelled::val))]
+fn put_val(version: Version, val: Val, out: &mut Vec<u8>) -> Result<(), AllocError>
+    requires { says version val ≡ true }
+    ensures { OnOk result (out.new.items ≡ out.old.items ++ by_version.val version val) }
+{
+    put(&[val.lo, val.hi, tag(version, val)], out)
 }
 
 /// 1 for yes, 0 for no.
@@ -112,10 +130,21 @@ fn flg(flags: &Flg) -> [u8; 2]
     [flags_number(flags), if flags.is_own { 2 } else { 0 }]
 }
 
+/// Which registers of the controller are kept, or in versions 1 to 3 whether all are.
+fn kept_by(version: Version, kept: KeptBanks) -> u8
+    ensures { result ≡ by_version.kept_by (is_fourth version) kept }
+{
+    if version.is_fourth() {
+        kept_number(kept)
+    } else {
+        flag(kept.are_all())
+    }
+}
+
 /// Adds the controller's registers.
-#[tactic(auto, unfolding(gb_states::specs::Spelling::ctl))]
-fn put_ctl(ctl: &Ctl, out: &mut Vec<u8>) -> Result<(), AllocError>
-    ensures { OnOk result (out.new.items ≡ out.old.items ++ spelled.ctl ctl.now) }
+#[tactic(auto, unfolding(crate::specs::Spelled::ctl))]
+fn put_ctl(version: Version, ctl: &Ctl, out: &mut Vec<u8>) -> Result<(), AllocError>
+    ensures { OnOk result (out.new.items ≡ out.old.items ++ by_version.ctl version ctl.now) }
 {
     put(&word(ctl.bank_lo), out)?;
     put(&word(ctl.bank_hi), out)?;
@@ -125,43 +154,54 @@ fn put_ctl(ctl: &Ctl, out: &mut Vec<u8>) -> Result<(), AllocError>
             ctl.second_hi,
             may_number(ctl.gate),
             may_number(ctl.mode),
-            flag(ctl.kept.are_all()),
+            kept_by(version, ctl.kept),
         ],
         out,
     )
 }
 
 /// Adds the values of the registers.
-#[tactic(auto, unfolding(gb_states::specs::Spelling::vals))]
-fn put_vals(registers: &Registers<Val>, out: &mut Vec<u8>) -> Result<(), AllocError>
-    ensures { OnOk result (out.new.items ≡ out.old.items ++ spelled.vals registers.now) }
+#[tactic(auto, unfolding(crate::specs::Spelled::vals))]
+fn put_vals(
+    version: Version,
+    registers: &Registers<Val>,
+    out: &mut Vec<u8>,
+) -> Result<(), AllocError>
+    requires { AreRegistersSaid version registers.now }
+    ensures { OnOk result (out.new.items ≡ out.old.items ++ by_version.vals version registers.now) }
 {
-    put(&val(registers.a), out)?;
-    put(&val(registers.b), out)?;
-    put(&val(registers.c), out)?;
-    put(&val(registers.d), out)?;
-    put(&val(registers.e), out)?;
-    put(&val(registers.h), out)?;
-    put(&val(registers.l), out)
+    put_val(version, registers.a, out)?;
+    put_val(version, registers.b, out)?;
+    put_val(version, registers.c, out)?;
+    put_val(version, registers.d, out)?;
+    put_val(version, registers.e, out)?;
+    put_val(version, registers.h, out)?;
+    put_val(version, registers.l, out)
 }
 
 /// Adds a core, and the test that stands in it.
-#[tactic(auto, unfolding(gb_states::specs::Spelling::core))]
-fn put_core(core: &Core, tested: Option<u8>, out: &mut Vec<u8>) -> Result<(), AllocError>
-    ensures { OnOk result (out.new.items ≡ out.old.items ++ spelled.core core.now tested) }
+#[tactic(auto, unfolding(crate::specs::Spelled::core))]
+fn put_core(
+    version: Version,
+    core: &Core,
+    tested: Option<u8>,
+    out: &mut Vec<u8>,
+) -> Result<(), AllocError>
+    requires { IsCoreSaid version core.now }
+    ensures { OnOk result (out.new.items ≡ out.old.items ++ by_version.core version core.now tested) }
 {
     put(
         &[ime_number(core.ime), core.bound, flag(core.stack_set)],
         out,
     )?;
     put(&test(tested), out)?;
-    put_ctl(&core.ctl, out)?;
+    put_ctl(version, &core.ctl, out)?;
     put(&flg(&core.flags), out)?;
-    put(&val(core.ie), out)?;
-    put_vals(&core.registers, out)
+    put_val(version, core.ie, out)?;
+    put_vals(version, &core.registers, out)
 }
 
-/// How many words, or in version 3 bytes, so many bytes are.
+/// How many words, or in versions 3 and 4 bytes, so many bytes are.
 #[tactic(auto, unfolding(crate::specs::Opened::unit))]
 pub(crate) fn units(rules: Rules, bytes: u16) -> u16
     ensures exact { result ≡ units rules bytes }
@@ -173,47 +213,68 @@ pub(crate) fn units(rules: Rules, bytes: u16) -> u16
     }
 }
 
-/// Adds bytes of the stack behind the number of words, or in version 3 of bytes, that they are.
-fn put_items(rules: Rules, items: &[Val], out: &mut Vec<u8>) -> Result<(), AllocError>
-    requires { length items.now ≤ 255 }
-    ensures { OnOk result (out.new.items ≡ out.old.items ++ spelled.items rules items.now) }
+/// Adds bytes of the stack behind the number of words, or in versions 3 and 4 of bytes, that they are.
+fn put_items(version: Version, items: &[Val], out: &mut Vec<u8>) -> Result<(), AllocError>
+    requires few { length items.now ≤ 255 }
+    requires said { list_all (says version) items.now ≡ true }
+    ensures { OnOk result (out.new.items ≡ out.old.items ++ by_version.items version items.now) }
 {
-    put(&[units(rules, items.len() as u16) as u8], out)?;
+    put(&[units(version.rules(), items.len() as u16) as u8], out)?;
     for item in items {
-        put(&val(*item), out)?;
+        put_val(version, *item, out)?;
     }
     Ok(())
 }
 
 /// Adds a cell.
-#[tactic(auto, unfolding(gb_states::specs::Spelling::cell))]
-fn put_cell(cell: &Cell, out: &mut Vec<u8>) -> Result<(), AllocError>
-    ensures { OnOk result (out.new.items ≡ out.old.items ++ spelled.cell cell.now) }
+#[tactic(auto, unfolding(crate::specs::Spelled::cell))]
+fn put_cell(version: Version, cell: &Cell, out: &mut Vec<u8>) -> Result<(), AllocError>
+    requires { says_cell version cell.now ≡ true }
+    ensures { OnOk result (out.new.items ≡ out.old.items ++ by_version.cell version cell.now) }
 {
     put(&word(cell.address), out)?;
-    put(&val(cell.val), out)
+    put_val(version, cell.val, out)
 }
 
 /// Adds cells behind their count.
-fn put_cells(cells: &[Cell], out: &mut Vec<u8>) -> Result<(), AllocError>
-    requires { length cells.now ≤ 64 }
-    ensures { OnOk result (out.new.items ≡ out.old.items ++ spelled.counted spelled.cell cells.now) }
+fn put_cells(version: Version, cells: &[Cell], out: &mut Vec<u8>) -> Result<(), AllocError>
+    requires few { length cells.now ≤ 64 }
+    requires said { list_all (says_cell version) cells.now ≡ true }
+    ensures { OnOk result (out.new.items ≡ out.old.items ++ spelled.counted (by_version.cell version) cells.now) }
 {
     put(&[cells.len() as u8], out)?;
     for cell in cells {
-        put_cell(cell, out)?;
+        put_cell(version, cell, out)?;
     }
     Ok(())
 }
 
-/// Adds a state: its core with its test, its items, in version 3 what is known of several parts together, and its cells.
-#[tactic(auto, unfolding(gb_states::specs::Spelling::state))]
-pub(crate) fn put_state(rules: Rules, state: &Abs, out: &mut Vec<u8>) -> Result<(), AllocError>
-    ensures { OnOk result (out.new.items ≡ out.old.items ++ spelled.state rules state.now) }
+/// Adds what is known of several parts together, and in version 4 what is said of the whole program: nothing in versions 1 and 2.
+fn put_told_by(
+    version: Version,
+    relations: &Relations,
+    summary: &Summary,
+    out: &mut Vec<u8>,
+) -> Result<(), AllocError>
+    ensures { OnOk result (out.new.items ≡ out.old.items ++ by_version.told_by (is_fourth version) (rules_in version) (relations.now, summary.now)) }
+{
+    if version.is_fourth() {
+        put_told(relations, summary, out)
+    } else {
+        put_relations_by(version.rules(), relations, out)
+    }
+}
+
+/// Adds a state: its core with its test, its items, what is known of several parts together and said of the whole program as far as
+/// the version says it, and its cells.
+#[tactic(auto, unfolding(crate::specs::Spelled::state))]
+pub(crate) fn put_state(version: Version, state: &Abs, out: &mut Vec<u8>) -> Result<(), AllocError>
+    requires { IsStateSaid version state.now }
+    ensures { OnOk result (out.new.items ≡ out.old.items ++ by_version.state version state.now) }
 {
     let relations = state.relations();
-    put_core(state.core(), compared(relations.byte.test), out)?;
-    put_items(rules, state.items(), out)?;
-    put_relations_by(rules, relations, out)?;
-    put_cells(state.cells(), out)
+    put_core(version, state.core(), compared(relations.byte.test), out)?;
+    put_items(version, state.items(), out)?;
+    put_told_by(version, relations, state.summary(), out)?;
+    put_cells(version, state.cells(), out)
 }

@@ -43,7 +43,7 @@ pub(crate) fn is_known(facts: &PairFacts) -> bool
 }
 
 /// Which parts there are.
-fn present_in(relations: &Relations) -> Present
+pub(crate) fn present_in(relations: &Relations) -> Present
     ensures { result ≡ told.present_in relations.now }
 {
     Present {
@@ -57,7 +57,7 @@ fn present_in(relations: &Relations) -> Present
     }
 }
 
-fn present_number(present: Present) -> u8
+pub(crate) fn present_number(present: Present) -> u8
     ensures { result ≡ told.present_number present }
 {
     64 * flag(present.hl)
@@ -71,7 +71,7 @@ fn present_number(present: Present) -> u8
 
 // ---- places that hold one byte
 
-fn registers_number(registers: &Registers<bool>) -> u8
+pub(crate) fn registers_number(registers: &Registers<bool>) -> u8
     ensures { result ≡ told.registers_number registers.now }
 {
     64 * flag(registers.l)
@@ -84,7 +84,7 @@ fn registers_number(registers: &Registers<bool>) -> u8
 }
 
 /// Adds an address, where there is one.
-fn put_address(address: Option<u16>, out: &mut Vec<u8>) -> Result<(), AllocError>
+pub(crate) fn put_address(address: Option<u16>, out: &mut Vec<u8>) -> Result<(), AllocError>
     ensures { OnOk result (out.new.items ≡ out.old.items ++ told.optional spelled.word address) }
 {
     match address {
@@ -207,14 +207,21 @@ fn put_pairs(pairs: &Pairs, out: &mut Vec<u8>) -> Result<(), AllocError>
 
 // ---- all of them
 
+/// Adds the parts that there are.
+pub(crate) fn put_parts(relations: &Relations, out: &mut Vec<u8>) -> Result<(), AllocError>
+    ensures { OnOk result (out.new.items ≡ out.old.items ++ told.parts relations.now) }
+{
+    put_byte(&relations.byte, out)?;
+    put_zero(relations.zero, out)?;
+    put_pairs(&relations.pairs, out)
+}
+
 #[tactic(auto, unfolding(gb_states::specs::RelationSpelling::relations))]
 fn put_relations(relations: &Relations, out: &mut Vec<u8>) -> Result<(), AllocError>
     ensures { OnOk result (out.new.items ≡ out.old.items ++ told.relations relations.now) }
 {
     put(&[present_number(present_in(relations))], out)?;
-    put_byte(&relations.byte, out)?;
-    put_zero(relations.zero, out)?;
-    put_pairs(&relations.pairs, out)
+    put_parts(relations, out)
 }
 
 /// Adds what is known of several parts together: nothing in versions 1 and 2.

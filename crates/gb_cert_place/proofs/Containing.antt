@@ -10,9 +10,10 @@ use Rattle.gb_states.specs.declared.role.Role.{Role}
 use Rattle.gb_fields.specs.declared.head.Head.{Head}
 use Rattle.gb_domain.specs.declared.rules.Rules.{Rules}
 use Rattle.gb_domain.specs.Limits.{cell_room}
-use Rattle.gb_fields.specs.Limits.{range_room}
+use Rattle.gb_fields.specs.Limits.{range_room, fact_limit, kept_room}
 use Rattle.gb_fields.specs.Format.{Read, mapped}
-use Rattle.gb_fields.specs.Reading.{head_at}
+use Rattle.gb_fields.specs.Reading.{any_head_at}
+use Rattle.gb_states.specs.declared.form.Form.{Form}
 use Rattle.gb_cert_place.specs.declared.block.Block.{Block}
 use Rattle.gb_cert_place.specs.declared.block.Block.TheVariants as block
 use Rattle.gb_cert_place.specs.declared.block.Part.{Part}
@@ -20,13 +21,14 @@ use Rattle.gb_cert_place.specs.declared.block.Stop.{Stop}
 use Rattle.gb_cert_place.specs.declared.field.Field.{Field}
 use Rattle.gb_cert_place.specs.declared.field.Field.TheVariants as field
 use Rattle.gb_cert_place.specs.Blocks.{read_block, forget}
-use Rattle.gb_cert_place.specs.Layout.{Layout, number_width, number_width_by, layout, width_of, Contains, choose, lookup, field_at}
-use Rattle.gb_cert_place.specs.Standing.{AmongItems, AtItem, InItems, AtItemCount, BehindItemCount, InTold, AtTold, AmongCells, AtCell, InCells, AtCellCount, BehindCellCount, InLists, FirstTold, BehindTold, InState, AtCore, BehindCore, BehindItems, AmongRanges, AtRange, InRanges, AtRangeCount, BehindRangeCount, InExit, AtReturns, BehindReturns, InBase, AtBase, InNeeded, AtNeed, BehindNeed, BehindRanges, InBody, FirstBase, BehindBase, InProcedure, AtEntry, BehindEntry, InProcedures, AtProcedure, InNode, AtKey, AtBank, BehindBank, InNodes, AtNode, InCertificate, AtHead, BehindHead, BehindProcedures}
+use Rattle.gb_cert_place.specs.Layout.{Layout, number_width, number_width_by, procedure_width, layout, width_of, Contains, choose, lookup, field_at}
+use Rattle.gb_cert_place.specs.Standing.{AmongItems, AtItem, InItems, AtItemCount, BehindItemCount, InTold, AtTold, AtToldWhole, AmongCells, AtCell, InCells, AtCellCount, BehindCellCount, InLists, FirstTold, BehindTold, InState, AtCore, BehindCore, BehindItems, AmongRanges, AtRange, InRanges, AtRangeCount, BehindRangeCount, AmongKept, AtKept, InKept, AtKeptCount, BehindKeptCount, InExit, AtReturns, BehindReturns, InNamed, FirstKept, AtMark, BehindMark, InEnding, EndsNamed, EndsOlder, InBase, AtBase, InNeeded, AtNeed, BehindNeed, BehindRanges, InBody, FirstBase, BehindBase, InProcedure, AtEntry, BehindEntry, InProcedures, AtProcedure, InNode, AtKey, AtBank, BehindBank, InNodes, AtNode, AmongFacts, AtFact, InFacts, AtFactCount, BehindFactCount, InCertificate, AtHead, BehindHead, BehindFacts, BehindProcedures}
 use Rattle.gb_cert_place.specs.Stops.{StopsAt, StopsIn, is_missing}
 use Rattle.gb_cert_place.specs.Places.{byte_by, fault_byte, FallsIn}
 use Rattle.gb_cert_place.proofs.Locality.{failed}
 use Rattle.gb_cert_place.proofs.Stopping.{is_cut_short}
-use Rattle.gb_cert_place.proofs.Widths.{IsWithin, cut_mapped, IsWithin-mapped, IsWithin-word_between, IsWithin-count_within, IsWithin-core, IsWithin-item_count, IsWithin-val, IsWithin-relations, IsWithin-base, IsWithin-cell, IsWithin-range, IsWithin-returns, IsWithin-entry, IsWithin-need, IsWithin-key, head_within}
+use Rattle.gb_cert_place.proofs.Widths.{IsWithin, cut_mapped, IsWithin-byte, IsWithin-mapped, IsWithin-word_between, IsWithin-count_within, IsWithin-item_count, IsWithin-relations, IsWithin-base, IsWithin-range, IsWithin-returns, IsWithin-entry, IsWithin-need, head_within}
+use Rattle.gb_cert_place.proofs.WholeWidths.{IsWithin-word_count_within, IsWithin-fact, IsWithin-free_address, IsWithin-core_by, IsWithin-val_by, IsWithin-told, IsWithin-cell_by, IsWithin-key_by}
 
 -- ---- looking up
 
@@ -87,29 +89,36 @@ abbrev IsRight : Block → List ℕ → Type 0
 IsRight (block.Head version) bytes = version ≡ slice_index_or bytes 4 1
 IsRight b bytes = Unit {0}
 
-head_decides : (version : ℕ) (bytes : List ℕ) → version ≡ slice_index_or bytes 4 1 → Decides (mapped forget head_at) bytes (width_of (layout (block.Head version)))
+head_decides : (version : ℕ) (bytes : List ℕ) → version ≡ slice_index_or bytes 4 1 → Decides (mapped forget any_head_at) bytes (width_of (layout (block.Head version)))
 unfolding layout
 head_decides version bytes right j le few h =
     let l : length (take j bytes) ≡ j = length-take-le j bytes few in
     let n : number_width version ≡ number_width (slice_index_or (take j bytes) 4 1) = ap number_width (right ∙ sym (get_or-take j bytes 4 1 (omega arith))) in
-    head_within (take j bytes) (omega arith) (cut_mapped forget head_at (take j bytes) h)
+    let m : procedure_width version ≡ procedure_width (slice_index_or (take j bytes) 4 1) = ap procedure_width (right ∙ sym (get_or-take j bytes 4 1 (omega arith))) in
+    head_within (take j bytes) (omega arith) (cut_mapped forget any_head_at (take j bytes) h)
 
 block_decides : (b : Block) (bytes : List ℕ) → IsRight b bytes → Decides (read_block b) bytes (width_of (layout b))
 unfolding read_block layout
 block_decides (block.Head version) bytes right = λ j le few h. head_decides version bytes right j le few h
+block_decides block.FactCount bytes right = within_decides _ 2 (IsWithin-mapped forget _ 2 (IsWithin-word_count_within fact_limit)) bytes
+block_decides (block.Fact region) bytes right = within_decides _ 8 (IsWithin-mapped forget _ 8 (IsWithin-fact region)) bytes
 block_decides (block.Entry version nodes) bytes right = within_decides _ (number_width version + 0) (subst (λ n. IsWithin (read_block (block.Entry version nodes)) n) (omega arith) (IsWithin-mapped forget _ _ (IsWithin-entry version nodes))) bytes
 block_decides (block.Base is_main region) bytes right = within_decides _ 2 (IsWithin-mapped forget _ 2 (IsWithin-base is_main region)) bytes
 block_decides (block.Need rules is_main region) bytes right = within_decides _ 2 (IsWithin-mapped forget _ 2 (IsWithin-need rules is_main region)) bytes
 block_decides (block.RangeCount rules is_main) bytes right = within_decides _ 1 (IsWithin-mapped forget _ 1 (IsWithin-count_within (range_room rules is_main))) bytes
 block_decides (block.Range index region least) bytes right = within_decides _ 4 (IsWithin-mapped forget _ 4 (IsWithin-range region least)) bytes
+block_decides (block.KeptCount is_main) bytes right = within_decides _ 1 (IsWithin-mapped forget _ 1 (IsWithin-count_within (kept_room is_main))) bytes
+block_decides (block.KeptAddress index region least) bytes right = within_decides _ 2 (IsWithin-mapped forget _ 2 (IsWithin-free_address region least)) bytes
+block_decides block.Mark bytes right = within_decides _ 1 (IsWithin-mapped forget _ 1 IsWithin-byte) bytes
 block_decides (block.Returns is_main) bytes right = within_decides _ 1 (IsWithin-mapped forget _ 1 (IsWithin-returns is_main)) bytes
-block_decides (block.Core rules role) bytes right = within_decides _ 40 (IsWithin-mapped forget _ 40 (IsWithin-core rules role)) bytes
+block_decides (block.Core form role) bytes right = within_decides _ 40 (IsWithin-mapped forget _ 40 (IsWithin-core_by form role)) bytes
 block_decides (block.ItemCount rules role stack_set) bytes right = within_decides _ 1 (IsWithin-mapped forget _ 1 (IsWithin-item_count rules role stack_set)) bytes
-block_decides (block.Item rules index) bytes right = within_decides _ 3 (IsWithin-mapped forget _ 3 (IsWithin-val rules)) bytes
+block_decides (block.Item form index) bytes right = within_decides _ 3 (IsWithin-mapped forget _ 3 (IsWithin-val_by form)) bytes
 block_decides (block.Told region test) bytes right = within_decides _ 30 (IsWithin-mapped forget _ 30 (IsWithin-relations region test)) bytes
+block_decides (block.ToldWhole facts region may_be_aside test) bytes right = within_decides _ 116 (IsWithin-mapped forget _ 116 (IsWithin-told facts region may_be_aside test)) bytes
 block_decides (block.CellCount rules) bytes right = within_decides _ 1 (IsWithin-mapped forget _ 1 (IsWithin-count_within (cell_room rules))) bytes
-block_decides (block.Cell rules index region least) bytes right = within_decides _ 5 (IsWithin-mapped forget _ 5 (IsWithin-cell rules region least)) bytes
-block_decides (block.Key procedures before) bytes right = within_decides _ 3 (IsWithin-mapped forget _ 3 (IsWithin-key procedures before)) bytes
+block_decides (block.Cell form index region least) bytes right = within_decides _ 5 (IsWithin-mapped forget _ 5 (IsWithin-cell_by form region least)) bytes
+block_decides (block.Key version procedures before) bytes right = within_decides _ (procedure_width version + 2) (IsWithin-mapped forget _ _ (IsWithin-key_by version procedures before)) bytes
 block_decides block.Bank bytes right = within_decides _ 2 (IsWithin-mapped forget _ 2 (IsWithin-word_between 0 511)) bytes
 
 some_width : (b : Block) → 0 < width_of (layout b)
@@ -120,44 +129,51 @@ some_width (block.Entry version nodes) = by (version == 1)
     by : (b : Bool) → 0 < number_width_by b + 0
     by true = omega arith
     by false = omega arith
+some_width block.FactCount = omega arith
+some_width (block.Fact region) = omega arith
 some_width (block.Base is_main region) = omega arith
 some_width (block.Need rules is_main region) = omega arith
 some_width (block.RangeCount rules is_main) = omega arith
 some_width (block.Range index region least) = omega arith
+some_width (block.KeptCount is_main) = omega arith
+some_width (block.KeptAddress index region least) = omega arith
+some_width block.Mark = omega arith
 some_width (block.Returns is_main) = omega arith
-some_width (block.Core rules role) = omega arith
+some_width (block.Core form role) = omega arith
 some_width (block.ItemCount rules role stack_set) = omega arith
-some_width (block.Item rules index) = omega arith
+some_width (block.Item form index) = omega arith
 some_width (block.Told region test) = omega arith
+some_width (block.ToldWhole facts region may_be_aside test) = omega arith
 some_width (block.CellCount rules) = omega arith
-some_width (block.Cell rules index region least) = omega arith
-some_width (block.Key procedures before) = omega arith
+some_width (block.Cell form index region least) = omega arith
+some_width (block.Key version procedures before) = omega arith
 some_width block.Bank = omega arith
 
 -- ---- a head stands at the front alone
 
-among_items_right : {rules : Rules} {count : ℕ} {bytes rest : List ℕ} {b : Block} → AmongItems rules count bytes b rest → IsRight b rest
+among_items_right : {form : Form} {count : ℕ} {bytes rest : List ℕ} {b : Block} → AmongItems form count bytes b rest → IsRight b rest
 among_items_right (AtItem lt p) = tt
 
-in_items_right : {rules : Rules} {role : Role} {stack_set : Bool} {bytes rest : List ℕ} {b : Block} → InItems rules role stack_set bytes b rest → IsRight b rest
+in_items_right : {form : Form} {role : Role} {stack_set : Bool} {bytes rest : List ℕ} {b : Block} → InItems form role stack_set bytes b rest → IsRight b rest
 in_items_right AtItemCount = tt
 in_items_right (BehindItemCount e a) = among_items_right a
 
-in_told_right : {rules : Rules} {region : Region} {test : Option ℕ} {bytes rest : List ℕ} {b : Block} → InTold rules region test bytes b rest → IsRight b rest
+in_told_right : {form : Form} {region : Region} {may_be_aside : Bool} {test : Option ℕ} {bytes rest : List ℕ} {b : Block} → InTold form region may_be_aside test bytes b rest → IsRight b rest
 in_told_right (AtTold e) = tt
+in_told_right (AtToldWhole e) = tt
 
-among_cells_right : {rules : Rules} {region : Region} {count : ℕ} {bytes rest : List ℕ} {b : Block} → AmongCells rules region count bytes b rest → IsRight b rest
+among_cells_right : {form : Form} {region : Region} {count : ℕ} {bytes rest : List ℕ} {b : Block} → AmongCells form region count bytes b rest → IsRight b rest
 among_cells_right (AtCell lt p) = tt
 
-in_cells_right : {rules : Rules} {region : Region} {bytes rest : List ℕ} {b : Block} → InCells rules region bytes b rest → IsRight b rest
+in_cells_right : {form : Form} {region : Region} {bytes rest : List ℕ} {b : Block} → InCells form region bytes b rest → IsRight b rest
 in_cells_right AtCellCount = tt
 in_cells_right (BehindCellCount e a) = among_cells_right a
 
-in_lists_right : {rules : Rules} {region : Region} {test : Option ℕ} {bytes rest : List ℕ} {b : Block} → InLists rules region test bytes b rest → IsRight b rest
+in_lists_right : {form : Form} {region : Region} {may_be_aside : Bool} {test : Option ℕ} {bytes rest : List ℕ} {b : Block} → InLists form region may_be_aside test bytes b rest → IsRight b rest
 in_lists_right (FirstTold a) = in_told_right a
 in_lists_right (BehindTold e a) = in_cells_right a
 
-in_state_right : {rules : Rules} {role : Role} {region : Region} {bytes rest : List ℕ} {b : Block} → InState rules role region bytes b rest → IsRight b rest
+in_state_right : {form : Form} {role : Role} {region : Region} {bytes rest : List ℕ} {b : Block} → InState form role region bytes b rest → IsRight b rest
 in_state_right AtCore = tt
 in_state_right (BehindCore e a) = in_items_right a
 in_state_right (BehindItems e f a) = in_lists_right a
@@ -169,41 +185,65 @@ in_ranges_right : {rules : Rules} {is_main : Bool} {region : Region} {bytes rest
 in_ranges_right AtRangeCount = tt
 in_ranges_right (BehindRangeCount e a) = among_ranges_right a
 
-in_exit_right : {number : ℕ} {rules : Rules} {is_main : Bool} {region : Region} {bytes rest : List ℕ} {p : Part} {b : Block} → InExit number rules is_main region bytes p b rest → IsRight b rest
+among_kept_right : {region : Region} {count : ℕ} {bytes rest : List ℕ} {b : Block} → AmongKept region count bytes b rest → IsRight b rest
+among_kept_right (AtKept lt p) = tt
+
+in_kept_right : {is_main : Bool} {region : Region} {bytes rest : List ℕ} {b : Block} → InKept is_main region bytes b rest → IsRight b rest
+in_kept_right AtKeptCount = tt
+in_kept_right (BehindKeptCount e a) = among_kept_right a
+
+in_exit_right : {number : ℕ} {form : Form} {is_main : Bool} {region : Region} {bytes rest : List ℕ} {p : Part} {b : Block} → InExit number form is_main region bytes p b rest → IsRight b rest
 in_exit_right AtReturns = tt
 in_exit_right (BehindReturns e a) = in_state_right a
+
+in_named_right : {number facts : ℕ} {is_main : Bool} {region : Region} {bytes rest : List ℕ} {p : Part} {b : Block} → InNamed number facts is_main region bytes p b rest → IsRight b rest
+in_named_right (FirstKept a) = in_kept_right a
+in_named_right (AtMark e) = tt
+in_named_right (BehindMark e f a) = in_exit_right a
+
+in_ending_right : {number version facts : ℕ} {is_main : Bool} {region : Region} {bytes rest : List ℕ} {p : Part} {b : Block} → InEnding number version facts is_main region bytes p b rest → IsRight b rest
+in_ending_right (EndsNamed e a) = in_named_right a
+in_ending_right (EndsOlder e a) = in_exit_right a
 
 in_base_right : {rules : Rules} {is_main : Bool} {region : Region} {bytes rest : List ℕ} {b : Block} → InBase rules is_main region bytes b rest → IsRight b rest
 in_base_right (AtBase e) = tt
 
-in_needed_right : {number : ℕ} {rules : Rules} {is_main : Bool} {region : Region} {bytes rest : List ℕ} {p : Part} {b : Block} → InNeeded number rules is_main region bytes p b rest → IsRight b rest
+in_needed_right : {number version facts : ℕ} {is_main : Bool} {region : Region} {bytes rest : List ℕ} {p : Part} {b : Block} → InNeeded number version facts is_main region bytes p b rest → IsRight b rest
 in_needed_right AtNeed = tt
 in_needed_right (BehindNeed e a) = in_ranges_right a
-in_needed_right (BehindRanges e f a) = in_exit_right a
+in_needed_right (BehindRanges e f a) = in_ending_right a
 
-in_body_right : {number : ℕ} {rules : Rules} {is_main : Bool} {region : Region} {bytes rest : List ℕ} {p : Part} {b : Block} → InBody number rules is_main region bytes p b rest → IsRight b rest
+in_body_right : {number version facts : ℕ} {is_main : Bool} {region : Region} {bytes rest : List ℕ} {p : Part} {b : Block} → InBody number version facts is_main region bytes p b rest → IsRight b rest
 in_body_right (FirstBase a) = in_base_right a
 in_body_right (BehindBase e a) = in_needed_right a
 
-in_procedure_right : {number version nodes : ℕ} {region : Region} {is_main : Bool} {bytes rest : List ℕ} {p : Part} {b : Block} → InProcedure number version region nodes is_main bytes p b rest → IsRight b rest
+in_procedure_right : {number : ℕ} {h : Head} {facts : ℕ} {is_main : Bool} {bytes rest : List ℕ} {p : Part} {b : Block} → InProcedure number h facts is_main bytes p b rest → IsRight b rest
 in_procedure_right AtEntry = tt
 in_procedure_right (BehindEntry e a) = in_body_right a
 
-in_procedures_right : {h : Head} {bytes rest : List ℕ} {p : Part} {b : Block} → InProcedures h bytes p b rest → IsRight b rest
+in_procedures_right : {h : Head} {facts : ℕ} {bytes rest : List ℕ} {p : Part} {b : Block} → InProcedures h facts bytes p b rest → IsRight b rest
 in_procedures_right (AtProcedure lt p a) = in_procedure_right a
 
-in_node_right : {rules : Rules} {region : Region} {procedures : ℕ} {before : ℕ × ℕ} {bytes rest : List ℕ} {b : Block} → InNode rules region procedures before bytes b rest → IsRight b rest
+in_node_right : {h : Head} {facts : ℕ} {counts : List ℕ} {before : ℕ × ℕ} {bytes rest : List ℕ} {b : Block} → InNode h facts counts before bytes b rest → IsRight b rest
 in_node_right AtKey = tt
 in_node_right (AtBank e) = tt
 in_node_right (BehindBank e f a) = in_state_right a
 
-in_nodes_right : {rules : Rules} {h : Head} {bytes rest : List ℕ} {p : Part} {b : Block} → InNodes rules h bytes p b rest → IsRight b rest
+in_nodes_right : {h : Head} {facts : ℕ} {counts : List ℕ} {bytes rest : List ℕ} {p : Part} {b : Block} → InNodes h facts counts bytes p b rest → IsRight b rest
 in_nodes_right (AtNode lt p a) = in_node_right a
+
+among_facts_right : {region : Region} {count : ℕ} {bytes rest : List ℕ} {p : Part} {b : Block} → AmongFacts region count bytes p b rest → IsRight b rest
+among_facts_right (AtFact lt p) = tt
+
+in_facts_right : {version : ℕ} {region : Region} {bytes rest : List ℕ} {p : Part} {b : Block} → InFacts version region bytes p b rest → IsRight b rest
+in_facts_right (AtFactCount e) = tt
+in_facts_right (BehindFactCount e f a) = among_facts_right a
 
 in_certificate_right : {bytes rest : List ℕ} {p : Part} {b : Block} → InCertificate bytes p b rest → IsRight b rest
 in_certificate_right AtHead = refl
-in_certificate_right (BehindHead e a) = in_procedures_right a
-in_certificate_right (BehindProcedures e f a) = in_nodes_right a
+in_certificate_right (BehindHead e a) = in_facts_right a
+in_certificate_right (BehindFacts e f a) = in_procedures_right a
+in_certificate_right (BehindProcedures e f g a) = in_nodes_right a
 
 -- ---- places
 

@@ -12,13 +12,13 @@ use Rattle.gb_fields.specs.declared.fault.CertFault.{CertFault}
 use Rattle.gb_states.specs.declared.role.Role.{Role}
 use Rattle.gb_states.specs.declared.role.Role.TheVariants as role
 use Rattle.gb_states.specs.declared.relations.Present.{Present}
-use Rattle.gb_fields.specs.Limits.{procedure_limit, range_room, unit, item_limit, need_limit, origin_limit}
+use Rattle.gb_fields.specs.Limits.{range_room, unit, item_limit, need_limit, origin_limit}
 use Rattle.gb_fields.specs.Rules.{usual_base}
 use Rattle.gb_fields.specs.Format.{Read, byte}
 use Rattle.gb_states.specs.Rules.{role_of}
-use Rattle.gb_fields.specs.Reading.{word, quad, node_number_by, node_number, byte_between, word_between, count_within, yes_no, returns_at, entry_at, nothing, base_at, times, need_at, key_at, magic_at, version_at, region_at, node_count_at, head_at}
+use Rattle.gb_fields.specs.Reading.{word, quad, node_number_by, node_number, byte_between, word_between, count_within, yes_no, returns_at, entry_at, nothing, base_at, times, need_at, key_at, magic_at, region_at, node_count_at}
 use Rattle.gb_states.specs.RelationReading.{defaulted, present_at, registers_at, address_at, byte_at, pair_at, bounds_at, other_at, factor_at, link_of, link_at, facts_at, pairs_at, relations_at, relations_by}
-use Rattle.gb_states.specs.Reading.{origin_at, val_at, may_at, ime_at, test_at, flg_at, ctl_at, vals_at, core_at, item_count_at, items_at, cell_at, cells_at, state_at, range_at, ranges_at, exit_at, needed_at, body_at, procedure_at, node_at, procedures_at, nodes_at, certificate_at}
+use Rattle.gb_states.specs.Reading.{origin_at, val_at, may_at, ime_at, test_at, flg_at, ctl_at, vals_at, core_at, item_count_at, items_at, cell_at, cells_at, state_at, range_at, ranges_at, exit_at, needed_at, body_at, procedure_at, node_at}
 use Rattle.gb_states.proofs.Formats.{same_pair}
 use Rattle.gb_cert_place.proofs.Locality.{IsLocal, IsLocal-byte, IsLocal-both, IsLocal-followed, IsLocal-mapped, IsLocal-checked, IsLocal-optional, IsLocal-several, IsLocal-counted}
 
@@ -40,7 +40,7 @@ IsLocal-node_number version = by (version == 1)
     by true = IsLocal-word
     by false = IsLocal-quad
 
-IsLocal-byte_between : (low high : ℕ) → IsLocal (byte_between low high)
+pub IsLocal-byte_between : (low high : ℕ) → IsLocal (byte_between low high)
 IsLocal-byte_between low high = IsLocal-checked _ _ byte IsLocal-byte
 
 pub IsLocal-word_between : (low high : ℕ) → IsLocal (word_between low high)
@@ -49,7 +49,7 @@ IsLocal-word_between low high = IsLocal-checked _ _ word IsLocal-word
 pub IsLocal-count_within : (limit : ℕ) → IsLocal (count_within limit)
 IsLocal-count_within limit = IsLocal-checked _ _ byte IsLocal-byte
 
-IsLocal-yes_no : IsLocal yes_no
+pub IsLocal-yes_no : IsLocal yes_no
 unfolding yes_no
 IsLocal-yes_no = IsLocal-mapped _ _ (IsLocal-byte_between 0 1)
 
@@ -63,19 +63,19 @@ pub IsLocal-val : (rules : Rules) → IsLocal (val_at rules)
 unfolding val_at
 IsLocal-val rules = IsLocal-mapped _ _ (IsLocal-both _ _ (IsLocal-checked _ _ _ (IsLocal-both _ _ IsLocal-byte IsLocal-byte)) (IsLocal-origin rules))
 
-IsLocal-may : IsLocal may_at
+pub IsLocal-may : IsLocal may_at
 unfolding may_at
 IsLocal-may = IsLocal-mapped _ _ (IsLocal-byte_between 1 3)
 
-IsLocal-ime : IsLocal ime_at
+pub IsLocal-ime : IsLocal ime_at
 unfolding ime_at
 IsLocal-ime = IsLocal-mapped _ _ (IsLocal-byte_between 1 7)
 
-IsLocal-test : IsLocal test_at
+pub IsLocal-test : IsLocal test_at
 unfolding test_at
 IsLocal-test = IsLocal-mapped _ _ (IsLocal-checked _ _ _ (IsLocal-both _ _ IsLocal-yes_no IsLocal-byte))
 
-IsLocal-flg : IsLocal flg_at
+pub IsLocal-flg : IsLocal flg_at
 unfolding flg_at
 IsLocal-flg = IsLocal-mapped _ _ (IsLocal-both _ _ (IsLocal-checked _ _ _ (IsLocal-mapped _ _ IsLocal-byte)) (IsLocal-mapped _ _ (IsLocal-checked _ _ _ IsLocal-byte)))
 
@@ -94,7 +94,7 @@ IsLocal-vals rules =
 
 -- ---- what is known of several parts together
 
-IsLocal-nothing : {X : Type 0} (x : X) → IsLocal (nothing x)
+pub IsLocal-nothing : {X : Type 0} (x : X) → IsLocal (nothing x)
 IsLocal-nothing {X} x = record {
   taken = λ bytes y rest e. let s = same_pair x y bytes rest e in record { front = []; parts = s.1; again = λ more. ap (λ (z : X). Ok (z, more)) s.0 };
   refused = λ bytes more e h n. absurd (none bytes e h);
@@ -103,11 +103,11 @@ IsLocal-nothing {X} x = record {
     none : (bytes : List ℕ) (e : CertFault) → nothing x bytes ≡ Err e → ⊥
     none bytes e h = cc
 
-IsLocal-defaulted : {X : Type 0} (x : X) (there : Bool) (r : Read X) → IsLocal r → IsLocal (defaulted x there r)
+pub IsLocal-defaulted : {X : Type 0} (x : X) (there : Bool) (r : Read X) → IsLocal r → IsLocal (defaulted x there r)
 IsLocal-defaulted x true r a = a
 IsLocal-defaulted x false r a = IsLocal-nothing x
 
-IsLocal-present : (test : Option ℕ) → IsLocal (present_at test)
+pub IsLocal-present : (test : Option ℕ) → IsLocal (present_at test)
 unfolding present_at
 IsLocal-present test = IsLocal-checked _ _ _ (IsLocal-mapped _ _ (IsLocal-byte_between 0 127))
 
@@ -115,19 +115,19 @@ IsLocal-registers : (address : Bool) → IsLocal (registers_at address)
 unfolding registers_at
 IsLocal-registers address = IsLocal-checked _ _ _ (IsLocal-mapped _ _ (IsLocal-byte_between 0 127))
 
-IsLocal-address : (region : Region) → IsLocal (address_at region)
+pub IsLocal-address : (region : Region) → IsLocal (address_at region)
 unfolding address_at
 IsLocal-address region = IsLocal-checked _ _ _ IsLocal-word
 
-IsLocal-one_byte : (region : Region) (test : Option ℕ) (address bits : Bool) → IsLocal (byte_at region test address bits)
+pub IsLocal-one_byte : (region : Region) (test : Option ℕ) (address bits : Bool) → IsLocal (byte_at region test address bits)
 unfolding byte_at
 IsLocal-one_byte region test address bits = IsLocal-mapped _ _ (IsLocal-both _ _ (IsLocal-registers address) (IsLocal-both _ _ (IsLocal-optional address _ (IsLocal-address region)) (IsLocal-optional bits _ IsLocal-byte)))
 
-IsLocal-pair : IsLocal pair_at
+pub IsLocal-pair : IsLocal pair_at
 unfolding pair_at
 IsLocal-pair = IsLocal-mapped _ _ (IsLocal-byte_between 0 2)
 
-IsLocal-bounds : IsLocal bounds_at
+pub IsLocal-bounds : IsLocal bounds_at
 unfolding bounds_at
 IsLocal-bounds = IsLocal-mapped _ _ (IsLocal-checked _ _ _ (IsLocal-both _ _ IsLocal-word IsLocal-word))
 
@@ -148,10 +148,10 @@ IsLocal-facts : IsLocal facts_at
 unfolding facts_at
 IsLocal-facts = IsLocal-checked _ _ _ (IsLocal-mapped _ _ (IsLocal-both _ _ IsLocal-bounds IsLocal-link))
 
-IsLocal-known : (there : Bool) → IsLocal (defaulted nothing_known there facts_at)
+pub IsLocal-known : (there : Bool) → IsLocal (defaulted nothing_known there facts_at)
 IsLocal-known there = IsLocal-defaulted nothing_known there facts_at IsLocal-facts
 
-IsLocal-pairs : (p : Present) → IsLocal (pairs_at p)
+pub IsLocal-pairs : (p : Present) → IsLocal (pairs_at p)
 unfolding pairs_at
 IsLocal-pairs p = IsLocal-mapped _ _ (IsLocal-both _ _ (IsLocal-known p.bc) (IsLocal-both _ _ (IsLocal-known p.de) (IsLocal-known p.hl)))
 
@@ -246,38 +246,16 @@ pub IsLocal-node : (rules : Rules) (region : Region) (procedures : ℕ) (before 
 unfolding node_at
 IsLocal-node rules region procedures before = IsLocal-mapped _ _ (IsLocal-followed _ _ (IsLocal-key procedures before) (λ k. IsLocal-both _ _ (IsLocal-word_between 0 511) (IsLocal-state rules (role_of k.0) region)))
 
--- ---- certificates
+-- ---- heads
 
-IsLocal-magic : IsLocal magic_at
+pub IsLocal-magic : IsLocal magic_at
 unfolding magic_at
 IsLocal-magic = IsLocal-mapped _ _ (IsLocal-checked _ _ _ (IsLocal-both _ _ IsLocal-byte (IsLocal-both _ _ IsLocal-byte (IsLocal-both _ _ IsLocal-byte IsLocal-byte))))
 
-IsLocal-version : IsLocal version_at
-unfolding version_at
-IsLocal-version = IsLocal-mapped _ _ (IsLocal-followed _ _ IsLocal-magic (λ rules. IsLocal-checked _ _ byte IsLocal-byte))
-
-IsLocal-region : (rules : Rules) → IsLocal (region_at rules)
+pub IsLocal-region : (rules : Rules) → IsLocal (region_at rules)
 unfolding region_at
 IsLocal-region rules = IsLocal-mapped _ _ (IsLocal-checked _ _ _ (IsLocal-both _ _ IsLocal-word IsLocal-word))
 
-IsLocal-node_count : (version : ℕ) → IsLocal (node_count_at version)
+pub IsLocal-node_count : (version : ℕ) → IsLocal (node_count_at version)
 unfolding node_count_at
 IsLocal-node_count version = IsLocal-checked _ _ _ (IsLocal-checked _ _ _ (IsLocal-node_number version))
-
-pub IsLocal-head : IsLocal head_at
-unfolding head_at
-IsLocal-head =
-    IsLocal-mapped _ _ (IsLocal-followed _ _ IsLocal-version
-    (λ v. IsLocal-both _ _ (IsLocal-region (rules_of v)) (IsLocal-both _ _ (IsLocal-checked _ _ _ (IsLocal-count_within procedure_limit)) (IsLocal-node_count v))))
-
-pub IsLocal-procedures : (version : ℕ) (region : Region) (nodes count : ℕ) → IsLocal (procedures_at version region nodes count)
-unfolding procedures_at
-IsLocal-procedures version region nodes count = IsLocal-several _ _ (IsLocal-procedure version region nodes) count true
-
-pub IsLocal-nodes : (rules : Rules) (region : Region) (procedures count : ℕ) → IsLocal (nodes_at rules region procedures count)
-unfolding nodes_at
-IsLocal-nodes rules region procedures count = IsLocal-several _ _ (IsLocal-node rules region procedures) count (0, 0)
-
-pub IsLocal-certificate : IsLocal certificate_at
-unfolding certificate_at
-IsLocal-certificate = IsLocal-mapped _ _ (IsLocal-checked _ _ _ (IsLocal-followed _ _ IsLocal-head (λ h. IsLocal-both _ _ (IsLocal-procedures h.version h.region h.nodes h.procedures) (IsLocal-nodes (rules_of h.version) h.region h.procedures h.nodes))))

@@ -3,9 +3,14 @@ pub mod Containing
 pub mod FieldsAreLocal
 pub mod Locality
 pub mod LookupLaws
+pub mod NamedLaws
+pub mod NodeLaws
 pub mod PartLaws
 pub mod PlaceLaws
+pub mod ProcedureLaws
 pub mod StandingLaws
 pub mod Stopping
 pub mod WalkLaws
+pub mod WholeFieldsAreLocal
+pub mod WholeWidths
 pub mod Widths

@@ -1,67 +1,112 @@
--- Where a walk over a state, a procedure or a node stops, by its parts.
-use Rattle.std.proofs.Common.{◌≡◌, ℕ, Bool, true, List, Option, Some, Ok, refl, sym, ◌∙◌, ap, subst}
+-- Where a walk over a state or over an exit stops, by its parts.
+use Rattle.std.proofs.Common.{◌≡◌, ℕ, ◌*◌, Bool, true, false, List, Option, Some, Result, Ok, Err, refl, sym, ◌∙◌, ap, subst, arith}
 use Rattle.gb_ops.specs.declared.machine.Region.{Region}
 use Rattle.gb_domain.specs.declared.types.Val.{Val}
 use Rattle.gb_domain.specs.declared.types.Cell.{Cell}
-use Rattle.gb_domain.specs.declared.types.Range.{Range}
 use Rattle.gb_domain.specs.declared.rules.Rules.{Rules}
 use Rattle.gb_domain.specs.declared.rules.Rules.TheVariants.{Simple, Extended}
 use Rattle.gb_domain.specs.declared.relations.Relations.{Relations}
+use Rattle.gb_domain.specs.Summaries.{SummaryParts}
 use Rattle.gb_domain.specs.Types.{AbsState}
-use Rattle.gb_domain.specs.Limits.{rules_of, cell_room}
+use Rattle.gb_domain.specs.Limits.{cell_room}
+use Rattle.gb_domain.specs.Rules.{after_cell}
+use Rattle.gb_fields.specs.declared.fault.CertFault.{CertFault}
+use Rattle.gb_fields.specs.Limits.{range_room, unit}
+use Rattle.gb_fields.specs.Format.{Read, go_on, followed, both, mapped, optional, several}
+use Rattle.gb_fields.specs.Reading.{count_within, returns_at, base_at, times}
+use Rattle.gb_states.specs.declared.form.Form.{Form}
+use Rattle.gb_states.specs.declared.form.Form.TheVariants.{Older, Fourth}
 use Rattle.gb_states.specs.declared.role.Role.{Role}
 use Rattle.gb_states.specs.declared.role.Role.TheVariants as role
-use Rattle.gb_fields.specs.Limits.{range_room, unit}
-use Rattle.gb_fields.specs.Format.{Read, followed, both, mapped, optional, several}
+use Rattle.gb_states.specs.Forms.{cell_by, vals_by, state_by}
+use Rattle.gb_states.specs.Rules.{after_range}
+use Rattle.gb_states.specs.RelationReading.{relations_at}
+use Rattle.gb_states.specs.Reading as simple
+use Rattle.gb_states.specs.Reading.{Tested, item_count_at, range_at, ranges_at}
+use Rattle.gb_states.specs.WholeRules.{may_be_aside}
+use Rattle.gb_states.specs.WholeReading as whole
 use Rattle.gb_cert.specs.Skipping.{skipped, past}
-use Rattle.gb_domain.specs.Rules.{after_cell}
-use Rattle.gb_states.specs.Rules.{role_of, key, after_range}
-use Rattle.gb_fields.specs.Reading.{count_within, word_between, returns_at, entry_at, base_at, times, need_at, key_at}
-use Rattle.gb_states.specs.RelationReading.{relations_at, relations_by}
-use Rattle.gb_states.specs.Reading.{Tested, core_at, vals_of, item_count_at, items_at, cell_at, cells_at, to_state, state_at, range_at, ranges_at, exit_at, needed_at, body_at, to_procedure, procedure_at, to_node, node_at}
-use Rattle.gb_cert.proofs.Skipping.{skipped-mapped, skipped-both, core_then, exit_then, no_exit, need_then, entry_then, bank_then}
+use Rattle.gb_cert.specs.AnyPlaces.{exit_by}
+use Rattle.gb_cert.proofs.Skipping.{skipped-mapped, skipped-both, skipped-followed}
 use Rattle.gb_cert_place.specs.declared.block.Stop.{Stop}
 use Rattle.gb_cert_place.specs.declared.block.Block.TheVariants as block
 use Rattle.gb_cert_place.specs.Blocks.{read_block}
+use Rattle.gb_cert_place.specs.Forms.{rules_in, core_by, items_by, cells_by, Told, told_by}
 use Rattle.gb_cert_place.specs.Stops.{Stopped}
-use Rattle.gb_cert_place.proofs.FieldsAreLocal.{IsLocal-word_between, IsLocal-count_within, IsLocal-core, IsLocal-item_count, IsLocal-items, IsLocal-relations_by, IsLocal-ranges, IsLocal-returns, IsLocal-entry, IsLocal-base, IsLocal-need, IsLocal-key}
-use Rattle.gb_cert_place.proofs.BlockLaws.{no_item_count, no_cell_count, no_range_count, no_core, no_returns, no_entry, no_base, no_told, no_need, no_key, no_bank}
-use Rattle.gb_cert_place.proofs.WalkLaws.{Stopped-first, Stopped-mapped, Stopped-block, Stopped-then, Stopped-after}
+use Rattle.gb_cert_place.proofs.FieldsAreLocal.{IsLocal-count_within, IsLocal-item_count, IsLocal-returns}
+use Rattle.gb_cert_place.proofs.WholeFieldsAreLocal.{IsLocal-core_by, IsLocal-items_by, IsLocal-told_by}
+use Rattle.gb_cert_place.proofs.BlockLaws.{no_item_count, no_cell_count, no_range_count, no_core, no_returns, no_base, no_told, no_told_whole}
+use Rattle.gb_cert_place.proofs.WalkLaws.{Stopped-first, Stopped-mapped, Stopped-block, Stopped-then, Stopped-after, Stopped-as}
+
+-- ---- in other words
+
+pub same_skipped : {X : Type 0} (r t : Read X) (bytes : List ℕ) → r bytes ≡ t bytes → skipped r bytes ≡ skipped t bytes
+same_skipped {X} r t bytes e = ap (λ (read : Result (X × List ℕ) CertFault). go_on {Y = List ℕ} read (λ x rest. Ok rest)) e
 
 -- ---- counted lists
 
-skipped-followed : {X Y : Type 0} (r : Read X) (t : X → Read Y) (bytes : List ℕ) (x : X) (rest : List ℕ) → r bytes ≡ Ok (x, rest) → skipped (followed r t) bytes ≡ skipped (t x) rest
-skipped-followed r t bytes x rest e = rw e (skipped-mapped (λ y. (x, y)) (t x) rest)
+-- items behind their count
+abbrev listed_items : Form → Role → Bool → Read (List Val)
+listed_items form role stack_set = mapped (λ p. p.1) (followed (item_count_at (rules_in form) role stack_set) (λ count. vals_by form (times (unit (rules_in form)) count)))
 
-pub stop_in_item_count : (rules : Rules) (role : Role) (stack_set : Bool) (bytes : List ℕ) (s : Stop) → Stopped (read_block (block.ItemCount rules role stack_set)) bytes s → Stopped (items_at rules role stack_set) bytes s
-unfolding read_block items_at
-stop_in_item_count rules role stack_set bytes s p = Stopped-mapped _ _ bytes s (Stopped-first _ _ bytes s (Stopped-block (item_count_at rules role stack_set) bytes s p))
+items_are : (form : Form) (role : Role) (stack_set : Bool) (bytes : List ℕ) → listed_items form role stack_set bytes ≡ items_by form role stack_set bytes
+unfolding simple.items_at whole.items_at unit
+items_are (Older rules) role stack_set bytes = refl
+items_are (Fourth facts kept) role stack_set bytes = by (item_count_at Extended role stack_set bytes)
+  where
+    by : (read : Result (ℕ × List ℕ) CertFault)
+        → go_on {X = ℕ × List Val} {Y = List Val × List ℕ} (go_on read (λ x rest. go_on (vals_by (Fourth facts kept) (1 * x) rest) (λ y end. Ok ((x, y), end)))) (λ p rest. Ok (p.1, rest))
+        ≡ go_on {X = ℕ × List Val} {Y = List Val × List ℕ} (go_on read (λ x rest. go_on (vals_by (Fourth facts kept) x rest) (λ y end. Ok ((x, y), end)))) (λ p rest. Ok (p.1, rest))
+    by (Ok p) = let k : 1 * p.0 ≡ p.0 = omega arith in ap (λ n. go_on {X = ℕ × List Val} {Y = List Val × List ℕ} (go_on (vals_by (Fourth facts kept) n p.1) (λ y end. Ok ((p.0, y), end))) (λ p rest. Ok (p.1, rest))) k
+    by (Err e) = refl
 
-pub in_items : (rules : Rules) (role : Role) (stack_set : Bool) (bytes : List ℕ) (count items : ℕ) (rest : List ℕ) (s : Stop) → item_count_at rules role stack_set bytes ≡ Ok (count, rest) → items ≡ times (unit rules) count → Stopped (vals_of rules items) rest s
-    → Stopped (items_at rules role stack_set) bytes s
-unfolding items_at
-in_items rules role stack_set bytes count items rest s h same p =
-    Stopped-mapped _ _ bytes s (Stopped-then (item_count_at rules role stack_set) (λ count. vals_of rules (times (unit rules) count)) (IsLocal-item_count rules role stack_set) bytes count rest s h (subst (λ n. Stopped (vals_of rules n) rest s) same p))
+pub stop_in_item_count : (form : Form) (role : Role) (stack_set : Bool) (bytes : List ℕ) (rules : Rules) (s : Stop) → rules ≡ rules_in form → Stopped (read_block (block.ItemCount rules role stack_set)) bytes s → Stopped (items_by form role stack_set) bytes s
+unfolding read_block
+stop_in_item_count form role stack_set bytes rules s same p =
+    Stopped-as (listed_items form role stack_set) (items_by form role stack_set) bytes s (items_are form role stack_set)
+    (Stopped-mapped _ _ bytes s (Stopped-first (item_count_at (rules_in form) role stack_set) (λ count. vals_by form (times (unit (rules_in form)) count)) bytes s
+    (Stopped-block (item_count_at (rules_in form) role stack_set) bytes s (subst (λ r. Stopped (read_block (block.ItemCount r role stack_set)) bytes s) same p))))
 
-pub items_passed : (rules : Rules) (role : Role) (stack_set : Bool) (bytes : List ℕ) (count items : ℕ) (rest end : List ℕ) → item_count_at rules role stack_set bytes ≡ Ok (count, rest) → items ≡ times (unit rules) count → skipped (vals_of rules items) rest ≡ Ok end
-    → skipped (items_at rules role stack_set) bytes ≡ Ok end
-unfolding items_at
-items_passed rules role stack_set bytes count items rest end h same g =
-    skipped-mapped (λ p. p.1) (followed (item_count_at rules role stack_set) (λ count. vals_of rules (times (unit rules) count))) bytes
-    ∙ skipped-followed (item_count_at rules role stack_set) (λ count. vals_of rules (times (unit rules) count)) bytes count rest h ∙ subst (λ n. skipped (vals_of rules n) rest ≡ Ok end) same g
+pub in_items : (form : Form) (role : Role) (stack_set : Bool) (bytes : List ℕ) (rules : Rules) (count items : ℕ) (rest : List ℕ) (s : Stop) → rules ≡ rules_in form → item_count_at rules role stack_set bytes ≡ Ok (count, rest) → items ≡ times (unit rules) count → Stopped (vals_by form items) rest s
+    → Stopped (items_by form role stack_set) bytes s
+in_items form role stack_set bytes rules count items rest s same h size p =
+    Stopped-as (listed_items form role stack_set) (items_by form role stack_set) bytes s (items_are form role stack_set)
+    (Stopped-mapped _ _ bytes s (Stopped-then (item_count_at (rules_in form) role stack_set) (λ count. vals_by form (times (unit (rules_in form)) count)) (IsLocal-item_count (rules_in form) role stack_set) bytes count rest s
+    (subst (λ r. item_count_at r role stack_set bytes ≡ Ok (count, rest)) same h) (subst (λ n. Stopped (vals_by form n) rest s) (size ∙ ap (λ r. times (unit r) count) same) p)))
 
-pub stop_in_cell_count : (rules : Rules) (region : Region) (bytes : List ℕ) (s : Stop) → Stopped (read_block (block.CellCount rules)) bytes s → Stopped (cells_at rules region) bytes s
-unfolding read_block cells_at
-stop_in_cell_count rules region bytes s p = Stopped-mapped _ _ bytes s (Stopped-first _ _ bytes s (Stopped-block (count_within (cell_room rules)) bytes s p))
+pub items_passed : (form : Form) (role : Role) (stack_set : Bool) (bytes : List ℕ) (rules : Rules) (count items : ℕ) (rest end : List ℕ) → rules ≡ rules_in form → item_count_at rules role stack_set bytes ≡ Ok (count, rest) → items ≡ times (unit rules) count → skipped (vals_by form items) rest ≡ Ok end
+    → skipped (items_by form role stack_set) bytes ≡ Ok end
+items_passed form role stack_set bytes rules count items rest end same h size g =
+    sym (same_skipped (listed_items form role stack_set) (items_by form role stack_set) bytes (items_are form role stack_set bytes))
+    ∙ skipped-mapped (λ p. p.1) (followed (item_count_at (rules_in form) role stack_set) (λ count. vals_by form (times (unit (rules_in form)) count))) bytes
+    ∙ skipped-followed (item_count_at (rules_in form) role stack_set) (λ count. vals_by form (times (unit (rules_in form)) count)) bytes count rest (subst (λ r. item_count_at r role stack_set bytes ≡ Ok (count, rest)) same h)
+    ∙ subst (λ n. skipped (vals_by form n) rest ≡ Ok end) (size ∙ ap (λ r. times (unit r) count) same) g
 
-pub in_cells : (rules : Rules) (region : Region) (bytes : List ℕ) (count : ℕ) (rest : List ℕ) (s : Stop) → count_within (cell_room rules) bytes ≡ Ok (count, rest) → Stopped (several (cell_at rules region) after_cell 0 count) rest s → Stopped (cells_at rules region) bytes s
-unfolding cells_at
-in_cells rules region bytes count rest s h p = Stopped-mapped _ _ bytes s (Stopped-then (count_within (cell_room rules)) (several (cell_at rules region) after_cell 0) (IsLocal-count_within (cell_room rules)) bytes count rest s h p)
+-- cells behind their count
+abbrev listed_cells : Form → Region → Read (List Cell)
+listed_cells form region = mapped (λ p. p.1) (followed (count_within (cell_room (rules_in form))) (several (cell_by form region) after_cell 0))
 
-pub cells_passed : (rules : Rules) (region : Region) (bytes : List ℕ) (count : ℕ) (rest end : List ℕ) → count_within (cell_room rules) bytes ≡ Ok (count, rest) → skipped (several (cell_at rules region) after_cell 0 count) rest ≡ Ok end → skipped (cells_at rules region) bytes ≡ Ok end
-unfolding cells_at
-cells_passed rules region bytes count rest end h g =
-    skipped-mapped (λ p. p.1) (followed (count_within (cell_room rules)) (several (cell_at rules region) after_cell 0)) bytes ∙ skipped-followed (count_within (cell_room rules)) (several (cell_at rules region) after_cell 0) bytes count rest h ∙ g
+cells_are : (form : Form) (region : Region) (bytes : List ℕ) → listed_cells form region bytes ≡ cells_by form region bytes
+unfolding simple.cells_at whole.cells_at
+cells_are (Older rules) region bytes = refl
+cells_are (Fourth facts kept) region bytes = refl
+
+pub stop_in_cell_count : (form : Form) (region : Region) (bytes : List ℕ) (rules : Rules) (s : Stop) → rules ≡ rules_in form → Stopped (read_block (block.CellCount rules)) bytes s → Stopped (cells_by form region) bytes s
+unfolding read_block
+stop_in_cell_count form region bytes rules s same p =
+    Stopped-as (listed_cells form region) (cells_by form region) bytes s (cells_are form region)
+    (Stopped-mapped _ _ bytes s (Stopped-first (count_within (cell_room (rules_in form))) (several (cell_by form region) after_cell 0) bytes s (Stopped-block (count_within (cell_room (rules_in form))) bytes s (subst (λ r. Stopped (read_block (block.CellCount r)) bytes s) same p))))
+
+pub in_cells : (form : Form) (region : Region) (bytes : List ℕ) (limit count : ℕ) (rest : List ℕ) (s : Stop) → limit ≡ cell_room (rules_in form) → count_within limit bytes ≡ Ok (count, rest) → Stopped (several (cell_by form region) after_cell 0 count) rest s → Stopped (cells_by form region) bytes s
+in_cells form region bytes limit count rest s same h p =
+    Stopped-as (listed_cells form region) (cells_by form region) bytes s (cells_are form region)
+    (Stopped-mapped _ _ bytes s (Stopped-then (count_within (cell_room (rules_in form))) (several (cell_by form region) after_cell 0) (IsLocal-count_within (cell_room (rules_in form))) bytes count rest s (subst (λ n. count_within n bytes ≡ Ok (count, rest)) same h) p))
+
+pub cells_passed : (form : Form) (region : Region) (bytes : List ℕ) (limit count : ℕ) (rest end : List ℕ) → limit ≡ cell_room (rules_in form) → count_within limit bytes ≡ Ok (count, rest) → skipped (several (cell_by form region) after_cell 0 count) rest ≡ Ok end → skipped (cells_by form region) bytes ≡ Ok end
+cells_passed form region bytes limit count rest end same h g =
+    sym (same_skipped (listed_cells form region) (cells_by form region) bytes (cells_are form region bytes))
+    ∙ skipped-mapped (λ p. p.1) (followed (count_within (cell_room (rules_in form))) (several (cell_by form region) after_cell 0)) bytes
+    ∙ skipped-followed (count_within (cell_room (rules_in form))) (several (cell_by form region) after_cell 0) bytes count rest (subst (λ n. count_within n bytes ≡ Ok (count, rest)) same h) ∙ g
 
 pub stop_in_range_count : (rules : Rules) (is_main : Bool) (region : Region) (bytes : List ℕ) (s : Stop) → Stopped (read_block (block.RangeCount rules is_main)) bytes s → Stopped (ranges_at rules is_main region) bytes s
 unfolding read_block ranges_at
@@ -78,17 +123,24 @@ unfolding ranges_at
 ranges_passed rules is_main region bytes count rest end h g =
     skipped-mapped (λ p. p.1) (followed (count_within (range_room rules is_main)) (several (range_at region) after_range 0)) bytes ∙ skipped-followed (count_within (range_room rules is_main)) (several (range_at region) after_range 0) bytes count rest h ∙ g
 
--- ---- what is there in version 3 alone
+-- ---- what is there in versions 3 and 4 alone
 
-pub told_absent : (rules : Rules) (region : Region) (test : Option ℕ) (bytes : List ℕ) → rules ≡ Simple → skipped (relations_by rules region test) bytes ≡ Ok bytes
-told_absent rules region test bytes e = subst (λ r. skipped (relations_by r region test) bytes ≡ Ok bytes) (sym e) refl
+pub told_absent : (form : Form) (region : Region) (aside : Bool) (test : Option ℕ) (bytes : List ℕ) → form ≡ Older Simple → skipped (told_by form region aside test) bytes ≡ Ok bytes
+told_absent form region aside test bytes e = subst (λ f. skipped (told_by f region aside test) bytes ≡ Ok bytes) (sym e) refl
 
-pub told_passed : (rules : Rules) (region : Region) (test : Option ℕ) (bytes : List ℕ) (r : Relations) (rest : List ℕ) → rules ≡ Extended → relations_at region test bytes ≡ Ok (r, rest) → skipped (relations_by rules region test) bytes ≡ Ok rest
-told_passed rules region test bytes r rest e h = subst (λ s. skipped (relations_by s region test) bytes ≡ Ok rest) (sym e) (rw h refl)
+pub told_passed : (form : Form) (region : Region) (aside : Bool) (test : Option ℕ) (bytes : List ℕ) (r : Relations) (rest : List ℕ) → form ≡ Older Extended → relations_at region test bytes ≡ Ok (r, rest) → skipped (told_by form region aside test) bytes ≡ Ok rest
+told_passed form region aside test bytes r rest e h = subst (λ f. skipped (told_by f region aside test) bytes ≡ Ok rest) (sym e) (rw h refl)
 
-pub stop_in_told : (rules : Rules) (region : Region) (test : Option ℕ) (bytes : List ℕ) (s : Stop) → rules ≡ Extended → Stopped (read_block (block.Told region test)) bytes s → Stopped (relations_by rules region test) bytes s
+pub told_whole_passed : (form : Form) (facts kept : ℕ) (region : Region) (aside : Bool) (test : Option ℕ) (bytes : List ℕ) (r : Relations × SummaryParts) (rest : List ℕ) → form ≡ Fourth facts kept → whole.told_at facts region aside test bytes ≡ Ok (r, rest) → skipped (told_by form region aside test) bytes ≡ Ok rest
+told_whole_passed form facts kept region aside test bytes r rest e h = subst (λ f. skipped (told_by f region aside test) bytes ≡ Ok rest) (sym e) (rw h refl)
+
+pub stop_in_told : (form : Form) (region : Region) (aside : Bool) (test : Option ℕ) (bytes : List ℕ) (s : Stop) → form ≡ Older Extended → Stopped (read_block (block.Told region test)) bytes s → Stopped (told_by form region aside test) bytes s
 unfolding read_block
-stop_in_told rules region test bytes s e p = subst (λ r. Stopped (relations_by r region test) bytes s) (sym e) (Stopped-block (relations_at region test) bytes s p)
+stop_in_told form region aside test bytes s e p = subst (λ f. Stopped (told_by f region aside test) bytes s) (sym e) (Stopped-block (relations_at region test) bytes s p)
+
+pub stop_in_told_whole : (form : Form) (facts kept : ℕ) (region : Region) (aside : Bool) (test : Option ℕ) (bytes : List ℕ) (s : Stop) → form ≡ Fourth facts kept → Stopped (read_block (block.ToldWhole facts region aside test)) bytes s → Stopped (told_by form region aside test) bytes s
+unfolding read_block
+stop_in_told_whole form facts kept region aside test bytes s e p = subst (λ f. Stopped (told_by f region aside test) bytes s) (sym e) (Stopped-block (whole.told_at facts region aside test) bytes s p)
 
 pub base_absent : (rules : Rules) (is_main : Bool) (region : Region) (bytes : List ℕ) → rules ≡ Simple → skipped (base_at rules is_main region) bytes ≡ Ok bytes
 unfolding base_at
@@ -109,127 +161,88 @@ stop_in_first r t bytes s p = Stopped-first r (λ x. t) bytes s p
 pub both_passed : {X Y : Type 0} (r : Read X) (t : Read Y) (bytes mid end : List ℕ) → skipped r bytes ≡ Ok mid → skipped t mid ≡ Ok end → skipped (both r t) bytes ≡ Ok end
 both_passed r t bytes mid end g k = skipped-both r t bytes ∙ ap (λ r. past r (skipped t)) g ∙ k
 
-pub stop_in_list_told : (rules : Rules) (region : Region) (test : Option ℕ) (bytes : List ℕ) (s : Stop) → Stopped (relations_by rules region test) bytes s → Stopped (both (relations_by rules region test) (cells_at rules region)) bytes s
-stop_in_list_told rules region test bytes s p = stop_in_first (relations_by rules region test) (cells_at rules region) bytes s p
+pub stop_in_list_told : (form : Form) (region : Region) (aside : Bool) (test : Option ℕ) (bytes : List ℕ) (s : Stop) → Stopped (told_by form region aside test) bytes s → Stopped (both (told_by form region aside test) (cells_by form region)) bytes s
+stop_in_list_told form region aside test bytes s p = stop_in_first (told_by form region aside test) (cells_by form region) bytes s p
 
-pub stop_in_list_cells : (rules : Rules) (region : Region) (test : Option ℕ) (bytes rest : List ℕ) (s : Stop) → skipped (relations_by rules region test) bytes ≡ Ok rest → Stopped (cells_at rules region) rest s → Stopped (both (relations_by rules region test) (cells_at rules region)) bytes s
-stop_in_list_cells rules region test bytes rest s g p = Stopped-after (relations_by rules region test) (cells_at rules region) (IsLocal-relations_by rules region test) bytes rest s g p
+pub stop_in_list_cells : (form : Form) (region : Region) (aside : Bool) (test : Option ℕ) (bytes rest : List ℕ) (s : Stop) → skipped (told_by form region aside test) bytes ≡ Ok rest → Stopped (cells_by form region) rest s → Stopped (both (told_by form region aside test) (cells_by form region)) bytes s
+stop_in_list_cells form region aside test bytes rest s g p = Stopped-after (told_by form region aside test) (cells_by form region) (IsLocal-told_by form region aside test) bytes rest s g p
 
-pub lists_passed : (rules : Rules) (region : Region) (test : Option ℕ) (bytes mid end : List ℕ) → skipped (relations_by rules region test) bytes ≡ Ok mid → skipped (cells_at rules region) mid ≡ Ok end → skipped (both (relations_by rules region test) (cells_at rules region)) bytes ≡ Ok end
-lists_passed rules region test bytes mid end g k = both_passed (relations_by rules region test) (cells_at rules region) bytes mid end g k
+pub lists_passed : (form : Form) (region : Region) (aside : Bool) (test : Option ℕ) (bytes mid end : List ℕ) → skipped (told_by form region aside test) bytes ≡ Ok mid → skipped (cells_by form region) mid ≡ Ok end → skipped (both (told_by form region aside test) (cells_by form region)) bytes ≡ Ok end
+lists_passed form region aside test bytes mid end g k = both_passed (told_by form region aside test) (cells_by form region) bytes mid end g k
 
 -- ---- states
 
-abbrev lists_behind : Rules → Role → Region → Tested → Read (List Val × (Relations × List Cell))
-lists_behind rules role region k = both (items_at rules role k.0.stack_set) (both (relations_by rules region k.1) (cells_at rules region))
+abbrev Behind : Form → Type 0
+Behind form = List Val × (Told form × List Cell)
 
-pub stop_in_core : (rules : Rules) (role : Role) (region : Region) (bytes : List ℕ) (s : Stop) → Stopped (read_block (block.Core rules role)) bytes s → Stopped (state_at rules role region) bytes s
-unfolding read_block state_at
-stop_in_core rules role region bytes s p = Stopped-mapped to_state _ bytes s (Stopped-first (core_at rules role) (lists_behind rules role region) bytes s (Stopped-block (core_at rules role) bytes s p))
+abbrev to_state_by : (form : Form) → Tested × Behind form → AbsState
+to_state_by (Older rules) p = simple.to_state p
+to_state_by (Fourth facts kept) p = whole.to_state p
 
-pub stop_in_items : (rules : Rules) (role : Role) (region : Region) (bytes : List ℕ) (core : Tested) (rest : List ℕ) (s : Stop) → core_at rules role bytes ≡ Ok (core, rest) → Stopped (items_at rules role core.0.stack_set) rest s → Stopped (state_at rules role region) bytes s
-unfolding state_at
-stop_in_items rules role region bytes core rest s h p =
-    Stopped-mapped to_state _ bytes s (Stopped-then (core_at rules role) (lists_behind rules role region) (IsLocal-core rules role) bytes core rest s h
-    (Stopped-first (items_at rules role core.0.stack_set) (λ x. both (relations_by rules region core.1) (cells_at rules region)) rest s p))
+abbrev behind_core : (form : Form) → Role → Region → Tested → Read (Behind form)
+behind_core form role region k = both (items_by form role k.0.stack_set) (both (told_by form region (may_be_aside role k.0) k.1) (cells_by form region))
 
-pub stop_in_lists : (rules : Rules) (role : Role) (region : Region) (bytes : List ℕ) (core : Tested) (rest end : List ℕ) (s : Stop) → core_at rules role bytes ≡ Ok (core, rest) → skipped (items_at rules role core.0.stack_set) rest ≡ Ok end
-    → Stopped (both (relations_by rules region core.1) (cells_at rules region)) end s → Stopped (state_at rules role region) bytes s
-unfolding state_at
-stop_in_lists rules role region bytes core rest end s h g p =
-    Stopped-mapped to_state _ bytes s (Stopped-then (core_at rules role) (lists_behind rules role region) (IsLocal-core rules role) bytes core rest s h
-    (Stopped-after (items_at rules role core.0.stack_set) (both (relations_by rules region core.1) (cells_at rules region)) (IsLocal-items rules role core.0.stack_set) rest end s g p))
+-- a state, by its parts
+abbrev parted_state : Form → Role → Region → Read AbsState
+parted_state form role region = mapped (to_state_by form) (followed (core_by form role) (behind_core form role region))
 
-pub state_passed : (rules : Rules) (role : Role) (region : Region) (bytes : List ℕ) (core : Tested) (rest mid end : List ℕ) → core_at rules role bytes ≡ Ok (core, rest) → skipped (items_at rules role core.0.stack_set) rest ≡ Ok mid
-    → skipped (both (relations_by rules region core.1) (cells_at rules region)) mid ≡ Ok end → skipped (state_at rules role region) bytes ≡ Ok end
-state_passed rules role region bytes core rest mid end h g k = core_then rules role region bytes core rest h ∙ ap (λ r. past r (skipped (both (relations_by rules region core.1) (cells_at rules region)))) g ∙ k
+state_is : (form : Form) (role : Role) (region : Region) (bytes : List ℕ) → parted_state form role region bytes ≡ state_by form role region bytes
+unfolding simple.state_at whole.state_at
+state_is (Older rules) role region bytes = refl
+state_is (Fourth facts kept) role region bytes = refl
 
--- ---- procedures
+of_state : (form : Form) (role : Role) (region : Region) (bytes : List ℕ) (s : Stop) → Stopped (followed (core_by form role) (behind_core form role region)) bytes s → Stopped (state_by form role region) bytes s
+of_state form role region bytes s p = Stopped-as (parted_state form role region) (state_by form role region) bytes s (state_is form role region) (Stopped-mapped (to_state_by form) (followed (core_by form role) (behind_core form role region)) bytes s p)
 
-pub stop_in_returns : (rules : Rules) (is_main : Bool) (region : Region) (bytes : List ℕ) (s : Stop) → Stopped (read_block (block.Returns is_main)) bytes s → Stopped (exit_at rules is_main region) bytes s
-unfolding read_block exit_at
-stop_in_returns rules is_main region bytes s p = Stopped-mapped _ _ bytes s (Stopped-first (returns_at is_main) (λ returns. optional returns (state_at rules role.Exit region)) bytes s (Stopped-block (returns_at is_main) bytes s p))
-
-pub stop_in_exit : (rules : Rules) (is_main : Bool) (region : Region) (bytes rest : List ℕ) (s : Stop) → returns_at is_main bytes ≡ Ok (true, rest) → Stopped (state_at rules role.Exit region) rest s → Stopped (exit_at rules is_main region) bytes s
-unfolding exit_at
-stop_in_exit rules is_main region bytes rest s h p = Stopped-mapped _ _ bytes s (Stopped-then (returns_at is_main) (λ returns. optional returns (state_at rules role.Exit region)) (IsLocal-returns is_main) bytes true rest s h (Stopped-mapped Some (state_at rules role.Exit region) rest s p))
-
-pub exit_passed : (rules : Rules) (is_main : Bool) (region : Region) (bytes rest end : List ℕ) → returns_at is_main bytes ≡ Ok (true, rest) → skipped (state_at rules role.Exit region) rest ≡ Ok end → skipped (exit_at rules is_main region) bytes ≡ Ok end
-exit_passed rules is_main region bytes rest end h g = exit_then rules is_main region bytes rest h ∙ g
-
-abbrev ranges_exit : Rules → Bool → Region → Read (List Range × Option AbsState)
-ranges_exit rules is_main region = both (ranges_at rules is_main region) (exit_at rules is_main region)
-
-pub stop_in_need : (rules : Rules) (is_main : Bool) (region : Region) (bytes : List ℕ) (s : Stop) → Stopped (read_block (block.Need rules is_main region)) bytes s → Stopped (needed_at rules is_main region) bytes s
+pub stop_in_core : (form : Form) (role : Role) (region : Region) (bytes : List ℕ) (s : Stop) → Stopped (read_block (block.Core form role)) bytes s → Stopped (state_by form role region) bytes s
 unfolding read_block
-stop_in_need rules is_main region bytes s p = Stopped-first (need_at rules is_main region) (λ x. ranges_exit rules is_main region) bytes s (Stopped-block (need_at rules is_main region) bytes s p)
+stop_in_core form role region bytes s p = of_state form role region bytes s (Stopped-first (core_by form role) (behind_core form role region) bytes s (Stopped-block (core_by form role) bytes s p))
 
-pub stop_in_ranges : (rules : Rules) (is_main : Bool) (region : Region) (bytes : List ℕ) (need : ℕ) (first : List ℕ) (s : Stop) → need_at rules is_main region bytes ≡ Ok (need, first) → Stopped (ranges_at rules is_main region) first s → Stopped (needed_at rules is_main region) bytes s
-stop_in_ranges rules is_main region bytes need first s g p =
-    Stopped-then (need_at rules is_main region) (λ x. ranges_exit rules is_main region) (IsLocal-need rules is_main region) bytes need first s g
-    (Stopped-first (ranges_at rules is_main region) (λ x. exit_at rules is_main region) first s p)
+pub stop_in_items : (form : Form) (role : Role) (region : Region) (bytes : List ℕ) (core : Tested) (rest : List ℕ) (s : Stop) → core_by form role bytes ≡ Ok (core, rest) → Stopped (items_by form role core.0.stack_set) rest s → Stopped (state_by form role region) bytes s
+stop_in_items form role region bytes core rest s h p =
+    of_state form role region bytes s (Stopped-then (core_by form role) (behind_core form role region) (IsLocal-core_by form role) bytes core rest s h
+    (Stopped-first (items_by form role core.0.stack_set) (λ x. both (told_by form region (may_be_aside role core.0) core.1) (cells_by form region)) rest s p))
 
-pub stop_behind_ranges : (rules : Rules) (is_main : Bool) (region : Region) (bytes : List ℕ) (need : ℕ) (first second : List ℕ) (s : Stop) → need_at rules is_main region bytes ≡ Ok (need, first)
-    → skipped (ranges_at rules is_main region) first ≡ Ok second → Stopped (exit_at rules is_main region) second s → Stopped (needed_at rules is_main region) bytes s
-stop_behind_ranges rules is_main region bytes need first second s g k p =
-    Stopped-then (need_at rules is_main region) (λ x. ranges_exit rules is_main region) (IsLocal-need rules is_main region) bytes need first s g
-    (Stopped-after (ranges_at rules is_main region) (exit_at rules is_main region) (IsLocal-ranges rules is_main region) first second s k p)
+pub stop_in_lists : (form : Form) (role : Role) (region : Region) (bytes : List ℕ) (core : Tested) (rest end : List ℕ) (aside : Bool) (s : Stop) → core_by form role bytes ≡ Ok (core, rest) → skipped (items_by form role core.0.stack_set) rest ≡ Ok end → aside ≡ may_be_aside role core.0
+    → Stopped (both (told_by form region aside core.1) (cells_by form region)) end s → Stopped (state_by form role region) bytes s
+stop_in_lists form role region bytes core rest end aside s h g same p =
+    of_state form role region bytes s (Stopped-then (core_by form role) (behind_core form role region) (IsLocal-core_by form role) bytes core rest s h
+    (Stopped-after (items_by form role core.0.stack_set) (both (told_by form region (may_be_aside role core.0) core.1) (cells_by form region)) (IsLocal-items_by form role core.0.stack_set) rest end s g
+    (subst (λ b. Stopped (both (told_by form region b core.1) (cells_by form region)) end s) same p)))
 
-pub needed_passed : (rules : Rules) (is_main : Bool) (region : Region) (bytes : List ℕ) (need : ℕ) (first second end : List ℕ) → need_at rules is_main region bytes ≡ Ok (need, first)
-    → skipped (ranges_at rules is_main region) first ≡ Ok second → skipped (exit_at rules is_main region) second ≡ Ok end → skipped (needed_at rules is_main region) bytes ≡ Ok end
-needed_passed rules is_main region bytes need first second end g k m = need_then rules is_main region bytes need first g ∙ ap (λ r. past r (skipped (exit_at rules is_main region))) k ∙ m
+pub state_passed : (form : Form) (role : Role) (region : Region) (bytes : List ℕ) (core : Tested) (rest mid end : List ℕ) (aside : Bool) → core_by form role bytes ≡ Ok (core, rest) → skipped (items_by form role core.0.stack_set) rest ≡ Ok mid → aside ≡ may_be_aside role core.0
+    → skipped (both (told_by form region aside core.1) (cells_by form region)) mid ≡ Ok end → skipped (state_by form role region) bytes ≡ Ok end
+state_passed form role region bytes core rest mid end aside h g same k =
+    sym (same_skipped (parted_state form role region) (state_by form role region) bytes (state_is form role region bytes))
+    ∙ skipped-mapped (to_state_by form) (followed (core_by form role) (behind_core form role region)) bytes
+    ∙ skipped-followed (core_by form role) (behind_core form role region) bytes core rest h
+    ∙ both_passed (items_by form role core.0.stack_set) (both (told_by form region (may_be_aside role core.0) core.1) (cells_by form region)) rest mid end g
+    (subst (λ b. skipped (both (told_by form region b core.1) (cells_by form region)) mid ≡ Ok end) same k)
 
-pub stop_in_body_base : (rules : Rules) (is_main : Bool) (region : Region) (bytes : List ℕ) (s : Stop) → Stopped (base_at rules is_main region) bytes s → Stopped (body_at rules is_main region) bytes s
-stop_in_body_base rules is_main region bytes s p = stop_in_first (base_at rules is_main region) (needed_at rules is_main region) bytes s p
+-- ---- exits
 
-pub stop_in_body_needed : (rules : Rules) (is_main : Bool) (region : Region) (bytes rest : List ℕ) (s : Stop) → skipped (base_at rules is_main region) bytes ≡ Ok rest → Stopped (needed_at rules is_main region) rest s → Stopped (body_at rules is_main region) bytes s
-stop_in_body_needed rules is_main region bytes rest s g p = Stopped-after (base_at rules is_main region) (needed_at rules is_main region) (IsLocal-base rules is_main region) bytes rest s g p
+pub stop_in_returns : (form : Form) (is_main : Bool) (region : Region) (bytes : List ℕ) (s : Stop) → Stopped (read_block (block.Returns is_main)) bytes s → Stopped (exit_by form is_main region) bytes s
+unfolding read_block exit_by
+stop_in_returns form is_main region bytes s p = Stopped-mapped _ _ bytes s (Stopped-first (returns_at is_main) (λ returns. optional returns (state_by form role.Exit region)) bytes s (Stopped-block (returns_at is_main) bytes s p))
 
-pub body_passed : (rules : Rules) (is_main : Bool) (region : Region) (bytes mid end : List ℕ) → skipped (base_at rules is_main region) bytes ≡ Ok mid → skipped (needed_at rules is_main region) mid ≡ Ok end → skipped (body_at rules is_main region) bytes ≡ Ok end
-body_passed rules is_main region bytes mid end g k = both_passed (base_at rules is_main region) (needed_at rules is_main region) bytes mid end g k
+pub stop_in_exit : (form : Form) (is_main : Bool) (region : Region) (bytes rest : List ℕ) (s : Stop) → returns_at is_main bytes ≡ Ok (true, rest) → Stopped (state_by form role.Exit region) rest s → Stopped (exit_by form is_main region) bytes s
+unfolding exit_by
+stop_in_exit form is_main region bytes rest s h p = Stopped-mapped _ _ bytes s (Stopped-then (returns_at is_main) (λ returns. optional returns (state_by form role.Exit region)) (IsLocal-returns is_main) bytes true rest s h (Stopped-mapped Some (state_by form role.Exit region) rest s p))
 
-pub stop_in_entry : (version : ℕ) (region : Region) (nodes : ℕ) (is_main : Bool) (bytes : List ℕ) (s : Stop) → Stopped (read_block (block.Entry version nodes)) bytes s → Stopped (procedure_at version region nodes is_main) bytes s
-unfolding read_block procedure_at
-stop_in_entry version region nodes is_main bytes s p =
-    Stopped-mapped to_procedure _ bytes s (Stopped-first (entry_at version nodes) (λ x. body_at (rules_of version) is_main region) bytes s (Stopped-block (entry_at version nodes) bytes s p))
+pub exit_passed : (form : Form) (is_main : Bool) (region : Region) (bytes rest end : List ℕ) → returns_at is_main bytes ≡ Ok (true, rest) → skipped (state_by form role.Exit region) rest ≡ Ok end → skipped (exit_by form is_main region) bytes ≡ Ok end
+unfolding exit_by
+exit_passed form is_main region bytes rest end h g =
+    skipped-mapped (λ p. p.1) (followed (returns_at is_main) (λ returns. optional returns (state_by form role.Exit region))) bytes
+    ∙ skipped-followed (returns_at is_main) (λ returns. optional returns (state_by form role.Exit region)) bytes true rest h
+    ∙ skipped-mapped Some (state_by form role.Exit region) rest ∙ g
 
-pub stop_in_body : (version : ℕ) (region : Region) (nodes : ℕ) (is_main : Bool) (bytes : List ℕ) (entry : ℕ) (first : List ℕ) (rules : Rules) (s : Stop) → entry_at version nodes bytes ≡ Ok (entry, first) → rules ≡ rules_of version → Stopped (body_at rules is_main region) first s
-    → Stopped (procedure_at version region nodes is_main) bytes s
-unfolding procedure_at
-stop_in_body version region nodes is_main bytes entry first rules s h same p =
-    Stopped-mapped to_procedure _ bytes s (Stopped-then (entry_at version nodes) (λ x. body_at (rules_of version) is_main region) (IsLocal-entry version nodes) bytes entry first s h (subst (λ r. Stopped (body_at r is_main region) first s) same p))
-
-pub procedure_passed : (version : ℕ) (region : Region) (nodes : ℕ) (is_main : Bool) (bytes : List ℕ) (entry : ℕ) (first : List ℕ) (rules : Rules) (end : List ℕ) → entry_at version nodes bytes ≡ Ok (entry, first) → rules ≡ rules_of version
-    → skipped (body_at rules is_main region) first ≡ Ok end → skipped (procedure_at version region nodes is_main) bytes ≡ Ok end
-procedure_passed version region nodes is_main bytes entry first rules end h same g = entry_then version region nodes is_main bytes entry first h ∙ subst (λ r. skipped (body_at r is_main region) first ≡ Ok end) same g
-
--- ---- nodes
-
-pub stop_in_key : (rules : Rules) (region : Region) (procedures : ℕ) (before : ℕ × ℕ) (bytes : List ℕ) (s : Stop) → Stopped (read_block (block.Key procedures before)) bytes s → Stopped (mapped key (node_at rules region procedures before)) bytes s
-unfolding read_block node_at
-stop_in_key rules region procedures before bytes s p =
-    Stopped-mapped key (node_at rules region procedures before) bytes s (Stopped-mapped to_node _ bytes s (Stopped-first (key_at procedures before) (λ k. both (word_between 0 511) (state_at rules (role_of k.0) region)) bytes s (Stopped-block (key_at procedures before) bytes s p)))
-
-pub stop_in_bank : (rules : Rules) (region : Region) (procedures : ℕ) (before : ℕ × ℕ) (bytes : List ℕ) (k : ℕ × ℕ) (first : List ℕ) (s : Stop) → key_at procedures before bytes ≡ Ok (k, first) → Stopped (read_block block.Bank) first s → Stopped (mapped key (node_at rules region procedures before)) bytes s
-unfolding read_block node_at
-stop_in_bank rules region procedures before bytes k first s h p =
-    Stopped-mapped key (node_at rules region procedures before) bytes s (Stopped-mapped to_node _ bytes s (Stopped-then (key_at procedures before) (λ k. both (word_between 0 511) (state_at rules (role_of k.0) region)) (IsLocal-key procedures before) bytes k first s h
-    (Stopped-first (word_between 0 511) (λ x. state_at rules (role_of k.0) region) first s (Stopped-block (word_between 0 511) first s p))))
-
-pub stop_in_state : (rules : Rules) (region : Region) (procedures : ℕ) (before : ℕ × ℕ) (bytes : List ℕ) (k : ℕ × ℕ) (first : List ℕ) (bank : ℕ) (second : List ℕ) (role : Role) (s : Stop) → key_at procedures before bytes ≡ Ok (k, first) → word_between 0 511 first ≡ Ok (bank, second)
-    → role ≡ role_of k.0 → Stopped (state_at rules role region) second s → Stopped (mapped key (node_at rules region procedures before)) bytes s
-unfolding node_at
-stop_in_state rules region procedures before bytes k first bank second role s h g same p =
-    Stopped-mapped key (node_at rules region procedures before) bytes s (Stopped-mapped to_node _ bytes s (Stopped-then (key_at procedures before) (λ k. both (word_between 0 511) (state_at rules (role_of k.0) region)) (IsLocal-key procedures before) bytes k first s h
-    (Stopped-then (word_between 0 511) (λ x. state_at rules (role_of k.0) region) (IsLocal-word_between 0 511) first bank second s g (subst (λ r. Stopped (state_at rules r region) second s) same p))))
-
-pub node_passed : (rules : Rules) (region : Region) (procedures : ℕ) (before : ℕ × ℕ) (bytes : List ℕ) (k : ℕ × ℕ) (first : List ℕ) (bank : ℕ) (second end : List ℕ) (role : Role) → key_at procedures before bytes ≡ Ok (k, first) → word_between 0 511 first ≡ Ok (bank, second)
-    → role ≡ role_of k.0 → skipped (state_at rules role region) second ≡ Ok end → mapped key (node_at rules region procedures before) bytes ≡ Ok (k, end)
-node_passed rules region procedures before bytes k first bank second end role h g same p = bank_then rules region procedures before bytes k first bank second h g ∙ ap (λ r. past r (λ rest. Ok (k, rest))) (subst (λ r. skipped (state_at rules r region) second ≡ Ok end) same p)
+pub no_exit : (form : Form) (is_main : Bool) (region : Region) (bytes rest : List ℕ) → returns_at is_main bytes ≡ Ok (false, rest) → skipped (exit_by form is_main region) bytes ≡ Ok rest
+unfolding exit_by
+no_exit form is_main region bytes rest h = rw h refl
 
 pub ruleset walk_items = (no_item_count, stop_in_item_count, in_items, items_passed)
 
-pub ruleset walk_told = (no_told, told_absent, told_passed, stop_in_told)
+pub ruleset walk_told = (no_told, no_told_whole, told_absent, told_passed, told_whole_passed, stop_in_told, stop_in_told_whole)
 
 pub ruleset walk_cells = (no_cell_count, stop_in_cell_count, in_cells, cells_passed)
 
@@ -242,11 +255,3 @@ pub ruleset walk_state = (no_core, stop_in_core, stop_in_items, stop_in_lists, s
 pub ruleset walk_exit = (no_returns, stop_in_returns, stop_in_exit, no_exit, exit_passed)
 
 pub ruleset walk_base = (no_base, base_absent, base_passed, stop_in_base)
-
-pub ruleset walk_needed = (no_need, stop_in_need, stop_in_ranges, stop_behind_ranges, needed_passed)
-
-pub ruleset walk_body = (stop_in_body_base, stop_in_body_needed, body_passed)
-
-pub ruleset walk_procedure = (no_entry, stop_in_entry, stop_in_body, procedure_passed)
-
-pub ruleset walk_node = (no_key, no_bank, stop_in_key, stop_in_bank, stop_in_state, node_passed)

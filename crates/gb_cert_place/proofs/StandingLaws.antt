@@ -1,16 +1,13 @@
 -- A walk that stops in a part of a certificate stops where that part stands.
-use Rattle.std.proofs.Common.{◌≡◌, ℕ, ◌+◌, ◌-◌, Bool, false, List, length, Ok, refl, sym, subst}
-use Rattle.gb_domain.specs.Types.{ProcedureParts}
-use Rattle.gb_fields.specs.Format.{Read}
-use Rattle.gb_cert.specs.Skipping.{skipped}
-use Rattle.gb_states.specs.Rules.{is_after}
+use Rattle.std.proofs.Common.{◌≡◌, ℕ, ◌+◌, ◌-◌, List, length, Ok, refl, sym, subst}
+use Rattle.gb_fields.specs.Format.{Read, mapped}
 use Rattle.gb_cert_place.specs.declared.block.Part.{Part}
 use Rattle.gb_cert_place.specs.declared.block.Block.{Block}
 use Rattle.gb_cert_place.specs.declared.block.Stop.{Stop}
 use Rattle.gb_cert_place.specs.Blocks.{read_block}
 use Rattle.gb_cert_place.specs.Standing.{Passed, OneMorePassed, Of}
 use Rattle.gb_cert_place.specs.Stops.{StopsAt, Stopped, StopsIn}
-use Rattle.gb_cert_place.proofs.WalkLaws.{was_read}
+use Rattle.gb_cert_place.proofs.WalkLaws.{was_mapped}
 
 -- a walk that stopped at its first block
 pub stops_in_front : (stands_at : Part → Block → List ℕ → Type 0) (p : Part) (b : Block) (bytes : List ℕ) (s : Stop) → s.part ≡ p → s.block ≡ b → s.before ≡ length bytes → Stopped (read_block b) bytes s → stands_at p b bytes → StopsIn stands_at s
@@ -32,6 +29,8 @@ stops_within_part p block_at whole_at s f t = stops_within (Of p block_at) whole
 pub passed_on : {S X : Type 0} (step : S → Read X) (next : X → S) (first : S) (bytes : List ℕ) (i : ℕ) (s : S) (rest : List ℕ) (x : X) (after : List ℕ) → step s rest ≡ Ok (x, after) → Passed step next first bytes i s rest → Passed step next first bytes (i + 1) (next x) after
 passed_on step next first bytes i s rest x after h p = OneMorePassed p (rw h refl)
 
--- a procedure is not main where another is before it
-pub procedure_passed_over : (step : Bool → Read ProcedureParts) (bytes : List ℕ) (i : ℕ) (is_main : Bool) (first : Bool) (rest after : List ℕ) → skipped (step is_main) rest ≡ Ok after → Passed step is_after first bytes i is_main rest → Passed step is_after first bytes (i + 1) false after
-procedure_passed_over step bytes i is_main first rest after h p = let w = was_read (step is_main) rest after h in passed_on step is_after first bytes i is_main rest w.0 after w.1 p
+-- the same where only what the element tells is known, and each leaves the same
+pub passed_told : {S X V : Type 0} (step : S → Read X) (next : X → S) (f : X → V) (first : S) (bytes : List ℕ) (i : ℕ) (s t : S) → ((x : X) → next x ≡ t) → (rest : List ℕ) (v : V) (after : List ℕ) → mapped f (step s) rest ≡ Ok (v, after) → Passed step next first bytes i s rest → Passed step next first bytes (i + 1) t after
+passed_told step next f first bytes i s t same rest v after h p =
+    let w = was_mapped f (step s) rest v after h in
+    subst (λ u. Passed step next first bytes (i + 1) u after) (same w.0) (passed_on step next first bytes i s rest w.0 after w.1 p)

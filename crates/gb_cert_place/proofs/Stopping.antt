@@ -1,11 +1,11 @@
 -- Where the readers of a certificate's parts stop, by the parts of a format.
-use Rattle.std.proofs.Common.{◌≡◌, ℕ, ◌+◌, ◌-◌, ◌≤◌, ◌<◌, Bool, true, false, List, ◌++◌, length, take, drop, Result, Ok, Err, refl, sym, ◌∙◌, ap, subst, append_assoc, arith, ◌⊎◌, inl, inr}
+use Rattle.std.proofs.Common.{◌≡◌, ℕ, ◌+◌, ◌-◌, ◌≤◌, ◌<◌, true, false, List, ◌++◌, length, take, drop, Option, Result, Ok, Err, refl, sym, ◌∙◌, ap, subst, append_assoc, arith, ◌⊎◌, inl, inr}
 use Rattle.std.proofs.lemmas.List.{take-append-drop, take_all, length-append, length-drop}
 use Rattle.std.proofs.Math.Seq.{take-append-add}
 use Rattle.std.proofs.lemmas.Bool.{cases_lt}
 use Rattle.gb_fields.specs.declared.fault.CertFault.{CertFault}
 use Rattle.gb_fields.specs.declared.fault.CertFault.TheVariants as fault
-use Rattle.gb_fields.specs.Format.{Read, go_on, followed, mapped, checked}
+use Rattle.gb_fields.specs.Format.{Read, go_on, followed, mapped, faultless}
 use Rattle.gb_cert_place.specs.Stops.{StopsAt, is_missing}
 use Rattle.gb_states.proofs.Formats.{same_pair}
 use Rattle.gb_cert_place.proofs.Locality.{IsLocal, grown, failed, same_fault}
@@ -62,8 +62,8 @@ StopsAt-mapped f r bytes e k s = record {
   cut = s.cut;
 }
 
-pub StopsAt-checked : {X : Type 0} (d : CertFault) (p : X → Bool) (r : Read X) (bytes : List ℕ) (e : CertFault) (k : ℕ) → StopsAt r bytes e k → StopsAt (checked d p r) bytes e k
-StopsAt-checked d p r bytes e k s = record {
+pub StopsAt-faultless : {X : Type 0} (fault_of : X → Option CertFault) (r : Read X) (bytes : List ℕ) (e : CertFault) (k : ℕ) → StopsAt r bytes e k → StopsAt (faultless fault_of r) bytes e k
+StopsAt-faultless fault_of r bytes e k s = record {
   meets = rw s.meets refl;
   within = s.within;
   before = λ j lt. rw (s.before j lt) refl;

@@ -1,8 +1,8 @@
 -- A walk that stops in a part of a format stops in the format at the same place.
-use Rattle.std.proofs.Common.{◌≡◌, ℕ, suc, ◌+◌, ◌-◌, ◌≤◌, ◌<◌, List, ◌∷◌, length, Result, Ok, refl, sym, ◌∙◌, ap, subst, arith}
-use Rattle.std.proofs.lemmas.List.{length-append}
+use Rattle.std.proofs.Common.{◌≡◌, ℕ, suc, ◌+◌, ◌-◌, ◌≤◌, ◌<◌, List, [], ◌∷◌, ◌++◌, length, map, Result, Ok, refl, sym, ◌∙◌, ap, subst, append_assoc, arith}
+use Rattle.std.proofs.lemmas.List.{length-append, append-nil}
 use Rattle.gb_fields.specs.declared.fault.CertFault.{CertFault}
-use Rattle.gb_fields.specs.Format.{Read, followed, both, mapped, several}
+use Rattle.gb_fields.specs.Format.{Read, go_on, followed, both, mapped, several}
 use Rattle.gb_cert.specs.Skipping.{skipped}
 use Rattle.gb_states.proofs.Formats.{went_on, same_pair}
 use Rattle.gb_cert.proofs.Skipping.{skipped-mapped}
@@ -30,6 +30,22 @@ was_read {X} r bytes rest h =
   where
     ok_rest : (a b : List ℕ) → done a ≡ done b → a ≡ b
     ok_rest a b e = cc
+
+-- what stands for something was read
+pub was_mapped : {X Y : Type 0} (f : X → Y) (r : Read X) (bytes : List ℕ) (y : Y) (rest : List ℕ) → mapped f r bytes ≡ Ok (y, rest) → (x : X) × (r bytes ≡ Ok (x, rest)) × (f x ≡ y)
+was_mapped {X} {Y} f r bytes y rest h =
+    let c = went_on (r bytes) (λ x rest. Ok (f x, rest)) (y, rest) h in
+    let p = same_pair (f c.0) y c.1 rest c.3 in
+    (c.0, c.2 ∙ ap (λ (b : List ℕ). Ok (c.0, b)) p.1, p.0)
+
+pub is_mapped : {X Y : Type 0} (f : X → Y) (r : Read X) (bytes : List ℕ) (x : X) (y : Y) (rest : List ℕ) → r bytes ≡ Ok (x, rest) → f x ≡ y → mapped f r bytes ≡ Ok (y, rest)
+is_mapped {X} {Y} f r bytes x y rest h e = by (r bytes) h ∙ ap (λ (z : Y). Ok (z, rest)) e
+  where
+    by : (read : Result (X × List ℕ) CertFault) → read ≡ Ok (x, rest) → go_on {Y = Y × List ℕ} read (λ x rest. Ok (f x, rest)) ≡ Ok (f x, rest)
+    by read g = rw g refl
+
+pub is_followed : {X Y : Type 0} (r : Read X) (t : X → Read Y) (bytes : List ℕ) (x : X) (mid : List ℕ) (y : Y) (end : List ℕ) → r bytes ≡ Ok (x, mid) → t x mid ≡ Ok (y, end) → followed r t bytes ≡ Ok ((x, y), end)
+is_followed r t bytes x mid y end h g = rw (h, g) refl
 
 pub Stopped-first : {X Y : Type 0} (r : Read X) (t : X → Read Y) (bytes : List ℕ) (s : Stop) → Stopped r bytes s → Stopped (followed r t) bytes s
 Stopped-first r t bytes s p = record { order = p.order; few = p.few; stops = StopsAt-first r t bytes s.fault (length bytes - s.left) p.stops }
@@ -123,9 +139,47 @@ leads_done {S} {X} step next r bytes s n i rest le so_far =
     let l = subst (λ c. Leads r bytes (several step next s c) rest) k so_far in
     sym l.passes
 
--- the same where an element was passed over, and each leaves the same
-pub leads_past : {S X : Type 0} (step : S → Read X) (next : X → S) → ((s : S) → IsLocal (step s)) → (r : Read (List X)) (bytes : List ℕ) (s t : S) → ((x : X) → next x ≡ t) → (n i : ℕ) (rest after : List ℕ) → i < n → skipped (step s) rest ≡ Ok after
+-- ---- so many, each with something that it tells
+
+-- A reader comes to another behind some of the bytes, and this is what the elements before tell.
+pub record Tells {X V : Type 0} (f : X → V) (r : Read (List X)) (bytes : List ℕ) (t : Read (List X)) (rest : List ℕ) (told : List V) : Type 0 where
+  pub found : (ys : List X) (end : List ℕ) → t rest ≡ Ok (ys, end) → (xs : List X) × (r bytes ≡ Ok (xs, end)) × (map f xs ≡ told ++ map f ys)
+
+pub tells_start : {S X V : Type 0} (f : X → V) (step : S → Read X) (next : X → S) (s : S) (n : ℕ) (bytes : List ℕ) → Tells f (several step next s n) bytes (several step next s (n - 0)) bytes []
+tells_start f step next s n bytes =
+    let k : n ≡ n - 0 = omega arith in
+    subst (λ c. Tells f (several step next s n) bytes (several step next s c) bytes []) k (record { found = λ ys end e. (ys, e, refl) })
+
+one_read : {S X : Type 0} (step : S → Read X) (next : X → S) (n : ℕ) (s : S) (bytes : List ℕ) (x : X) (after : List ℕ) (ys : List X) (end : List ℕ) → step s bytes ≡ Ok (x, after) → several step next (next x) n after ≡ Ok (ys, end) → several step next s (suc n) bytes ≡ Ok (x ∷ ys, end)
+unfolding several
+one_read step next n s bytes x after ys end h g = rw (h, g) refl
+
+-- where each element leaves the same
+pub tells_on : {S X V : Type 0} (f : X → V) (step : S → Read X) (next : X → S) (r : Read (List X)) (bytes : List ℕ) (s t : S) → ((x : X) → next x ≡ t) → (n i : ℕ) (rest : List ℕ) (v : V) (after : List ℕ) (told : List V) → i < n → mapped f (step s) rest ≡ Ok (v, after)
+    → Tells f r bytes (several step next s (n - i)) rest told → Tells f r bytes (several step next t (n - (i + 1))) after (told ++ v ∷ [])
+tells_on {S} {X} {V} f step next r bytes s t same n i rest v after told lt h so_far =
+    let k : n - i ≡ suc (n - (i + 1)) = omega arith in
+    let m : ℕ = n - (i + 1) in
+    let w = was_mapped f (step s) rest v after h in
+    let l = subst (λ c. Tells f r bytes (several step next s c) rest told) k so_far in
+    let made : Tells f r bytes (several step next (next w.0) m) after (told ++ f w.0 ∷ []) = record {
+      found = λ ys end e.
+          let g = l.found (w.0 ∷ ys) end (one_read step next m s rest w.0 after ys end w.1 e) in
+          (g.0, g.1, g.2 ∙ sym (append_assoc told (f w.0 ∷ []) (map f ys)));
+    } in
+    subst (λ u. Tells f r bytes (several step next u m) after (told ++ v ∷ [])) (same w.0) (subst (λ u. Tells f r bytes (several step next (next w.0) m) after (told ++ u ∷ [])) w.2 made)
+
+pub tells_done : {S X V : Type 0} (f : X → V) (step : S → Read X) (next : X → S) (r : Read (List X)) (bytes : List ℕ) (s : S) (n i : ℕ) (rest : List ℕ) (told : List V) → n ≤ i → Tells f r bytes (several step next s (n - i)) rest told → mapped (map f) r bytes ≡ Ok (told, rest)
+unfolding several
+tells_done f step next r bytes s n i rest told le so_far =
+    let k : n - i ≡ 0 = omega arith in
+    let l = subst (λ c. Tells f r bytes (several step next s c) rest told) k so_far in
+    let g = l.found [] rest refl in
+    is_mapped (map f) r bytes g.0 told rest g.1 (g.2 ∙ append-nil told)
+
+-- the same where only what the element tells is known, and each leaves the same
+pub leads_told : {S X V : Type 0} (step : S → Read X) (next : X → S) (f : X → V) → ((s : S) → IsLocal (step s)) → (r : Read (List X)) (bytes : List ℕ) (s t : S) → ((x : X) → next x ≡ t) → (n i : ℕ) (rest : List ℕ) (v : V) (after : List ℕ) → i < n → mapped f (step s) rest ≡ Ok (v, after)
     → Leads r bytes (several step next s (n - i)) rest → Leads r bytes (several step next t (n - (i + 1))) after
-leads_past {S} {X} step next a r bytes s t same n i rest after lt h so_far =
-    let w = was_read (step s) rest after h in
+leads_told {S} {X} step next f a r bytes s t same n i rest v after lt h so_far =
+    let w = was_mapped f (step s) rest v after h in
     subst (λ u. Leads r bytes (several step next u (n - (i + 1))) after) (same w.0) (leads_on step next a r bytes s n i rest w.0 after lt w.1 so_far)

@@ -7,17 +7,16 @@ use Rattle.gb_states.specs.declared.role.Role.{Role}
 use Rattle.gb_domain.specs.declared.rules.Rules.{Rules}
 use Rattle.gb_domain.specs.declared.rules.Rules.TheVariants.{Extended}
 use Rattle.gb_domain.specs.declared.pairs.Other.{Other}
-use Rattle.gb_domain.specs.Limits.{rules_of}
 use Rattle.gb_domain.specs.Pairs.{nothing_known}
 use Rattle.gb_domain.specs.Places.{no_byte}
 use Rattle.gb_fields.specs.Limits.{item_limit, need_limit, origin_limit, procedure_limit}
-use Rattle.gb_fields.specs.Rules.{is_version_of}
+use Rattle.gb_fields.specs.Rules.{is_any_version_of, any_rules_of}
 use Rattle.gb_fields.specs.Format.{Read, go_on, followed, both, mapped, if_passes, checked, optional, byte}
-use Rattle.gb_fields.specs.Reading.{word, quad, node_number_by, node_number, byte_between, word_between, count_within, yes_no, returns_at, entry_at, nothing, base_at, need_at, key_at, region_at, is_any, node_count_at, Letters, is_magic, kind_of, magic_at, version_at, to_head, head_at}
+use Rattle.gb_fields.specs.Reading.{word, quad, node_number_by, node_number, byte_between, word_between, count_within, yes_no, returns_at, entry_at, nothing, base_at, need_at, region_at, node_count_at, Letters, is_magic, kind_of, magic_at, any_version_at, procedure_count_by, procedure_count_at, to_head, any_head_at}
 use Rattle.gb_states.specs.Reading.{origin_at, val_at, may_at, ime_at, test_at, flg_at, ctl_at, vals_at, core_at, item_count_at, cell_at, range_at}
 use Rattle.gb_states.specs.RelationReading.{defaulted, present_at, registers_at, address_at, byte_at, pair_at, bounds_at, other_at, factor_at, link_of, link_at, facts_at, pairs_at, relations_at}
 use Rattle.gb_states.proofs.Formats.{went_on, same_pair}
-use Rattle.gb_cert_place.specs.Layout.{number_width, number_width_by}
+use Rattle.gb_cert_place.specs.Layout.{number_width, number_width_by, procedure_width, procedure_width_by}
 use Rattle.gb_cert_place.proofs.Locality.{failed, same_fault}
 
 -- A reader takes at most so many bytes, and where there are so many, it doesn't say that some are missing.
@@ -25,7 +24,7 @@ pub record IsWithin {X : Type 0} (r : Read X) (n : ℕ) : Type 0 where
   pub takes : (bytes : List ℕ) (x : X) (rest : List ℕ) → r bytes ≡ Ok (x, rest) → length bytes ≤ n + length rest
   pub decides : (bytes : List ℕ) → n ≤ length bytes → r bytes ≡ Err fault.CutShort → ⊥
 
-IsWithin-byte : IsWithin byte 1
+pub IsWithin-byte : IsWithin byte 1
 IsWithin-byte = record { takes = takes; decides = decides }
   where
     takes : (bytes : List ℕ) (x : ℕ) (rest : List ℕ) → byte bytes ≡ Ok (x, rest) → length bytes ≤ 1 + length rest
@@ -37,12 +36,12 @@ IsWithin-byte = record { takes = takes; decides = decides }
     decides (b ∷ bs) le h = cc
 
 -- what a test lets through
-passes : {X : Type 0} (e : CertFault) (b : Bool) (x y : X) (rest end : List ℕ) → if_passes e b x rest ≡ Ok (y, end) → (x ≡ y) × (rest ≡ end)
+pub passes : {X : Type 0} (e : CertFault) (b : Bool) (x y : X) (rest end : List ℕ) → if_passes e b x rest ≡ Ok (y, end) → (x ≡ y) × (rest ≡ end)
 passes e true x y rest end h = same_pair x y rest end h
 passes e false x y rest end h = cc
 
 -- Where bytes are missing in two fields, they are missing in the first, or in the second.
-cut_then : {X Y : Type 0} (r : Read X) (t : X → Read Y) (n m : ℕ) → IsWithin r n → (bytes : List ℕ) → ((x : X) (rest : List ℕ) → r bytes ≡ Ok (x, rest) → m ≤ length rest → t x rest ≡ Err fault.CutShort → ⊥)
+pub cut_then : {X Y : Type 0} (r : Read X) (t : X → Read Y) (n m : ℕ) → IsWithin r n → (bytes : List ℕ) → ((x : X) (rest : List ℕ) → r bytes ≡ Ok (x, rest) → m ≤ length rest → t x rest ≡ Err fault.CutShort → ⊥)
     → n + m ≤ length bytes → followed r t bytes ≡ Err fault.CutShort → ⊥
 cut_then {X} {Y} r t n m a bytes b le h = first (r bytes) refl h
   where
@@ -61,7 +60,7 @@ cut_then {X} {Y} r t n m a bytes b le h = first (r bytes) refl h
         let few : n ≤ length bytes = omega arith in
         a.decides bytes few (g ∙ ap (λ f. failed {A = X × List ℕ} f) s)
 
-IsWithin-followed : {X Y : Type 0} (r : Read X) (t : X → Read Y) (n m : ℕ) → IsWithin r n → ((x : X) → IsWithin (t x) m) → IsWithin (followed r t) (n + m)
+pub IsWithin-followed : {X Y : Type 0} (r : Read X) (t : X → Read Y) (n m : ℕ) → IsWithin r n → ((x : X) → IsWithin (t x) m) → IsWithin (followed r t) (n + m)
 IsWithin-followed {X} {Y} r t n m a b = record {
   takes = λ bytes p rest e.
       let c = went_on (r bytes) (λ x rest. go_on (t x rest) (λ y end. Ok ((x, y), end))) (p, rest) e in
@@ -73,7 +72,7 @@ IsWithin-followed {X} {Y} r t n m a b = record {
   decides = λ bytes le h. cut_then r t n m a bytes (λ x rest g few k. (b x).decides rest few k) le h;
 }
 
-IsWithin-both : {X Y : Type 0} (r : Read X) (t : Read Y) (n m : ℕ) → IsWithin r n → IsWithin t m → IsWithin (both r t) (n + m)
+pub IsWithin-both : {X Y : Type 0} (r : Read X) (t : Read Y) (n m : ℕ) → IsWithin r n → IsWithin t m → IsWithin (both r t) (n + m)
 IsWithin-both r t n m a b = IsWithin-followed r (λ x. t) n m a (λ x. b)
 
 -- What a field stands for plays no part.
@@ -95,7 +94,7 @@ IsWithin-mapped {X} {Y} f r n a = record {
 }
 
 -- a test's fault says that a field is wrong
-IsWithin-checked : {X : Type 0} (e : CertFault) (p : X → Bool) (r : Read X) (n : ℕ) → (e ≡ fault.CutShort → ⊥) → IsWithin r n → IsWithin (checked e p r) n
+pub IsWithin-checked : {X : Type 0} (e : CertFault) (p : X → Bool) (r : Read X) (n : ℕ) → (e ≡ fault.CutShort → ⊥) → IsWithin r n → IsWithin (checked e p r) n
 IsWithin-checked {X} e p r n other a = record {
   takes = λ bytes x rest h.
       let c = went_on (r bytes) (λ x rest. if_passes e (p x) x rest) (x, rest) h in
@@ -119,7 +118,7 @@ pub IsWithin-word : IsWithin word 2
 unfolding word
 IsWithin-word = IsWithin-mapped _ _ 2 (IsWithin-both byte byte 1 1 IsWithin-byte IsWithin-byte)
 
-IsWithin-quad : IsWithin quad 4
+pub IsWithin-quad : IsWithin quad 4
 unfolding quad
 IsWithin-quad = IsWithin-mapped _ _ 4 (IsWithin-both word word 2 2 IsWithin-word IsWithin-word)
 
@@ -131,7 +130,7 @@ IsWithin-node_number version = by (version == 1)
     by true = IsWithin-word
     by false = IsWithin-quad
 
-IsWithin-byte_between : (low high : ℕ) → IsWithin (byte_between low high) 1
+pub IsWithin-byte_between : (low high : ℕ) → IsWithin (byte_between low high) 1
 IsWithin-byte_between low high = IsWithin-checked _ _ byte 1 (λ h. cc) IsWithin-byte
 
 pub IsWithin-word_between : (low high : ℕ) → IsWithin (word_between low high) 2
@@ -140,7 +139,7 @@ IsWithin-word_between low high = IsWithin-checked _ _ word 2 (λ h. cc) IsWithin
 pub IsWithin-count_within : (limit : ℕ) → IsWithin (count_within limit) 1
 IsWithin-count_within limit = IsWithin-checked _ _ byte 1 (λ h. cc) IsWithin-byte
 
-IsWithin-yes_no : IsWithin yes_no 1
+pub IsWithin-yes_no : IsWithin yes_no 1
 unfolding yes_no
 IsWithin-yes_no = IsWithin-mapped _ _ 1 (IsWithin-byte_between 0 1)
 
@@ -154,19 +153,19 @@ pub IsWithin-val : (rules : Rules) → IsWithin (val_at rules) 3
 unfolding val_at
 IsWithin-val rules = IsWithin-mapped _ _ 3 (IsWithin-both _ _ 2 1 (IsWithin-checked _ _ _ 2 (λ h. cc) (IsWithin-both _ _ 1 1 IsWithin-byte IsWithin-byte)) (IsWithin-origin rules))
 
-IsWithin-may : IsWithin may_at 1
+pub IsWithin-may : IsWithin may_at 1
 unfolding may_at
 IsWithin-may = IsWithin-mapped _ _ 1 (IsWithin-byte_between 1 3)
 
-IsWithin-ime : IsWithin ime_at 1
+pub IsWithin-ime : IsWithin ime_at 1
 unfolding ime_at
 IsWithin-ime = IsWithin-mapped _ _ 1 (IsWithin-byte_between 1 7)
 
-IsWithin-test : IsWithin test_at 2
+pub IsWithin-test : IsWithin test_at 2
 unfolding test_at
 IsWithin-test = IsWithin-mapped _ _ 2 (IsWithin-checked _ _ _ 2 (λ h. cc) (IsWithin-both _ _ 1 1 IsWithin-yes_no IsWithin-byte))
 
-IsWithin-flg : IsWithin flg_at 2
+pub IsWithin-flg : IsWithin flg_at 2
 unfolding flg_at
 IsWithin-flg =
     IsWithin-mapped _ _ 2 (IsWithin-both _ _ 1 1 (IsWithin-checked _ _ _ 1 (λ h. cc) (IsWithin-mapped _ _ 1 IsWithin-byte)) (IsWithin-mapped _ _ 1 (IsWithin-checked _ _ _ 1 (λ h. cc) IsWithin-byte)))
@@ -186,7 +185,7 @@ IsWithin-vals rules =
 
 -- ---- what is known of several parts together
 
-IsWithin-nothing : {X : Type 0} (x : X) (n : ℕ) → IsWithin (nothing x) n
+pub IsWithin-nothing : {X : Type 0} (x : X) (n : ℕ) → IsWithin (nothing x) n
 IsWithin-nothing {X} x n = record {
   takes = λ bytes y rest e. let l : length bytes ≡ length rest = ap length (same_pair x y bytes rest e).1 in omega arith;
   decides = λ bytes le h. none bytes h;
@@ -195,19 +194,19 @@ IsWithin-nothing {X} x n = record {
     none : (bytes : List ℕ) → nothing x bytes ≡ Err fault.CutShort → ⊥
     none bytes h = cc
 
-IsWithin-defaulted : {X : Type 0} (x : X) (there : Bool) (r : Read X) (n : ℕ) → IsWithin r n → IsWithin (defaulted x there r) n
+pub IsWithin-defaulted : {X : Type 0} (x : X) (there : Bool) (r : Read X) (n : ℕ) → IsWithin r n → IsWithin (defaulted x there r) n
 IsWithin-defaulted x true r n a = a
 IsWithin-defaulted x false r n a = IsWithin-nothing x n
 
-IsWithin-optional : {X : Type 0} (there : Bool) (r : Read X) (n : ℕ) → IsWithin r n → IsWithin (optional there r) n
+pub IsWithin-optional : {X : Type 0} (there : Bool) (r : Read X) (n : ℕ) → IsWithin r n → IsWithin (optional there r) n
 IsWithin-optional true r n a = IsWithin-mapped Some r n a
 IsWithin-optional false r n a = IsWithin-nothing None n
 
-IsWithin-present : (test : Option ℕ) → IsWithin (present_at test) 1
+pub IsWithin-present : (test : Option ℕ) → IsWithin (present_at test) 1
 unfolding present_at
 IsWithin-present test = IsWithin-checked _ _ _ 1 (λ h. cc) (IsWithin-mapped _ _ 1 (IsWithin-byte_between 0 127))
 
-IsWithin-one_byte : (region : Region) (test : Option ℕ) (address bits : Bool) → IsWithin (byte_at region test address bits) 4
+pub IsWithin-one_byte : (region : Region) (test : Option ℕ) (address bits : Bool) → IsWithin (byte_at region test address bits) 4
 unfolding byte_at registers_at address_at
 IsWithin-one_byte region test address bits =
     IsWithin-mapped _ _ 4 (IsWithin-both _ _ 1 3 (IsWithin-checked _ _ _ 1 (λ h. cc) (IsWithin-mapped _ _ 1 (IsWithin-byte_between 0 127)))
@@ -218,13 +217,13 @@ unfolding factor_at
 IsWithin-link_of None = IsWithin-nothing None 3
 IsWithin-link_of (Some o) = IsWithin-mapped _ _ 3 (IsWithin-both _ _ 1 2 (IsWithin-mapped _ _ 1 (IsWithin-byte_between 1 255)) IsWithin-word)
 
-IsWithin-facts : IsWithin facts_at 8
+pub IsWithin-facts : IsWithin facts_at 8
 unfolding facts_at bounds_at link_at other_at
 IsWithin-facts =
     IsWithin-checked _ _ _ 8 (λ h. cc) (IsWithin-mapped _ _ 8 (IsWithin-both _ _ 4 4 (IsWithin-mapped _ _ 4 (IsWithin-checked _ _ _ 4 (λ h. cc) (IsWithin-both _ _ 2 2 IsWithin-word IsWithin-word)))
     (IsWithin-mapped _ _ 4 (IsWithin-followed _ _ 1 3 (IsWithin-mapped _ _ 1 (IsWithin-byte_between 0 10)) IsWithin-link_of))))
 
-IsWithin-known : (there : Bool) → IsWithin (defaulted nothing_known there facts_at) 8
+pub IsWithin-known : (there : Bool) → IsWithin (defaulted nothing_known there facts_at) 8
 IsWithin-known there = IsWithin-defaulted nothing_known there facts_at 8 IsWithin-facts
 
 pub IsWithin-relations : (region : Region) (test : Option ℕ) → IsWithin (relations_at region test) 30
@@ -272,21 +271,25 @@ pub IsWithin-need : (rules : Rules) (is_main : Bool) (region : Region) → IsWit
 unfolding need_at
 IsWithin-need rules is_main region = IsWithin-checked _ _ _ 2 (λ h. cc) (IsWithin-mapped _ _ 2 (IsWithin-word_between 0 (need_limit rules)))
 
-pub IsWithin-key : (procedures : ℕ) (before : ℕ × ℕ) → IsWithin (key_at procedures before) 3
-unfolding key_at
-IsWithin-key procedures before = IsWithin-checked _ _ _ 3 (λ h. cc) (IsWithin-both _ _ 1 2 (IsWithin-checked _ _ _ 1 (λ h. cc) (IsWithin-checked _ _ _ 1 (λ h. cc) IsWithin-byte)) IsWithin-word)
+-- ---- the head, whose last two fields are as long as its version says
 
--- ---- the head, whose last field is as long as its version says
+IsWithin-procedure_count : (version : ℕ) → IsWithin (procedure_count_at version) (procedure_width version)
+unfolding procedure_count_at
+IsWithin-procedure_count version = IsWithin-checked _ _ _ (procedure_width version) (λ h. cc) (by (version == 4))
+  where
+    by : (b : Bool) → IsWithin (procedure_count_by b) (procedure_width_by b)
+    by true = IsWithin-word
+    by false = IsWithin-count_within procedure_limit
 
 -- what stands behind the version
 abbrev counts_at : ℕ → Read (Region × (ℕ × ℕ))
-counts_at version = both (region_at (rules_of version)) (both (checked fault.Field is_any (count_within procedure_limit)) (node_count_at version))
+counts_at version = both (region_at (any_rules_of version)) (both (procedure_count_at version) (node_count_at version))
 
-IsWithin-counts : (version : ℕ) → IsWithin (counts_at version) (4 + (1 + number_width version))
+IsWithin-counts : (version : ℕ) → IsWithin (counts_at version) (4 + (procedure_width version + number_width version))
 unfolding region_at node_count_at
 IsWithin-counts version =
-    IsWithin-both _ _ 4 (1 + number_width version) (IsWithin-mapped _ _ 4 (IsWithin-checked _ _ _ 4 (λ h. cc) (IsWithin-both _ _ 2 2 IsWithin-word IsWithin-word)))
-    (IsWithin-both _ _ 1 (number_width version) (IsWithin-checked _ _ _ 1 (λ h. cc) (IsWithin-count_within procedure_limit))
+    IsWithin-both _ _ 4 (procedure_width version + number_width version) (IsWithin-mapped _ _ 4 (IsWithin-checked _ _ _ 4 (λ h. cc) (IsWithin-both _ _ 2 2 IsWithin-word IsWithin-word)))
+    (IsWithin-both _ _ (procedure_width version) (number_width version) (IsWithin-procedure_count version)
     (IsWithin-checked _ _ _ (number_width version) (λ h. cc) (IsWithin-checked _ _ _ (number_width version) (λ h. cc) (IsWithin-node_number version))))
 
 abbrev letters_at : Read Letters
@@ -296,16 +299,16 @@ IsWithin-magic : IsWithin magic_at 4
 unfolding magic_at
 IsWithin-magic = IsWithin-mapped _ _ 4 (IsWithin-checked _ _ _ 4 (λ h. cc) (IsWithin-both _ _ 1 3 IsWithin-byte (IsWithin-both _ _ 1 2 IsWithin-byte (IsWithin-both _ _ 1 1 IsWithin-byte IsWithin-byte))))
 
-IsWithin-version : IsWithin version_at 5
-unfolding version_at
+IsWithin-version : IsWithin any_version_at 5
+unfolding any_version_at
 IsWithin-version = IsWithin-mapped _ _ 5 (IsWithin-followed _ _ 4 1 IsWithin-magic (λ rules. IsWithin-checked _ _ byte 1 (λ h. cc) IsWithin-byte))
 
 abbrev checked_version : Rules → Read ℕ
-checked_version rules = checked fault.Version (is_version_of rules) byte
+checked_version rules = checked fault.Version (is_any_version_of rules) byte
 
 -- The version that is read is the byte behind the letters.
-version-read : (m a g i v : ℕ) (bs : List ℕ) (w : ℕ) (rest : List ℕ) → version_at (m ∷ a ∷ g ∷ i ∷ v ∷ bs) ≡ Ok (w, rest) → (v ≡ w) × (bs ≡ rest)
-unfolding version_at magic_at
+version-read : (m a g i v : ℕ) (bs : List ℕ) (w : ℕ) (rest : List ℕ) → any_version_at (m ∷ a ∷ g ∷ i ∷ v ∷ bs) ≡ Ok (w, rest) → (v ≡ w) × (bs ≡ rest)
+unfolding any_version_at magic_at
 version-read m a g i v bs w rest e =
     let all : List ℕ = m ∷ a ∷ g ∷ i ∷ v ∷ bs in
     let letters : Letters = (m, (a, (g, i))) in
@@ -316,29 +319,29 @@ version-read m a g i v bs w rest e =
     let left : v ∷ bs ≡ d.1 = f.1 ∙ (same_pair (kind_of k.0) d.0 k.1 d.1 k.3).1 in
     let n = went_on (checked_version d.0 d.1) (λ n end. Ok ((d.0, n), end)) (c.0, c.1) d.3 in
     let read : checked_version d.0 (v ∷ bs) ≡ Ok (n.0, n.1) = ap (checked_version d.0) left ∙ n.2 in
-    let q = passes fault.Version (is_version_of d.0 v) v n.0 bs n.1 read in
+    let q = passes fault.Version (is_any_version_of d.0 v) v n.0 bs n.1 read in
     let r = same_pair (d.0, n.0) c.0 n.1 c.1 n.3 in
     let t = same_pair c.0.1 w c.1 rest c.3 in
     (q.0 ∙ ap (λ (p : Rules × ℕ). p.1) r.0 ∙ t.0, q.1 ∙ r.1 ∙ t.1)
 
-head_decides : (m a g i v : ℕ) (bs : List ℕ) → 4 + (1 + number_width v) ≤ length bs → head_at (m ∷ a ∷ g ∷ i ∷ v ∷ bs) ≡ Err fault.CutShort → ⊥
-unfolding head_at
+head_decides : (m a g i v : ℕ) (bs : List ℕ) → 4 + (procedure_width v + number_width v) ≤ length bs → any_head_at (m ∷ a ∷ g ∷ i ∷ v ∷ bs) ≡ Err fault.CutShort → ⊥
+unfolding any_head_at
 head_decides m a g i v bs le h =
-    cut_then version_at counts_at 5 (4 + (1 + number_width v)) IsWithin-version (m ∷ a ∷ g ∷ i ∷ v ∷ bs) (λ w rest e few k. behind w rest e k) (omega arith)
-    (cut_mapped to_head (followed version_at counts_at) (m ∷ a ∷ g ∷ i ∷ v ∷ bs) h)
+    cut_then any_version_at counts_at 5 (4 + (procedure_width v + number_width v)) IsWithin-version (m ∷ a ∷ g ∷ i ∷ v ∷ bs) (λ w rest e few k. behind w rest e k) (omega arith)
+    (cut_mapped to_head (followed any_version_at counts_at) (m ∷ a ∷ g ∷ i ∷ v ∷ bs) h)
   where
-    behind : (w : ℕ) (rest : List ℕ) → version_at (m ∷ a ∷ g ∷ i ∷ v ∷ bs) ≡ Ok (w, rest) → counts_at w rest ≡ Err fault.CutShort → ⊥
+    behind : (w : ℕ) (rest : List ℕ) → any_version_at (m ∷ a ∷ g ∷ i ∷ v ∷ bs) ≡ Ok (w, rest) → counts_at w rest ≡ Err fault.CutShort → ⊥
     behind w rest e k =
         let p = version-read m a g i v bs w rest e in
         (IsWithin-counts v).decides bs le (ap (λ n. counts_at n bs) p.0 ∙ ap (counts_at w) p.1 ∙ k)
 
 -- the head's bytes, by the version that stands in it
-pub head_within : (bytes : List ℕ) → 4 + (1 + (4 + (1 + number_width (slice_index_or bytes 4 1)))) ≤ length bytes → head_at bytes ≡ Err fault.CutShort → ⊥
+pub head_within : (bytes : List ℕ) → 4 + (1 + (4 + (procedure_width (slice_index_or bytes 4 1) + number_width (slice_index_or bytes 4 1)))) ≤ length bytes → any_head_at bytes ≡ Err fault.CutShort → ⊥
 head_within [] le h = absurd (omega arith)
 head_within (m ∷ []) le h = absurd (omega arith)
 head_within (m ∷ a ∷ []) le h = absurd (omega arith)
 head_within (m ∷ a ∷ g ∷ []) le h = absurd (omega arith)
 head_within (m ∷ a ∷ g ∷ i ∷ []) le h = absurd (omega arith)
 head_within (m ∷ a ∷ g ∷ i ∷ v ∷ bs) le h =
-    let few : 4 + (1 + number_width v) ≤ length bs = omega arith in
+    let few : 4 + (procedure_width v + number_width v) ≤ length bs = omega arith in
     head_decides m a g i v bs few h

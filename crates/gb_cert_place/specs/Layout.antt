@@ -3,6 +3,9 @@ use Rattle.std.specs.Prelude.{◌≡◌, ℕ, ◌+◌, ◌/◌, ◌%◌, ◌==�
 use Rattle.gb_ops.specs.declared.op.Register.TheVariants.{A, B, C, D, E, H, L}
 use Rattle.gb_domain.specs.declared.rules.Rules.{Rules}
 use Rattle.gb_domain.specs.declared.rules.Rules.TheVariants.{Simple, Extended}
+use Rattle.gb_states.specs.declared.form.Form.{Form}
+use Rattle.gb_states.specs.declared.form.Form.TheVariants.{Older, Fourth}
+use Rattle.gb_cert_place.specs.Forms.{rules_in}
 use Rattle.gb_cert_place.specs.declared.block.Block.{Block}
 use Rattle.gb_cert_place.specs.declared.block.Block.TheVariants as block
 use Rattle.gb_cert_place.specs.declared.field.Field.{Field}
@@ -21,8 +24,19 @@ number_width_by false = 4
 abbrev pub number_width : ℕ → ℕ
 number_width version = number_width_by (version == 1)
 
+abbrev pub procedure_width_by : Bool → ℕ
+procedure_width_by true = 2
+procedure_width_by false = 1
+
+-- a procedure's number: two bytes in version 4, else one
+abbrev pub procedure_width : ℕ → ℕ
+procedure_width version = procedure_width_by (version == 4)
+
 abbrev pub head_layout : ℕ → Layout
-head_layout version = (field.Magic, 4) ∷ (field.Version, 1) ∷ (field.RegionFirst, 2) ∷ (field.RegionLast, 2) ∷ (field.ProcedureCount, 1) ∷ (field.NodeCount, number_width version) ∷ []
+head_layout version = (field.Magic, 4) ∷ (field.Version, 1) ∷ (field.RegionFirst, 2) ∷ (field.RegionLast, 2) ∷ (field.ProcedureCount, procedure_width version) ∷ (field.NodeCount, number_width version) ∷ []
+
+abbrev pub fact_layout : Layout
+fact_layout = (field.FactFirst, 2) ∷ (field.FactLast, 2) ∷ (field.FactStep, 1) ∷ (field.FactLeast, 1) ∷ (field.FactGreatest, 1) ∷ (field.FactLowBits, 1) ∷ []
 
 abbrev pub entry_layout : ℕ → Layout
 entry_layout version = (field.Entry, number_width version) ∷ []
@@ -30,13 +44,19 @@ entry_layout version = (field.Entry, number_width version) ∷ []
 abbrev pub range_layout : ℕ → Layout
 range_layout index = (field.RangeFirst index, 2) ∷ (field.RangeLast index, 2) ∷ []
 
--- a value, and what is behind it
-abbrev pub value_then : Owner → Layout → Layout
-value_then o rest = (field.ValueLeast o, 1) ∷ (field.ValueGreatest o, 1) ∷ (field.ValueOrigin o, 1) ∷ rest
+-- the last byte of a value: its origin, in version 4 with its low bits
+abbrev pub origin_field : Form → Owner → Field
+origin_field (Older rules) o = field.ValueOrigin o
+origin_field (Fourth facts kept) o = field.ValueTag o
 
-abbrev pub values_layout : Layout
-values_layout =
-    value_then owner.Ie (value_then (owner.Register A) (value_then (owner.Register B) (value_then (owner.Register C) (value_then (owner.Register D) (value_then (owner.Register E) (value_then (owner.Register H) (value_then (owner.Register L) [])))))))
+-- a value, and what is behind it
+abbrev pub value_then : Form → Owner → Layout → Layout
+value_then form o rest = (field.ValueLeast o, 1) ∷ (field.ValueGreatest o, 1) ∷ (origin_field form o, 1) ∷ rest
+
+abbrev pub values_layout : Form → Layout
+values_layout form =
+    value_then form owner.Ie
+    (value_then form (owner.Register A) (value_then form (owner.Register B) (value_then form (owner.Register C) (value_then form (owner.Register D) (value_then form (owner.Register E) (value_then form (owner.Register H) (value_then form (owner.Register L) [])))))))
 
 abbrev pub flags_then : Layout → Layout
 flags_then rest = (field.Flags, 1) ∷ (field.FlagsOrigin, 1) ∷ rest
@@ -44,8 +64,8 @@ flags_then rest = (field.Flags, 1) ∷ (field.FlagsOrigin, 1) ∷ rest
 abbrev pub controller_then : Layout → Layout
 controller_then rest = (field.BankLeast, 2) ∷ (field.BankGreatest, 2) ∷ (field.SecondLeast, 1) ∷ (field.SecondGreatest, 1) ∷ (field.GateSet, 1) ∷ (field.ModeSet, 1) ∷ (field.Kept, 1) ∷ rest
 
-abbrev pub core_layout : Layout
-core_layout = (field.ImeSet, 1) ∷ (field.TransferBound, 1) ∷ (field.StackSet, 1) ∷ (field.Test, 1) ∷ (field.TestValue, 1) ∷ controller_then (flags_then values_layout)
+abbrev pub core_layout : Form → Layout
+core_layout form = (field.ImeSet, 1) ∷ (field.TransferBound, 1) ∷ (field.StackSet, 1) ∷ (field.Test, 1) ∷ (field.TestValue, 1) ∷ controller_then (flags_then (values_layout form))
 
 abbrev pub byte_of_word : Bool → ℕ → Owner
 byte_of_word true word = owner.ItemHigh word
@@ -56,31 +76,44 @@ abbrev pub item_owner : Rules → ℕ → Owner
 item_owner Simple index = byte_of_word (index % 2 == 0) (index / 2)
 item_owner Extended index = owner.Item index
 
-abbrev pub item_layout : Rules → ℕ → Layout
-item_layout rules index = value_then (item_owner rules index) []
+abbrev pub item_layout : Form → ℕ → Layout
+item_layout form index = value_then form (item_owner (rules_in form) index) []
 
 -- what is known of several parts together, which has 30 bytes at most
 abbrev pub told_layout : Layout
 told_layout = (field.Told, 30) ∷ []
 
-abbrev pub cell_layout : ℕ → Layout
-cell_layout index = (field.CellAddress index, 2) ∷ value_then (owner.Cell index) []
+-- the same in version 4 with what is said of the whole program: 116 bytes at most, of which eight fills are 72
+abbrev pub told_whole_layout : Layout
+told_whole_layout = (field.ToldWhole, 116) ∷ []
+
+abbrev pub cell_layout : Form → ℕ → Layout
+cell_layout form index = (field.CellAddress index, 2) ∷ value_then form (owner.Cell index) []
+
+abbrev pub key_layout : ℕ → Layout
+key_layout version = (field.Procedure, procedure_width version) ∷ (field.Address, 2) ∷ []
 
 unfoldable pub layout : Block → Layout
 layout (block.Head version) = head_layout version
+layout block.FactCount = (field.FactCount, 2) ∷ []
+layout (block.Fact region) = fact_layout
 layout (block.Entry version nodes) = entry_layout version
 layout (block.Base is_main region) = (field.Base, 2) ∷ []
 layout (block.Need rules is_main region) = (field.Need, 2) ∷ []
 layout (block.RangeCount rules is_main) = (field.RangeCount, 1) ∷ []
 layout (block.Range index region least) = range_layout index
+layout (block.KeptCount is_main) = (field.KeptCount, 1) ∷ []
+layout (block.KeptAddress index region least) = (field.KeptAddress index, 2) ∷ []
+layout block.Mark = (field.Mark, 1) ∷ []
 layout (block.Returns is_main) = (field.Returns, 1) ∷ []
-layout (block.Core rules role) = core_layout
+layout (block.Core form role) = core_layout form
 layout (block.ItemCount rules role stack_set) = (field.ItemCount, 1) ∷ []
-layout (block.Item rules index) = item_layout rules index
+layout (block.Item form index) = item_layout form index
 layout (block.Told region test) = told_layout
+layout (block.ToldWhole facts region may_be_aside test) = told_whole_layout
 layout (block.CellCount rules) = (field.CellCount, 1) ∷ []
-layout (block.Cell rules index region least) = cell_layout index
-layout (block.Key procedures before) = (field.Procedure, 1) ∷ (field.Address, 2) ∷ []
+layout (block.Cell form index region least) = cell_layout form index
+layout (block.Key version procedures before) = key_layout version
 layout block.Bank = (field.Bank, 2) ∷ []
 
 -- the bytes of all fields

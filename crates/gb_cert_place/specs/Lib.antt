@@ -1,4 +1,5 @@
 pub mod Blocks
+pub mod Forms
 pub mod Layout
 pub mod Places
 pub mod Standing

@@ -3,9 +3,9 @@ use Rattle.std.specs.Prelude.{ℕ, ◌+◌, ◌-◌, ◌≤◌, Bool, true, fals
 use Rattle.gb_fields.specs.declared.fault.CertFault.{CertFault}
 use Rattle.gb_fields.specs.declared.fault.CertFault.TheVariants as fault
 use Rattle.gb_domain.specs.Certificate.{Certificate}
-use Rattle.gb_states.specs.Reading.{read_certificate}
+use Rattle.gb_states.specs.WholeReading.{read_certificate}
 use Rattle.gb_cert.specs.Skipping.{skipped}
-use Rattle.gb_states.specs.Spelling.{Spells}
+use Rattle.gb_states.specs.WholeSpelling.{Spells}
 use Rattle.gb_cert_place.specs.declared.block.Part.TheVariants as part
 use Rattle.gb_cert_place.specs.declared.field.Field.TheVariants as field
 use Rattle.gb_cert_place.specs.declared.place.Sought.{Sought}

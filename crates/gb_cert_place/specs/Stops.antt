@@ -2,13 +2,10 @@
 use Rattle.std.specs.Prelude.{◌≡◌, ℕ, Bool, true, false, ◌-◌, ◌≤◌, ◌<◌, List, ◌++◌, length, take, Result, Ok, Err}
 use Rattle.gb_fields.specs.declared.fault.CertFault.{CertFault}
 use Rattle.gb_fields.specs.declared.fault.CertFault.TheVariants as fault
-use Rattle.gb_fields.specs.declared.head.Head.{Head}
-use Rattle.gb_domain.specs.Types.{ProcedureParts, Node}
 use Rattle.gb_domain.specs.Certificate.{Certificate}
-use Rattle.gb_domain.specs.Limits.{rules_of}
-use Rattle.gb_fields.specs.Format.{Read, followed, both}
-use Rattle.gb_fields.specs.Reading.{head_at}
-use Rattle.gb_states.specs.Reading.{procedures_at, nodes_at, read_certificate}
+use Rattle.gb_fields.specs.Format.{Read, followed}
+use Rattle.gb_fields.specs.Reading.{any_head_at}
+use Rattle.gb_states.specs.WholeReading.{Parts, behind_head, read_certificate}
 use Rattle.gb_cert.specs.Skipping.{skipped}
 use Rattle.gb_cert_place.specs.declared.block.Block.{Block}
 use Rattle.gb_cert_place.specs.declared.block.Part.{Part}
@@ -61,9 +58,9 @@ Finds view (Err s) read bytes = Stopped read bytes s
 
 -- ---- certificates
 
--- the head, the procedures and the nodes
-unfoldable pub parts_at : Read (Head × (List ProcedureParts × List Node))
-parts_at = followed head_at (λ h. both (procedures_at h.version h.region h.nodes h.procedures) (nodes_at (rules_of h.version) h.region h.procedures h.nodes))
+-- the head, the facts, the procedures and the nodes
+unfoldable pub parts_at : Read Parts
+parts_at = followed any_head_at behind_head
 
 -- The bytes have this fault, and so many of them decide. Left-over bytes are those behind a certificate.
 pub data IsFaultAt (bytes : List ℕ) : CertFault → ℕ → Type 0 where

@@ -5,17 +5,20 @@ ghost use Rattle.gb_fields.specs.Format.{Gives};
 ghost use Rattle.gb_cert_place.specs.Blocks.{read_block};
 ghost use Rattle.gb_cert_place.specs.Stops.{is_missing, StopsAt, Stopped};
 
+use crate::parts::{core_by, free_address_at, kept_room};
 use gb_cert::CertFault;
 use gb_domain::types::Rules;
-use gb_fields::head::head_at;
-use gb_fields::limits::{cell_limit, range_room};
-use gb_fields::numbers::{count_within, word_between};
-use gb_fields::parts::{base_at, entry_at, key_at, need_at, returns_at};
+use gb_fields::head::any_head_at;
+use gb_fields::limits::{FACT_LIMIT, cell_limit, range_room};
+use gb_fields::numbers::{byte, count_within, word_between, word_count_within};
+use gb_fields::parts::{base_at, entry_at, need_at, returns_at};
 use gb_ops::machine::Region;
-use gb_states::fields::{core_at, val_at};
+use gb_states::form::{Form, cell_by, key_by, val_by};
 use gb_states::relations::relations_at;
 use gb_states::role::Role;
-use gb_states::states::{cell_at, item_count_at, range_at};
+use gb_states::states::{item_count_at, range_at};
+use gb_states::whole::fact_at;
+use gb_states::whole_states::told_at;
 
 /// A run of fields that is read by one rule, with what the rule asks of the fields before it.
 #[derive(Clone, Copy)]
@@ -24,12 +27,18 @@ pub enum Block {
     Head {
         version: u8,
     },
+    /// How many facts a certificate says, in version 4.
+    FactCount,
+    /// What a certificate says of RAM for the whole program, in version 4.
+    Fact {
+        region: Region,
+    },
     /// A procedure's entry.
     Entry {
         version: u8,
         nodes: u32,
     },
-    /// A procedure's base, in version 3.
+    /// A procedure's base, in versions 3 and 4.
     Base {
         is_main: bool,
         region: Region,
@@ -51,16 +60,28 @@ pub enum Block {
         region: Region,
         least: u32,
     },
+    /// How many addresses a procedure names to be kept, in version 4.
+    KeptCount {
+        is_main: bool,
+    },
+    /// An address to be kept, by its number, in version 4.
+    KeptAddress {
+        index: u8,
+        region: Region,
+        least: u32,
+    },
+    /// A procedure's mark, in version 4.
+    Mark,
     /// Whether a procedure returns.
     Returns {
         is_main: bool,
     },
     /// All of a state but its items and cells, and what it knows of several of its parts together.
     Core {
-        rules: Rules,
+        form: Form,
         role: Role,
     },
-    /// How many words, or in version 3 bytes, a state's items are.
+    /// How many words, or in versions 3 and 4 bytes, a state's items are.
     ItemCount {
         rules: Rules,
         role: Role,
@@ -68,12 +89,19 @@ pub enum Block {
     },
     /// An item, a byte of the stack, by its number.
     Item {
-        rules: Rules,
+        form: Form,
         index: u8,
     },
     /// What is known of several parts of a state together, in version 3; the test is the state's.
     Told {
         region: Region,
+        test: Option<u8>,
+    },
+    /// The same in version 4, and what the state says of the whole program, in a certificate of so many facts.
+    ToldWhole {
+        facts: u16,
+        region: Region,
+        may_be_aside: bool,
         test: Option<u8>,
     },
     /// How many cells a state has.
@@ -82,15 +110,16 @@ pub enum Block {
     },
     /// A cell, by its number.
     Cell {
-        rules: Rules,
+        form: Form,
         index: u8,
         region: Region,
         least: u32,
     },
     /// A node's procedure and address.
     Key {
-        procedures: u8,
-        before: (u8, u16),
+        version: u8,
+        procedures: u16,
+        before: (u16, u16),
     },
     /// A node's bank.
     Bank,
@@ -100,10 +129,12 @@ pub enum Block {
 #[derive(Clone, Copy, PartialEq, Eq)]
 pub enum Part {
     Head,
+    /// A fact, by its number, in version 4.
+    Fact(u16),
     /// A procedure, by its number, but for its exit.
-    Procedure(u8),
+    Procedure(u16),
     /// The exit of the procedure with this number.
-    Exit(u8),
+    Exit(u16),
     /// A node, by its number.
     Node(u32),
     /// What is behind the last node.
@@ -128,7 +159,15 @@ fn read_block(block: Block, bytes: &[u8]) -> Result<&[u8], CertFault>
 {
     match block {
         Block::Head { .. } => {
-            let (_, rest) = head_at(bytes)?;
+            let (_, rest) = any_head_at(bytes)?;
+            Ok(rest)
+        }
+        Block::FactCount => {
+            let (_, rest) = word_count_within(FACT_LIMIT, bytes)?;
+            Ok(rest)
+        }
+        Block::Fact { region } => {
+            let (_, rest) = fact_at(region, bytes)?;
             Ok(rest)
         }
         Block::Entry { version, nodes } => {
@@ -155,12 +194,24 @@ fn read_block(block: Block, bytes: &[u8]) -> Result<&[u8], CertFault>
             let (_, rest) = range_at(region, least, bytes)?;
             Ok(rest)
         }
+        Block::KeptCount { is_main } => {
+            let (_, rest) = count_within(kept_room(is_main), bytes)?;
+            Ok(rest)
+        }
+        Block::KeptAddress { region, least, .. } => {
+            let (_, rest) = free_address_at(region, least, bytes)?;
+            Ok(rest)
+        }
+        Block::Mark => {
+            let (_, rest) = byte(bytes)?;
+            Ok(rest)
+        }
         Block::Returns { is_main } => {
             let (_, rest) = returns_at(is_main, bytes)?;
             Ok(rest)
         }
-        Block::Core { rules, role } => {
-            let (_, rest) = core_at(rules, role, bytes)?;
+        Block::Core { form, role } => {
+            let (_, rest) = core_by(form, role, bytes)?;
             Ok(rest)
         }
         Block::ItemCount {
@@ -171,12 +222,21 @@ fn read_block(block: Block, bytes: &[u8]) -> Result<&[u8], CertFault>
             let (_, rest) = item_count_at(rules, role, stack_set, bytes)?;
             Ok(rest)
         }
-        Block::Item { rules, .. } => {
-            let (_, rest) = val_at(rules, bytes)?;
+        Block::Item { form, .. } => {
+            let (_, rest) = val_by(form, bytes)?;
             Ok(rest)
         }
         Block::Told { region, test } => {
             let (_, rest) = relations_at(region, test, bytes)?;
+            Ok(rest)
+        }
+        Block::ToldWhole {
+            facts,
+            region,
+            may_be_aside,
+            test,
+        } => {
+            let (_, rest) = told_at(facts, region, may_be_aside, test, bytes)?;
             Ok(rest)
         }
         Block::CellCount { rules } => {
@@ -184,16 +244,20 @@ fn read_block(block: Block, bytes: &[u8]) -> Result<&[u8], CertFault>
             Ok(rest)
         }
         Block::Cell {
-            rules,
+            form,
             region,
             least,
             ..
         } => {
-            let (_, rest) = cell_at(rules, region, least, bytes)?;
+            let (_, rest) = cell_by(form, region, least, bytes)?;
             Ok(rest)
         }
-        Block::Key { procedures, before } => {
-            let (_, rest) = key_at(procedures, before, bytes)?;
+        Block::Key {
+            version,
+            procedures,
+            before,
+        } => {
+            let (_, rest) = key_by(version, procedures, before, bytes)?;
             Ok(rest)
         }
         Block::Bank => {

@@ -2,11 +2,13 @@
 
 ghost use Rattle.std.specs.Prelude.{◌≡◌, ◌≤◌};
 ghost use Rattle.gb_cert_place.specs.declared.field.Field.TheVariants as field;
-ghost use Rattle.gb_cert_place.specs.Layout.{lookup, layout, head_layout, entry_layout, range_layout, core_layout, item_owner, item_layout, told_layout, cell_layout, number_width, field_at};
+ghost use Rattle.gb_cert_place.specs.Layout.{lookup, layout, head_layout, fact_layout, entry_layout, range_layout, origin_field, core_layout, item_owner, item_layout, told_layout, cell_layout, key_layout, number_width, procedure_width, field_at};
 
 use crate::block::Block;
+use crate::parts::rules_in;
 use gb_domain::types::Rules;
 use gb_ops::op::Register;
+use gb_states::form::Form;
 
 /// What a value is of.
 #[derive(Clone, Copy, PartialEq, Eq)]
@@ -19,7 +21,7 @@ pub enum Owner {
     ItemHigh(u8),
     /// The low byte of the word with this number on the stack.
     ItemLow(u8),
-    /// The byte of the stack with this number, in version 3.
+    /// The byte of the stack with this number, in versions 3 and 4.
     Item(u8),
     /// The cell with this number.
     Cell(u8),
@@ -34,12 +36,22 @@ pub enum Field {
     RegionLast,
     ProcedureCount,
     NodeCount,
+    FactCount,
+    FactFirst,
+    FactLast,
+    FactStep,
+    FactLeast,
+    FactGreatest,
+    FactLowBits,
     Entry,
     Base,
     Need,
     RangeCount,
     RangeFirst(u8),
     RangeLast(u8),
+    KeptCount,
+    KeptAddress(u8),
+    Mark,
     Returns,
     Procedure,
     Address,
@@ -61,9 +73,13 @@ pub enum Field {
     ValueLeast(Owner),
     ValueGreatest(Owner),
     ValueOrigin(Owner),
+    /// In version 4 a value's origin, and how many of its low bits are known.
+    ValueTag(Owner),
     ItemCount,
     /// What is known of several parts of a state together.
     Told,
+    /// The same in version 4, and what the state says of the whole program.
+    ToldWhole,
     CellCount,
     CellAddress(u8),
     /// What is tested behind the last node: whether each entry is a node of its procedure.
@@ -79,6 +95,13 @@ fn number_width(version: u8) -> u8
     if version == 1 { 2 } else { 4 }
 }
 
+/// The bytes of a procedure's number, by the version.
+fn procedure_width(version: u8) -> u8
+    ensures { result ≡ procedure_width version }
+{
+    if version == 4 { 2 } else { 1 }
+}
+
 fn head_layout(version: u8) -> [(Field, u8); 6]
     ensures { result ≡ head_layout version }
 {
@@ -87,8 +110,21 @@ fn head_layout(version: u8) -> [(Field, u8); 6]
         (Field::Version, 1),
         (Field::RegionFirst, 2),
         (Field::RegionLast, 2),
-        (Field::ProcedureCount, 1),
+        (Field::ProcedureCount, procedure_width(version)),
         (Field::NodeCount, number_width(version)),
+    ]
+}
+
+fn fact_layout() -> [(Field, u8); 6]
+    ensures { result ≡ fact_layout }
+{
+    [
+        (Field::FactFirst, 2),
+        (Field::FactLast, 2),
+        (Field::FactStep, 1),
+        (Field::FactLeast, 1),
+        (Field::FactGreatest, 1),
+        (Field::FactLowBits, 1),
     ]
 }
 
@@ -115,31 +151,41 @@ fn item_owner(rules: Rules, index: u8) -> Owner
     }
 }
 
-fn item_layout(rules: Rules, index: u8) -> [(Field, u8); 3]
-    ensures { result ≡ item_layout rules index }
+/// The last byte of a value: its origin, in version 4 with its low bits.
+fn origin_field(form: Form, owner: Owner) -> Field
+    ensures { result ≡ origin_field form owner }
 {
-    let item = item_owner(rules, index);
+    match form {
+        Form::Older(_) => Field::ValueOrigin(owner),
+        Form::Fourth(..) => Field::ValueTag(owner),
+    }
+}
+
+fn item_layout(form: Form, index: u8) -> [(Field, u8); 3]
+    ensures { result ≡ item_layout form index }
+{
+    let item = item_owner(rules_in(form), index);
     [
         (Field::ValueLeast(item), 1),
         (Field::ValueGreatest(item), 1),
-        (Field::ValueOrigin(item), 1),
+        (origin_field(form, item), 1),
     ]
 }
 
-fn cell_layout(index: u8) -> [(Field, u8); 4]
-    ensures { result ≡ cell_layout index }
+fn cell_layout(form: Form, index: u8) -> [(Field, u8); 4]
+    ensures { result ≡ cell_layout form index }
 {
     let cell = Owner::Cell(index);
     [
         (Field::CellAddress(index), 2),
         (Field::ValueLeast(cell), 1),
         (Field::ValueGreatest(cell), 1),
-        (Field::ValueOrigin(cell), 1),
+        (origin_field(form, cell), 1),
     ]
 }
 
-fn core_layout() -> [(Field, u8); 38]
-    ensures { result ≡ core_layout }
+fn core_layout(form: Form) -> [(Field, u8); 38]
+    ensures { result ≡ core_layout form }
 {
     let a = Owner::Register(Register::A);
     let b = Owner::Register(Register::B);
@@ -165,28 +211,28 @@ fn core_layout() -> [(Field, u8); 38]
         (Field::FlagsOrigin, 1),
         (Field::ValueLeast(Owner::Ie), 1),
         (Field::ValueGreatest(Owner::Ie), 1),
-        (Field::ValueOrigin(Owner::Ie), 1),
+        (origin_field(form, Owner::Ie), 1),
         (Field::ValueLeast(a), 1),
         (Field::ValueGreatest(a), 1),
-        (Field::ValueOrigin(a), 1),
+        (origin_field(form, a), 1),
         (Field::ValueLeast(b), 1),
         (Field::ValueGreatest(b), 1),
-        (Field::ValueOrigin(b), 1),
+        (origin_field(form, b), 1),
         (Field::ValueLeast(c), 1),
         (Field::ValueGreatest(c), 1),
-        (Field::ValueOrigin(c), 1),
+        (origin_field(form, c), 1),
         (Field::ValueLeast(d), 1),
         (Field::ValueGreatest(d), 1),
-        (Field::ValueOrigin(d), 1),
+        (origin_field(form, d), 1),
         (Field::ValueLeast(e), 1),
         (Field::ValueGreatest(e), 1),
-        (Field::ValueOrigin(e), 1),
+        (origin_field(form, e), 1),
         (Field::ValueLeast(h), 1),
         (Field::ValueGreatest(h), 1),
-        (Field::ValueOrigin(h), 1),
+        (origin_field(form, h), 1),
         (Field::ValueLeast(l), 1),
         (Field::ValueGreatest(l), 1),
-        (Field::ValueOrigin(l), 1),
+        (origin_field(form, l), 1),
     ]
 }
 
@@ -216,19 +262,31 @@ pub fn field_at(block: Block, byte: usize) -> (Field, usize)
 {
     match block {
         Block::Head { version } => lookup(&head_layout(version), byte),
+        Block::FactCount => lookup(&[(Field::FactCount, 2)], byte),
+        Block::Fact { .. } => lookup(&fact_layout(), byte),
         Block::Entry { version, .. } => lookup(&[(Field::Entry, number_width(version))], byte),
         Block::Base { .. } => lookup(&[(Field::Base, 2)], byte),
         Block::Need { .. } => lookup(&[(Field::Need, 2)], byte),
         Block::RangeCount { .. } => lookup(&[(Field::RangeCount, 1)], byte),
         Block::Range { index, .. } => lookup(&range_layout(index), byte),
+        Block::KeptCount { .. } => lookup(&[(Field::KeptCount, 1)], byte),
+        Block::KeptAddress { index, .. } => lookup(&[(Field::KeptAddress(index), 2)], byte),
+        Block::Mark => lookup(&[(Field::Mark, 1)], byte),
         Block::Returns { .. } => lookup(&[(Field::Returns, 1)], byte),
-        Block::Core { .. } => lookup(&core_layout(), byte),
+        Block::Core { form, .. } => lookup(&core_layout(form), byte),
         Block::ItemCount { .. } => lookup(&[(Field::ItemCount, 1)], byte),
-        Block::Item { rules, index } => lookup(&item_layout(rules, index), byte),
+        Block::Item { form, index } => lookup(&item_layout(form, index), byte),
         Block::Told { .. } => lookup(&[(Field::Told, 30)], byte),
+        Block::ToldWhole { .. } => lookup(&[(Field::ToldWhole, 116)], byte),
         Block::CellCount { .. } => lookup(&[(Field::CellCount, 1)], byte),
-        Block::Cell { index, .. } => lookup(&cell_layout(index), byte),
-        Block::Key { .. } => lookup(&[(Field::Procedure, 1), (Field::Address, 2)], byte),
+        Block::Cell { form, index, .. } => lookup(&cell_layout(form, index), byte),
+        Block::Key { version, .. } => lookup(
+            &[
+                (Field::Procedure, procedure_width(version)),
+                (Field::Address, 2),
+            ],
+            byte,
+        ),
         Block::Bank => lookup(&[(Field::Bank, 2)], byte),
     }
 }

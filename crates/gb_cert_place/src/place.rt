@@ -1,14 +1,14 @@
 //! Where in the file a certificate's fault is.
 
 ghost use Rattle.std.specs.Prelude.{◌≡◌, ◌≤◌, ◌-◌, length, Ok, Err, IfOk, IfSome};
-ghost use Rattle.gb_states.specs.Reading.{read_certificate};
+ghost use Rattle.gb_states.specs.WholeReading.{read_certificate};
 ghost use Rattle.gb_cert_place.specs.Stops.{IsFaultAt, Stopped, parts_at};
 ghost use Rattle.gb_cert_place.specs.Places.{is_memory, place_of, behind, IsFaultOf, IsAnswer};
 
 use crate::block::{Part, Stop, is_missing};
 use crate::field::{Field, field_at};
 use crate::walk::walk_parts;
-use gb_cert::{Cert, CertFault};
+use gb_cert::{AnyCert, CertFault};
 use std::alloc::{AllocError, Global};
 
 /// Where in the file a certificate's fault is.
@@ -88,15 +88,15 @@ fn is_memory(fault: CertFault) -> bool
 fn fault_of(alloc: Global, bytes: &[u8]) -> Option<CertFault>
     ensures { IsFaultOf bytes.now result }
 {
-    match Cert::parse(alloc, bytes) {
+    match AnyCert::parse(alloc, bytes) {
         Ok(_) => None,
         Err(fault) => Some(fault),
     }
 }
 
-/// Where in the file the fault of a certificate is, if the bytes are none. The bytes are read again.
-/// Memory is taken only where each field is right by itself: a place of 8 bytes for each procedure
-/// and each node, as reading a certificate takes.
+/// Where in the file the fault of a certificate of version 1, 2, 3 or 4 is, if the bytes are none. The bytes are
+/// read again. Memory is taken only where each field is right by itself: a place of 8 bytes for each procedure
+/// and each node, and room for the facts, as reading a certificate takes.
 pub fn fault_place(alloc: Global, bytes: &[u8]) -> Sought
     ensures { IsAnswer bytes.now result }
 {

@@ -9,6 +9,7 @@ impl fmt::Display for Part {
     fn fmt<W: fmt::Write>(&self, f: &mut fmt::Formatter<W>) -> fmt::Result {
         match self {
             Part::Head => f.write_str("head"),
+            Part::Fact(number) => write!(f, "fact {number}"),
             Part::Procedure(number) => write!(f, "procedure {number}"),
             Part::Exit(number) => write!(f, "exit of procedure {number}"),
             Part::Node(number) => write!(f, "node {number}"),
@@ -39,10 +40,19 @@ fn field_name(field: Field) -> &'static str {
         Field::RegionLast => "last address of the stack region",
         Field::ProcedureCount => "number of procedures",
         Field::NodeCount => "number of nodes",
+        Field::FactCount => "number of facts",
+        Field::FactFirst => "first address",
+        Field::FactLast => "last address",
+        Field::FactStep => "step",
+        Field::FactLeast => "least byte",
+        Field::FactGreatest => "greatest byte",
+        Field::FactLowBits => "number of low bits",
         Field::Entry => "entry node",
         Field::Base => "base",
         Field::Need => "need",
         Field::RangeCount => "number of ranges",
+        Field::KeptCount => "number of kept addresses",
+        Field::Mark => "mark",
         Field::Returns => "whether it returns",
         Field::Procedure => "procedure",
         Field::Address => "address",
@@ -63,15 +73,18 @@ fn field_name(field: Field) -> &'static str {
         Field::FlagsOrigin => "origin of the flags",
         Field::ItemCount => "number of items",
         Field::Told => "what is known of several parts together",
+        Field::ToldWhole => "what is known of several parts together and said of the whole program",
         Field::CellCount => "number of cells",
         Field::Entries => "entry nodes of all procedures",
         Field::LeftOver => "left-over bytes",
         // These are printed with their numbers.
         Field::RangeFirst(_)
         | Field::RangeLast(_)
+        | Field::KeptAddress(_)
         | Field::ValueLeast(_)
         | Field::ValueGreatest(_)
         | Field::ValueOrigin(_)
+        | Field::ValueTag(_)
         | Field::CellAddress(_) => "",
     }
 }
@@ -81,9 +94,11 @@ impl fmt::Display for Field {
         match self {
             Field::RangeFirst(index) => write!(f, "first address of range {index}"),
             Field::RangeLast(index) => write!(f, "last address of range {index}"),
+            Field::KeptAddress(index) => write!(f, "kept address {index}"),
             Field::ValueLeast(owner) => write!(f, "least of {owner}"),
             Field::ValueGreatest(owner) => write!(f, "greatest of {owner}"),
             Field::ValueOrigin(owner) => write!(f, "origin of {owner}"),
+            Field::ValueTag(owner) => write!(f, "origin and low bits of {owner}"),
             Field::CellAddress(index) => write!(f, "address of cell {index}"),
             named => f.write_str(field_name(*named)),
         }

@@ -1,38 +1,53 @@
 //! Walking over the parts of a certificate, up to where reading stops.
 
-ghost use Rattle.std.specs.Prelude.{◌≡◌, slice_index_or, IfErr};
-ghost use Rattle.gb_fields.specs.Format.{both, mapped, several};
-ghost use Rattle.gb_fields.specs.Reading.{base_at};
+ghost use Rattle.std.specs.Prelude.{◌≡◌, ◌==◌, ◌≤◌, length, slice_index_or, IfErr, IfOk};
 ghost use Rattle.gb_domain.specs.Rules.{after_cell};
-ghost use Rattle.gb_states.specs.Rules.{after_range, key};
-ghost use Rattle.gb_states.specs.RelationReading.{relations_by};
-ghost use Rattle.gb_states.specs.Reading.{vals_of, items_at, cell_at, cells_at, state_at, range_at, ranges_at, exit_at, needed_at, body_at, procedure_at, node_at, procedures_at, nodes_at};
+ghost use Rattle.gb_fields.specs.Format.{both, mapped, several};
+ghost use Rattle.gb_fields.specs.Limits.{fact_limit, kept_limit};
+ghost use Rattle.gb_fields.specs.Reading.{base_at, head_in};
+ghost use Rattle.gb_states.specs.Forms.{vals_by, cell_by, state_by};
+ghost use Rattle.gb_states.specs.Rules.{after_range, role_of, key};
+ghost use Rattle.gb_states.specs.Reading.{range_at, ranges_at};
+ghost use Rattle.gb_states.specs.WholeRules.{after_address, kept_count, kept_counts, kept_of};
+ghost use Rattle.gb_states.specs.WholeReading.{fact_at, facts_by, free_address_at, kept_addresses_at, named_at, procedure_by, procedures_at, node_by, nodes_at};
+ghost use Rattle.gb_cert.specs.Skipping.{count_named};
+ghost use Rattle.gb_cert.specs.AnyPlaces.{exit_by};
 ghost use Rattle.gb_cert_place.specs.declared.block.Part.TheVariants as the_part;
-ghost use Rattle.gb_cert_place.specs.Standing.{Of, AmongItems, InItems, InTold, AmongCells, InCells, InLists, InState, AmongRanges, InRanges, InExit, InBase, InNeeded, InBody, InProcedure, InProcedures, InNode, InNodes, InCertificate};
+ghost use Rattle.gb_cert_place.specs.Forms.{items_by, told_by, cells_by, ending_count, ending_by, needed_count, needed_by, body_count, body_by};
+ghost use Rattle.gb_cert_place.specs.Standing.{Of, AmongItems, InItems, InTold, AmongCells, InCells, InLists, InState, AmongRanges, InRanges, AmongKept, InKept, InExit, InNamed, InEnding, InBase, InNeeded, InBody, InProcedure, InProcedures, InNode, InNodes, AmongFacts, InFacts, InCertificate};
 ghost use Rattle.gb_cert_place.specs.Stops.{Walks, Finds, StopsIn, parts_at};
 
 use crate::block::{Block, Part, Stop, stopped};
+use crate::parts::{core_by, free_address_at, kept_room, rules_in};
+use arrayvec::ArrayVec;
 use gb_domain::types::Rules;
-use gb_fields::head::{Head, head_at};
-use gb_fields::limits::{cell_limit, item_bytes, range_room};
-use gb_fields::numbers::{count_within, word_between};
-use gb_fields::parts::{base_at, entry_at, key_at, need_at, returns_at};
+use gb_fields::head::{AnyHead, any_head_at, any_rules_of};
+use gb_fields::limits::{FACT_LIMIT, cell_limit, item_bytes, range_room};
+use gb_fields::numbers::{byte, count_within, word_between, word_count_within};
+use gb_fields::parts::{base_at, entry_at, need_at, returns_at};
 use gb_ops::machine::Region;
-use gb_states::fields::{core_at, val_at};
+use gb_states::form::{Form, cell_by, key_by, val_by};
 use gb_states::relations::relations_at;
 use gb_states::role::Role;
-use gb_states::states::{cell_at, item_count_at, range_at};
+use gb_states::states::{item_count_at, range_at};
+use gb_states::whole::fact_at;
+use gb_states::whole_states::{may_be_aside, told_at};
+
+/// How many addresses each procedure names to be kept: version 4 has at most so many procedures.
+type Counts = ArrayVec<u8, 65_535>;
+
+// ---- states
 
 /// Passes over so many bytes of the stack.
-fn walk_some_items(part: Part, rules: Rules, count: u8, bytes: &[u8]) -> Result<&[u8], Stop>
-    ensures reads { Walks (λ x. x.now) result (vals_of rules count) bytes.now }
-    ensures block { IfErr result (StopsIn (Of part (AmongItems rules count bytes.now))) }
+fn walk_some_items(part: Part, form: Form, count: u8, bytes: &[u8]) -> Result<&[u8], Stop>
+    ensures reads { Walks (λ x. x.now) result (vals_by form count) bytes.now }
+    ensures block { IfErr result (StopsIn (Of part (AmongItems form count bytes.now))) }
 {
     let mut rest = bytes;
     for index in 0..count {
-        match val_at(rules, rest) {
+        match val_by(form, rest) {
             Ok((_item, after)) => rest = after,
-            Err(fault) => return Err(stopped(part, Block::Item { rules, index }, fault, rest)),
+            Err(fault) => return Err(stopped(part, Block::Item { form, index }, fault, rest)),
         }
     }
     Ok(rest)
@@ -41,18 +56,19 @@ fn walk_some_items(part: Part, rules: Rules, count: u8, bytes: &[u8]) -> Result<
 #[tactic(auto, using(crate::proofs::PartLaws::walk_items))]
 fn walk_items(
     part: Part,
-    rules: Rules,
+    form: Form,
     role: Role,
     stack_set: bool,
     bytes: &[u8],
 ) -> Result<&[u8], Stop>
-    ensures reads { Walks (λ x. x.now) result (items_at rules role stack_set) bytes.now }
-    ensures block { IfErr result (StopsIn (Of part (InItems rules role stack_set bytes.now))) }
+    ensures reads { Walks (λ x. x.now) result (items_by form role stack_set) bytes.now }
+    ensures block { IfErr result (StopsIn (Of part (InItems form role stack_set bytes.now))) }
 {
+    let rules = rules_in(form);
     match item_count_at(rules, role, stack_set, bytes) {
         Ok((count, rest)) => {
             let items = item_bytes(rules, count);
-            let end = walk_some_items(part, rules, items, rest)?;
+            let end = walk_some_items(part, form, items, rest)?;
             Ok(end)
         }
         Err(fault) => {
@@ -66,23 +82,39 @@ fn walk_items(
     }
 }
 
-/// Passes over what is known of several parts together, in version 3.
+/// Passes over what is known of several parts together, in versions 3 and 4, and over what a state of version 4 says of the
+/// whole program.
 #[tactic(auto, using(crate::proofs::PartLaws::walk_told))]
 fn walk_told(
     part: Part,
-    rules: Rules,
+    form: Form,
     region: Region,
+    may_be_aside: bool,
     test: Option<u8>,
     bytes: &[u8],
 ) -> Result<&[u8], Stop>
-    ensures reads { Walks (λ x. x.now) result (relations_by rules region test) bytes.now }
-    ensures block { IfErr result (StopsIn (Of part (InTold rules region test bytes.now))) }
+    ensures reads { Walks (λ x. x.now) result (told_by form region may_be_aside test) bytes.now }
+    ensures block { IfErr result (StopsIn (Of part (InTold form region may_be_aside test bytes.now))) }
 {
-    match rules {
-        Rules::Simple => Ok(bytes),
-        Rules::Extended => match relations_at(region, test, bytes) {
+    match form {
+        Form::Older(rules) => match rules {
+            Rules::Simple => Ok(bytes),
+            Rules::Extended => match relations_at(region, test, bytes) {
+                Ok((_told, rest)) => Ok(rest),
+                Err(fault) => Err(stopped(part, Block::Told { region, test }, fault, bytes)),
+            },
+        },
+        Form::Fourth(facts, _) => match told_at(facts, region, may_be_aside, test, bytes) {
             Ok((_told, rest)) => Ok(rest),
-            Err(fault) => Err(stopped(part, Block::Told { region, test }, fault, bytes)),
+            Err(fault) => {
+                let block = Block::ToldWhole {
+                    facts,
+                    region,
+                    may_be_aside,
+                    test,
+                };
+                Err(stopped(part, block, fault, bytes))
+            }
         },
     }
 }
@@ -90,25 +122,25 @@ fn walk_told(
 /// Passes over as many cells as the count says.
 fn walk_some_cells(
     part: Part,
-    rules: Rules,
+    form: Form,
     region: Region,
     count: u8,
     bytes: &[u8],
 ) -> Result<&[u8], Stop>
-    ensures reads { Walks (λ x. x.now) result (several (cell_at rules region) after_cell 0 count) bytes.now }
-    ensures block { IfErr result (StopsIn (Of part (AmongCells rules region count bytes.now))) }
+    ensures reads { Walks (λ x. x.now) result (several (cell_by form region) after_cell 0 count) bytes.now }
+    ensures block { IfErr result (StopsIn (Of part (AmongCells form region count bytes.now))) }
 {
     let mut least = 0;
     let mut rest = bytes;
     for index in 0..count {
-        match cell_at(rules, region, least, rest) {
+        match cell_by(form, region, least, rest) {
             Ok((cell, after)) => {
                 least = cell.address as u32 + 1;
                 rest = after;
             }
             Err(fault) => {
                 let block = Block::Cell {
-                    rules,
+                    form,
                     index,
                     region,
                     least,
@@ -121,56 +153,61 @@ fn walk_some_cells(
 }
 
 #[tactic(auto, using(crate::proofs::PartLaws::walk_cells))]
-fn walk_cells(part: Part, rules: Rules, region: Region, bytes: &[u8]) -> Result<&[u8], Stop>
-    ensures reads { Walks (λ x. x.now) result (cells_at rules region) bytes.now }
-    ensures block { IfErr result (StopsIn (Of part (InCells rules region bytes.now))) }
+fn walk_cells(part: Part, form: Form, region: Region, bytes: &[u8]) -> Result<&[u8], Stop>
+    ensures reads { Walks (λ x. x.now) result (cells_by form region) bytes.now }
+    ensures block { IfErr result (StopsIn (Of part (InCells form region bytes.now))) }
 {
+    let rules = rules_in(form);
     match count_within(cell_limit(rules), bytes) {
         Ok((count, rest)) => {
-            let end = walk_some_cells(part, rules, region, count, rest)?;
+            let end = walk_some_cells(part, form, region, count, rest)?;
             Ok(end)
         }
         Err(fault) => Err(stopped(part, Block::CellCount { rules }, fault, bytes)),
     }
 }
 
-/// Passes over what is known of several parts together, and over the cells.
+/// Passes over what is known of several parts together, over what is said of the whole program, and over the cells.
 #[tactic(auto, using(crate::proofs::PartLaws::walk_lists))]
 fn walk_lists(
     part: Part,
-    rules: Rules,
+    form: Form,
     region: Region,
+    may_be_aside: bool,
     test: Option<u8>,
     bytes: &[u8],
 ) -> Result<&[u8], Stop>
-    ensures reads { Walks (λ x. x.now) result (both (relations_by rules region test) (cells_at rules region)) bytes.now }
-    ensures block { IfErr result (StopsIn (Of part (InLists rules region test bytes.now))) }
+    ensures reads { Walks (λ x. x.now) result (both (told_by form region may_be_aside test) (cells_by form region)) bytes.now }
+    ensures block { IfErr result (StopsIn (Of part (InLists form region may_be_aside test bytes.now))) }
 {
-    let rest = walk_told(part, rules, region, test, bytes)?;
-    let end = walk_cells(part, rules, region, rest)?;
+    let rest = walk_told(part, form, region, may_be_aside, test, bytes)?;
+    let end = walk_cells(part, form, region, rest)?;
     Ok(end)
 }
 
 #[tactic(auto, using(crate::proofs::PartLaws::walk_state))]
 fn walk_state(
     part: Part,
-    rules: Rules,
+    form: Form,
     role: Role,
     region: Region,
     bytes: &[u8],
 ) -> Result<&[u8], Stop>
-    ensures reads { Walks (λ x. x.now) result (state_at rules role region) bytes.now }
-    ensures block { IfErr result (StopsIn (Of part (InState rules role region bytes.now))) }
+    ensures reads { Walks (λ x. x.now) result (state_by form role region) bytes.now }
+    ensures block { IfErr result (StopsIn (Of part (InState form role region bytes.now))) }
 {
-    match core_at(rules, role, bytes) {
+    match core_by(form, role, bytes) {
         Ok((core, rest)) => {
-            let rest = walk_items(part, rules, role, core.0.stack_set, rest)?;
-            let end = walk_lists(part, rules, region, core.1, rest)?;
+            let rest = walk_items(part, form, role, core.0.stack_set, rest)?;
+            let aside = may_be_aside(role, &core.0);
+            let end = walk_lists(part, form, region, aside, core.1, rest)?;
             Ok(end)
         }
-        Err(fault) => Err(stopped(part, Block::Core { rules, role }, fault, bytes)),
+        Err(fault) => Err(stopped(part, Block::Core { form, role }, fault, bytes)),
     }
 }
+
+// ---- procedures
 
 /// Passes over as many ranges as the count says.
 fn walk_some_ranges(part: Part, region: Region, count: u8, bytes: &[u8]) -> Result<&[u8], Stop>
@@ -221,21 +258,62 @@ fn walk_ranges(
     }
 }
 
+/// Passes over as many addresses to be kept as the count says.
+fn walk_some_kept(part: Part, region: Region, count: u8, bytes: &[u8]) -> Result<&[u8], Stop>
+    ensures reads { Walks (λ x. x.now) result (several (free_address_at region) after_address 0 count) bytes.now }
+    ensures block { IfErr result (StopsIn (Of part (AmongKept region count bytes.now))) }
+{
+    let mut least = 0;
+    let mut rest = bytes;
+    for index in 0..count {
+        match free_address_at(region, least, rest) {
+            Ok((address, after)) => {
+                least = address as u32 + 1;
+                rest = after;
+            }
+            Err(fault) => {
+                let block = Block::KeptAddress {
+                    index,
+                    region,
+                    least,
+                };
+                return Err(stopped(part, block, fault, rest));
+            }
+        }
+    }
+    Ok(rest)
+}
+
+/// Passes over the addresses that a procedure names to be kept: how many there are.
+#[tactic(auto, using(crate::proofs::NamedLaws::walk_kept))]
+fn walk_kept(part: Part, is_main: bool, region: Region, bytes: &[u8]) -> Result<(u8, &[u8]), Stop>
+    ensures reads { Finds (λ x. (x.0, x.1.now)) result (mapped length (kept_addresses_at is_main region)) bytes.now }
+    ensures block { IfErr result (StopsIn (Of part (InKept is_main region bytes.now))) }
+{
+    match count_within(kept_room(is_main), bytes) {
+        Ok((count, rest)) => {
+            let end = walk_some_kept(part, region, count, rest)?;
+            Ok((count, end))
+        }
+        Err(fault) => Err(stopped(part, Block::KeptCount { is_main }, fault, bytes)),
+    }
+}
+
 /// Passes over whether the procedure with this number returns, and over its exit.
 #[tactic(auto, using(crate::proofs::PartLaws::walk_exit))]
 fn walk_exit(
-    number: u8,
-    rules: Rules,
+    number: u16,
+    form: Form,
     is_main: bool,
     region: Region,
     bytes: &[u8],
 ) -> Result<&[u8], Stop>
-    ensures reads { Walks (λ x. x.now) result (exit_at rules is_main region) bytes.now }
-    ensures block { IfErr result (StopsIn (InExit number rules is_main region bytes.now)) }
+    ensures reads { Walks (λ x. x.now) result (exit_by form is_main region) bytes.now }
+    ensures block { IfErr result (StopsIn (InExit number form is_main region bytes.now)) }
 {
     match returns_at(is_main, bytes) {
         Ok((true, rest)) => {
-            let end = walk_state(Part::Exit(number), rules, Role::Exit, region, rest)?;
+            let end = walk_state(Part::Exit(number), form, Role::Exit, region, rest)?;
             Ok(end)
         }
         Ok((false, rest)) => Ok(rest),
@@ -246,7 +324,52 @@ fn walk_exit(
     }
 }
 
-/// Passes over a base, in version 3.
+/// Passes over the addresses that the procedure with this number names to be kept, its mark and its exit: how many addresses
+/// there are.
+#[tactic(auto, using(crate::proofs::NamedLaws::walk_named))]
+fn walk_named(
+    number: u16,
+    facts: u16,
+    is_main: bool,
+    region: Region,
+    bytes: &[u8],
+) -> Result<(u8, &[u8]), Stop>
+    ensures reads { Finds (λ x. (x.0, x.1.now)) result (mapped count_named (named_at facts is_main region)) bytes.now }
+    ensures block { IfErr result (StopsIn (InNamed number facts is_main region bytes.now)) }
+{
+    let part = Part::Procedure(number);
+    let (kept, rest) = walk_kept(part, is_main, region, bytes)?;
+    let rest = match byte(rest) {
+        Ok((_mark, after)) => after,
+        Err(fault) => return Err(stopped(part, Block::Mark, fault, rest)),
+    };
+    let end = walk_exit(number, Form::Fourth(facts, kept), is_main, region, rest)?;
+    Ok((kept, end))
+}
+
+/// Passes over what is behind the ranges of the procedure with this number: how many addresses it names to be kept.
+#[tactic(auto, using(crate::proofs::NamedLaws::walk_ending))]
+fn walk_ending(
+    number: u16,
+    version: u8,
+    facts: u16,
+    is_main: bool,
+    region: Region,
+    bytes: &[u8],
+) -> Result<(u8, &[u8]), Stop>
+    ensures reads { Finds (λ x. (x.0, x.1.now)) result (mapped (ending_count (version == 4)) (ending_by (version == 4) version facts is_main region)) bytes.now }
+    ensures block { IfErr result (StopsIn (InEnding number version facts is_main region bytes.now)) }
+{
+    if version == 4 {
+        let (kept, end) = walk_named(number, facts, is_main, region, bytes)?;
+        return Ok((kept, end));
+    }
+    let form = Form::Older(Rules::of(version));
+    let end = walk_exit(number, form, is_main, region, bytes)?;
+    Ok((0, end))
+}
+
+/// Passes over a base, in versions 3 and 4.
 #[tactic(auto, using(crate::proofs::PartLaws::walk_base))]
 fn walk_base(
     part: Part,
@@ -267,24 +390,27 @@ fn walk_base(
     }
 }
 
-/// Passes over the need, the ranges and the exit of the procedure with this number.
-#[tactic(auto, using(crate::proofs::PartLaws::walk_needed))]
+/// Passes over the need of the procedure with this number, its ranges and what is behind them: how many addresses it names to be
+/// kept.
+#[tactic(auto, using(crate::proofs::ProcedureLaws::walk_needed))]
 fn walk_needed(
-    number: u8,
-    rules: Rules,
+    number: u16,
+    version: u8,
+    facts: u16,
     is_main: bool,
     region: Region,
     bytes: &[u8],
-) -> Result<&[u8], Stop>
-    ensures reads { Walks (λ x. x.now) result (needed_at rules is_main region) bytes.now }
-    ensures block { IfErr result (StopsIn (InNeeded number rules is_main region bytes.now)) }
+) -> Result<(u8, &[u8]), Stop>
+    ensures reads { Finds (λ x. (x.0, x.1.now)) result (mapped (needed_count (version == 4)) (needed_by (version == 4) version facts is_main region)) bytes.now }
+    ensures block { IfErr result (StopsIn (InNeeded number version facts is_main region bytes.now)) }
 {
     let part = Part::Procedure(number);
+    let rules = any_rules_of(version);
     match need_at(rules, is_main, region, bytes) {
         Ok((_need, rest)) => {
             let rest = walk_ranges(part, rules, is_main, region, rest)?;
-            let end = walk_exit(number, rules, is_main, region, rest)?;
-            Ok(end)
+            let (kept, end) = walk_ending(number, version, facts, is_main, region, rest)?;
+            Ok((kept, end))
         }
         Err(fault) => {
             let block = Block::Need {
@@ -297,41 +423,48 @@ fn walk_needed(
     }
 }
 
-/// Passes over all of the procedure with this number but its entry.
-#[tactic(auto, using(crate::proofs::PartLaws::walk_body))]
+/// Passes over all of the procedure with this number but its entry: how many addresses it names to be kept.
+#[tactic(auto, using(crate::proofs::ProcedureLaws::walk_body))]
 fn walk_body(
-    number: u8,
-    rules: Rules,
+    number: u16,
+    version: u8,
+    facts: u16,
     is_main: bool,
     region: Region,
     bytes: &[u8],
-) -> Result<&[u8], Stop>
-    ensures reads { Walks (λ x. x.now) result (body_at rules is_main region) bytes.now }
-    ensures block { IfErr result (StopsIn (InBody number rules is_main region bytes.now)) }
+) -> Result<(u8, &[u8]), Stop>
+    ensures reads { Finds (λ x. (x.0, x.1.now)) result (mapped (body_count (version == 4)) (body_by (version == 4) version facts is_main region)) bytes.now }
+    ensures block { IfErr result (StopsIn (InBody number version facts is_main region bytes.now)) }
 {
+    let rules = any_rules_of(version);
     let rest = walk_base(Part::Procedure(number), rules, is_main, region, bytes)?;
-    let end = walk_needed(number, rules, is_main, region, rest)?;
-    Ok(end)
+    let (kept, end) = walk_needed(number, version, facts, is_main, region, rest)?;
+    Ok((kept, end))
 }
 
-/// Passes over the procedure with this number, which begins at one of so many nodes.
-#[tactic(auto, using(crate::proofs::PartLaws::walk_procedure))]
+/// Passes over the procedure with this number, which begins at one of so many nodes, in a certificate of so many facts: how many
+/// addresses it names to be kept.
+#[tactic(auto, using(crate::proofs::ProcedureLaws::walk_procedure))]
 fn walk_procedure(
-    number: u8,
-    version: u8,
-    region: Region,
-    nodes: u32,
+    number: u16,
+    head: AnyHead,
+    facts: u16,
     is_main: bool,
     bytes: &[u8],
-) -> Result<&[u8], Stop>
-    ensures reads { Walks (λ x. x.now) result (procedure_at version region nodes is_main) bytes.now }
-    ensures block { IfErr result (StopsIn (InProcedure number version region nodes is_main bytes.now)) }
+) -> Result<(u8, &[u8]), Stop>
+    ensures reads { Finds (λ x. (x.0, x.1.now)) result (mapped kept_count (procedure_by (head.version == 4) head.version facts head.region head.nodes is_main)) bytes.now }
+    ensures block { IfErr result (StopsIn (InProcedure number (head_in head) facts is_main bytes.now)) }
 {
+    let AnyHead {
+        version,
+        region,
+        nodes,
+        ..
+    } = head;
     match entry_at(version, nodes, bytes) {
         Ok((_entry, rest)) => {
-            let rules = Rules::of(version);
-            let end = walk_body(number, rules, is_main, region, rest)?;
-            Ok(end)
+            let (kept, end) = walk_body(number, version, facts, is_main, region, rest)?;
+            Ok((kept, end))
         }
         Err(fault) => {
             let block = Block::Entry { version, nodes };
@@ -340,61 +473,139 @@ fn walk_procedure(
     }
 }
 
-/// Passes over the node with this number, of one of so many procedures, and finds its key.
-#[tactic(auto, using(crate::proofs::PartLaws::walk_node))]
-fn walk_node(
+/// Passes over the procedures of a certificate of so many facts: how many addresses each of them names to be kept.
+#[tactic(auto, unfolding(gb_states::specs::WholeReading::procedures_at))]
+fn walk_procedures(head: AnyHead, facts: u16, bytes: &[u8]) -> Result<(Counts, &[u8]), Stop>
+    ensures reads { Finds (λ x. (x.0.items, x.1.now)) result (mapped kept_counts (procedures_at (head_in head) facts)) bytes.now }
+    ensures block { IfErr result (StopsIn (InProcedures (head_in head) facts bytes.now)) }
+{
+    let mut counts = Counts::new();
+    let mut is_main = true;
+    let mut rest = bytes;
+    for number in 0..head.procedures {
+        let (kept, after) = walk_procedure(number, head, facts, is_main, rest)?;
+        counts.push(kept);
+        is_main = false;
+        rest = after;
+    }
+    Ok((counts, rest))
+}
+
+// ---- nodes
+
+/// How many addresses the procedure with this number names to be kept.
+fn kept_of(counts: &[u8], number: u16) -> u8
+    ensures { result ≡ kept_of counts.now number }
+{
+    match counts.get(number as usize) {
+        Some(count) => *count,
+        None => 0,
+    }
+}
+
+/// What a node of this procedure is for.
+fn role_of(procedure: u16) -> Role
+    ensures { result ≡ role_of procedure }
+{
+    if procedure == 0 {
+        Role::Main
+    } else {
+        Role::Other
+    }
+}
+
+/// Passes over the node with this number, in a certificate of so many facts whose procedures name so many addresses to be kept,
+/// and finds its key.
+#[tactic(auto, using(crate::proofs::NodeLaws::walk_node))]
+fn walk_node<'a>(
     number: u32,
-    rules: Rules,
-    region: Region,
-    procedures: u8,
-    before: (u8, u16),
-    bytes: &[u8],
-) -> Result<((u8, u16), &[u8]), Stop>
-    ensures reads { Finds (λ x. (x.0, x.1.now)) result (mapped key (node_at rules region procedures before)) bytes.now }
-    ensures block { IfErr result (StopsIn (Of (the_part.Node number) (InNode rules region procedures before bytes.now))) }
+    head: AnyHead,
+    facts: u16,
+    counts: &[u8],
+    before: (u16, u16),
+    bytes: &'a [u8],
+) -> Result<((u16, u16), &'a [u8]), Stop>
+    ensures reads { Finds (λ x. (x.0, x.1.now)) result (mapped key (node_by (head.version == 4) head.version facts (kept_of counts.now) head.region head.procedures before)) bytes.now }
+    ensures block { IfErr result (StopsIn (Of (the_part.Node number) (InNode (head_in head) facts counts.now before bytes.now))) }
 {
     let part = Part::Node(number);
-    let (key, rest) = match key_at(procedures, before, bytes) {
+    let (key, rest) = match key_by(head.version, head.procedures, before, bytes) {
         Ok(x) => x,
-        Err(fault) => return Err(stopped(part, Block::Key { procedures, before }, fault, bytes)),
+        Err(fault) => {
+            let block = Block::Key {
+                version: head.version,
+                procedures: head.procedures,
+                before,
+            };
+            return Err(stopped(part, block, fault, bytes));
+        }
     };
     let rest = match word_between(0, 511, rest) {
         Ok((_bank, after)) => after,
         Err(fault) => return Err(stopped(part, Block::Bank, fault, rest)),
     };
-    let rest = walk_state(part, rules, Role::of(key.0), region, rest)?;
+    let form = Form::of(head.version, facts, kept_of(counts, key.0));
+    let rest = walk_state(part, form, role_of(key.0), head.region, rest)?;
     Ok((key, rest))
 }
 
-/// Passes over the procedures behind the head.
-#[tactic(auto, unfolding(gb_states::specs::Reading::procedures_at))]
-fn walk_procedures(head: Head, bytes: &[u8]) -> Result<&[u8], Stop>
-    ensures reads { Walks (λ x. x.now) result (procedures_at head.version head.region head.nodes head.procedures) bytes.now }
-    ensures block { IfErr result (StopsIn (InProcedures head bytes.now)) }
-{
-    let mut is_main = true;
-    let mut rest = bytes;
-    for number in 0..head.procedures {
-        rest = walk_procedure(number, head.version, head.region, head.nodes, is_main, rest)?;
-        is_main = false;
-    }
-    Ok(rest)
-}
-
 /// Passes over the nodes behind the procedures.
-#[tactic(auto, unfolding(gb_states::specs::Reading::nodes_at))]
-fn walk_nodes(rules: Rules, head: Head, bytes: &[u8]) -> Result<&[u8], Stop>
-    ensures reads { Walks (λ x. x.now) result (nodes_at rules head.region head.procedures head.nodes) bytes.now }
-    ensures block { IfErr result (StopsIn (InNodes rules head bytes.now)) }
+#[tactic(auto, unfolding(gb_states::specs::WholeReading::nodes_at))]
+fn walk_nodes<'a>(
+    head: AnyHead,
+    facts: u16,
+    counts: &[u8],
+    bytes: &'a [u8],
+) -> Result<&'a [u8], Stop>
+    ensures reads { Walks (λ x. x.now) result (nodes_at (head_in head) facts counts.now) bytes.now }
+    ensures block { IfErr result (StopsIn (InNodes (head_in head) facts counts.now bytes.now)) }
 {
     let mut before = (0, 0);
     let mut rest = bytes;
     for number in 0..head.nodes {
-        let (key, after) = walk_node(number, rules, head.region, head.procedures, before, rest)?;
+        let (key, after) = walk_node(number, head, facts, counts, before, rest)?;
         before = key;
         rest = after;
     }
     Ok(rest)
+}
+
+// ---- certificates
+
+/// Passes over so many facts.
+fn walk_some_facts(region: Region, count: u16, bytes: &[u8]) -> Result<&[u8], Stop>
+    ensures reads { Walks (λ x. x.now) result (several {S = Unit {0}} (λ s. fact_at region) (λ f. tt) tt count) bytes.now }
+    ensures block { IfErr result (StopsIn (AmongFacts region count bytes.now)) }
+{
+    let mut rest = bytes;
+    for index in 0..count {
+        match fact_at(region, rest) {
+            Ok((_fact, after)) => rest = after,
+            Err(fault) => {
+                let block = Block::Fact { region };
+                return Err(stopped(Part::Fact(index), block, fault, rest));
+            }
+        }
+    }
+    Ok(rest)
+}
+
+/// Passes over the facts, which version 4 has: how many there are.
+#[tactic(auto, using(crate::proofs::NamedLaws::walk_facts))]
+fn walk_facts(version: u8, region: Region, bytes: &[u8]) -> Result<(u16, &[u8]), Stop>
+    ensures reads { Finds (λ x. (x.0, x.1.now)) result (mapped length (facts_by (version == 4) region)) bytes.now }
+    ensures block { IfErr result (StopsIn (InFacts version region bytes.now)) }
+{
+    if version != 4 {
+        return Ok((0, bytes));
+    }
+    match word_count_within(FACT_LIMIT, bytes) {
+        Ok((count, rest)) => {
+            let end = walk_some_facts(region, count, rest)?;
+            Ok((count, end))
+        }
+        Err(fault) => Err(stopped(Part::Head, Block::FactCount, fault, bytes)),
+    }
 }
 
 /// The version that stands in the head, 1 where the bytes end before it.
@@ -407,17 +618,17 @@ fn version_in(bytes: &[u8]) -> u8
     }
 }
 
-/// Passes over the head, the procedures and the nodes.
+/// Passes over the head, the facts, the procedures and the nodes.
 #[tactic(auto, using(crate::proofs::PlaceLaws::walk_parts))]
 pub fn walk_parts(bytes: &[u8]) -> Result<&[u8], Stop>
     ensures reads { Walks (λ x. x.now) result parts_at bytes.now }
     ensures block { IfErr result (StopsIn (InCertificate bytes.now)) }
 {
-    match head_at(bytes) {
+    match any_head_at(bytes) {
         Ok((head, rest)) => {
-            let rest = walk_procedures(head, rest)?;
-            let rules = Rules::of(head.version);
-            let end = walk_nodes(rules, head, rest)?;
+            let (facts, rest) = walk_facts(head.version, head.region, rest)?;
+            let (counts, rest) = walk_procedures(head, facts, rest)?;
+            let end = walk_nodes(head, facts, counts.as_slice(), rest)?;
             Ok(end)
         }
         Err(fault) => {

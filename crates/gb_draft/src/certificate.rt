@@ -1,7 +1,7 @@
 //! The certificate of a finished run.
 
 use crate::order::order;
-use gb_cert::{NodePlan, ProcedurePlan, Version, WriteFault, write_certificate};
+use gb_cert::{CertificatePlan, NodePlan, ProcedurePlan, Version, WriteFault, write_certificate};
 use gb_fixpoint::limits::COMPARED;
 use gb_fixpoint::types::{Run, RunNode, RunProcedure};
 use gb_fixpoint::{Abs, Program, Region, Rules, covers, known_bank};
@@ -28,13 +28,14 @@ pub fn certificate_of(alloc: Global, run: &Run<'_>, region: Region) -> Result<Ve
     let procedures = procedures(alloc, run, order.as_slice(), places.as_slice())?;
     let nodes = nodes(alloc, run, standings.as_slice())?;
     let version = version_of(run.rules(), nodes.len());
-    write_certificate(
-        alloc,
+    let plan = CertificatePlan {
         version,
         region,
-        procedures.as_slice(),
-        nodes.as_slice(),
-    )
+        facts: &[],
+        procedures: procedures.as_slice(),
+        nodes: nodes.as_slice(),
+    };
+    write_certificate(alloc, &plan)
 }
 
 /// The version of a certificate with so many nodes.
@@ -87,6 +88,8 @@ fn procedure_plan<'a>(
         base,
         need: u16::try_from(procedure.need).unwrap_or(u16::MAX - 1),
         ranges: procedure.ranges.as_slice(),
+        kept: &[],
+        mark: 0,
         exit: exit_of(procedure),
     }
 }
@@ -120,7 +123,7 @@ fn node_plan<'a>(
     procedure: usize,
     node: &'a RunNode,
 ) -> Result<NodePlan<'a>, WriteFault> {
-    let Ok(procedure) = u8::try_from(procedure) else {
+    let Ok(procedure) = u16::try_from(procedure) else {
         return Err(WriteFault::Procedures);
     };
     let address = node.key.address;

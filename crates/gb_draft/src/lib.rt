@@ -14,7 +14,9 @@ pub use needs::find_needs;
 pub use order::{Precedence, add_in_order};
 
 // What lies below, for the crates above.
-pub use gb_cert::{NodePlan, ProcedurePlan, Version, WriteFault, write_certificate};
+pub use gb_cert::{
+    CertificatePlan, NodePlan, ProcedurePlan, Version, WriteFault, write_certificate,
+};
 pub use gb_fixpoint::cause::{Cause, Failure, RunEnd, StackMisuse, Wish};
 pub use gb_fixpoint::code_point::CodePoint;
 pub use gb_fixpoint::configuration::{Configuration, TargetPlace};

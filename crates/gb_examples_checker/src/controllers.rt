@@ -116,6 +116,38 @@ const BANKS: [BankRow; 16] = [
     (Kind::Mbc5, HIGH, (0x00, 0x01), (0xFE, 0x101), (0, 0x1FF)),
 ];
 
+/// The same by the rules of version 4, where each half of MBC5's bank has bounds of its own.
+const HALVES: [BankRow; 7] = [
+    (Kind::Mbc5, LOW, (0x10, 0x20), (0x001, 0x103), (0x10, 0x120)),
+    // Bit 8, for the low eight bits 03 to 07, whatever it was.
+    (
+        Kind::Mbc5,
+        HIGH,
+        (0x01, 0x01),
+        (0x003, 0x107),
+        (0x103, 0x107),
+    ),
+    (Kind::Mbc5, HIGH, (0x02, 0x02), (0x103, 0x107), (3, 7)),
+    (Kind::Mbc5, HIGH, (0x00, 0x01), (0x003, 0x107), (3, 0x107)),
+    (
+        Kind::Mbc5,
+        HIGH,
+        (0x01, 0x01),
+        (0x005, 0x105),
+        (0x105, 0x105),
+    ),
+    // No low eight bits are meant: they are any.
+    (
+        Kind::Mbc5,
+        HIGH,
+        (0x01, 0x01),
+        (0xFE, 0x101),
+        (0x100, 0x1FF),
+    ),
+    // One register.
+    (Kind::Mbc3, BANK, (0x80, 0x85), (9, 9), (1, 5)),
+];
+
 /// Whether a store leaves the bank so, and all else as it was, but no longer kept by the rules of versions 1 to 3.
 fn leaves_bank(row: &BankRow) -> bool {
     let (kind, register, (lo, hi), (old_lo, old_hi), (bank_lo, bank_hi)) = *row;
@@ -125,6 +157,24 @@ fn leaves_bank(row: &BankRow) -> bool {
         ..with_bank(bank_lo, bank_hi)
     };
     ctl_written(false, kind, register, &from_to(lo, hi), &before) == expected
+}
+
+/// Whether a store leaves the bank so by the rules of version 4, and all else as it was but what is kept.
+fn leaves_halves(row: &BankRow) -> bool {
+    let (kind, register, (lo, hi), (old_lo, old_hi), (bank_lo, bank_hi)) = *row;
+    let before = with_bank(old_lo, old_hi);
+    let expected = Ctl {
+        kept: kept_after(true, register, before.kept),
+        ..with_bank(bank_lo, bank_hi)
+    };
+    ctl_written(true, kind, register, &from_to(lo, hi), &before) == expected
+}
+
+#[test]
+fn halves_of_the_bank_after_a_store(rt: HostRuntime) {
+    for (i, row) in HALVES.iter().enumerate() {
+        assert!(rt; leaves_halves(row), "half {i}");
+    }
 }
 
 #[test]
@@ -193,7 +243,7 @@ fn gate_mode_and_second_register_after_a_store(rt: HostRuntime) {
 /// the mode, and the bank's bit 8.
 const KEPT: [(ControllerRegister, (bool, bool, bool, bool, bool)); 6] = [
     (ControllerRegister::Gate, (true, true, false, true, true)),
-    (BANK, (false, true, true, true, false)),
+    (BANK, (false, true, true, true, true)),
     (LOW, (false, true, true, true, true)),
     (HIGH, (true, true, true, true, false)),
     (ControllerRegister::Second, (true, false, true, true, true)),

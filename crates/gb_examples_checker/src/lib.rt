@@ -19,3 +19,5 @@ mod verdicts;
 #[cfg(test)]
 mod version_3;
 mod written;
+#[cfg(test)]
+mod written_whole;

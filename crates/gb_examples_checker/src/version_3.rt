@@ -1,7 +1,8 @@
 //! Certificates of version 3, read, written again and judged.
 
 use gb_cert::{
-    Cert, NodePlan, NodeRef, ProcedurePlan, Version, WriteFault, encode, write_certificate,
+    Cert, CertificatePlan, NodePlan, NodeRef, ProcedurePlan, Version, WriteFault, encode,
+    write_certificate,
 };
 use gb_domain::pairs::{ANY_BOUNDS, Bounds, Link, Other, PairFacts, Pairs, WordPair};
 use gb_domain::places::{NO_REGISTER, OneByte, Test};
@@ -391,7 +392,7 @@ fn each_part_is_read(rt: HostRuntime) -> Result<(), Fail> {
 /// A node's plan, its state given.
 fn plan_of<'a>(node: &NodeRef<'_>, state: &'a Abs) -> NodePlan<'a> {
     NodePlan {
-        procedure: node.procedure(),
+        procedure: u16::from(node.procedure()),
         address: node.address(),
         bank: node.bank(),
         state,
@@ -405,29 +406,38 @@ fn written(alloc: Global, cert: &Cert<'_>) -> Result<Vec<u8>, WriteFault> {
     }
     let (main, other) = (cert.procedure(0), cert.procedure(1));
     let (ranges, exit) = (other.ranges(), other.exit());
-    let procedures = [
-        ProcedurePlan {
-            entry: main.entry(),
-            base: main.base(),
-            need: main.need(),
-            ranges: &[],
-            exit: None,
-        },
-        ProcedurePlan {
-            entry: other.entry(),
-            base: other.base(),
-            need: other.need(),
-            ranges: ranges.as_slice(),
-            exit: exit.as_ref(),
-        },
-    ];
+    let mut procedures = Vec::new(alloc);
+    procedures.push(ProcedurePlan {
+        entry: main.entry(),
+        base: main.base(),
+        need: main.need(),
+        ranges: &[],
+        kept: &[],
+        mark: 0,
+        exit: None,
+    })?;
+    procedures.push(ProcedurePlan {
+        entry: other.entry(),
+        base: other.base(),
+        need: other.need(),
+        ranges: ranges.as_slice(),
+        kept: &[],
+        mark: 0,
+        exit: exit.as_ref(),
+    })?;
     let (first, second) = (cert.node(0), cert.node(1));
     let (first_state, second_state) = (first.state(), second.state());
-    let nodes = [
-        plan_of(&first, &first_state),
-        plan_of(&second, &second_state),
-    ];
-    write_certificate(alloc, Version::Three, cert.region(), &procedures, &nodes)
+    let mut nodes = Vec::new(alloc);
+    nodes.push(plan_of(&first, &first_state))?;
+    nodes.push(plan_of(&second, &second_state))?;
+    let plan = CertificatePlan {
+        version: Version::Three,
+        region: cert.region(),
+        facts: &[],
+        procedures: procedures.as_slice(),
+        nodes: nodes.as_slice(),
+    };
+    write_certificate(alloc, &plan)
 }
 
 /// What is read is written again from its values.

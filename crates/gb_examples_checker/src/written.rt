@@ -4,10 +4,13 @@ use gb_abs::bytes::append_bytes;
 use gb_abs::cells::with_cell;
 use gb_abs::stack::push;
 use gb_cert::{
-    Cert, NodePlan, NodeRef, ProcedurePlan, ProcedureRef, Version, WriteFault, write_certificate,
+    Cert, CertificatePlan, NodePlan, NodeRef, ProcedurePlan, ProcedureRef, Version, WriteFault,
+    write_certificate,
 };
+use gb_domain::interval::StridedInterval;
 use gb_domain::pairs::WordPair;
 use gb_domain::relations::Relations;
+use gb_domain::summary::Fact;
 use gb_domain::types::{
     Abs, Cell, Core, Ctl, Flg, Halves, ImeSet, KeptBanks, Origin, Range, Rules, Val,
 };
@@ -257,6 +260,8 @@ fn procedure_plans(
             base: procedure.base,
             need: procedure.need,
             ranges: procedure.ranges,
+            kept: &[],
+            mark: 0,
             exit: exit.as_ref(),
         })?;
     }
@@ -267,7 +272,7 @@ fn node_plans(alloc: Global, states: &[Abs]) -> Result<Vec<NodePlan<'_>>, AllocE
     let mut plans = Vec::new(alloc);
     for (node, state) in NODES.iter().zip(states) {
         plans.push(NodePlan {
-            procedure: node.procedure,
+            procedure: u16::from(node.procedure),
             address: node.address,
             bank: node.bank,
             state,
@@ -282,13 +287,14 @@ fn written(alloc: Global, version: Version) -> Result<Vec<u8>, WriteFault> {
     let states = states_of_nodes(alloc)?;
     let procedures = procedure_plans(alloc, exits.as_slice())?;
     let nodes = node_plans(alloc, states.as_slice())?;
-    write_certificate(
-        alloc,
+    let plan = CertificatePlan {
         version,
-        REGION,
-        procedures.as_slice(),
-        nodes.as_slice(),
-    )
+        region: REGION,
+        facts: &[],
+        procedures: procedures.as_slice(),
+        nodes: nodes.as_slice(),
+    };
+    write_certificate(alloc, &plan)
 }
 
 fn is_state(state: &Abs, plain: &State) -> bool {
@@ -371,6 +377,11 @@ struct Amounts {
     /// A is even.
     is_even: bool,
     zero: Option<WordPair>,
+    facts: usize,
+    kept: usize,
+    mark: u8,
+    /// The number of the procedure that all nodes belong to.
+    owner: u16,
 }
 
 const LEAST: Amounts = Amounts {
@@ -386,6 +397,10 @@ const LEAST: Amounts = Amounts {
     origin: None,
     is_even: false,
     zero: None,
+    facts: 0,
+    kept: 0,
+    mark: 0,
+    owner: 0,
 };
 
 const LEAST_IN_VERSION_2: Amounts = Amounts {
@@ -395,6 +410,11 @@ const LEAST_IN_VERSION_2: Amounts = Amounts {
 
 const LEAST_IN_VERSION_3: Amounts = Amounts {
     version: Version::Three,
+    ..LEAST
+};
+
+const LEAST_IN_VERSION_4: Amounts = Amounts {
+    version: Version::Four,
     ..LEAST
 };
 
@@ -534,6 +554,76 @@ const LIMITS: &[(Amounts, Option<WriteFault>)] = &[
         },
         Some(WriteFault::Need),
     ),
+    (
+        Amounts {
+            facts: 1,
+            ..LEAST_IN_VERSION_3
+        },
+        Some(WriteFault::Facts),
+    ),
+    (
+        Amounts {
+            kept: 1,
+            ..LEAST_IN_VERSION_3
+        },
+        Some(WriteFault::Kept),
+    ),
+    (
+        Amounts {
+            mark: 1,
+            ..LEAST_IN_VERSION_3
+        },
+        Some(WriteFault::Mark),
+    ),
+    (Amounts { owner: 1, ..LEAST }, Some(WriteFault::Owner)),
+    (
+        Amounts {
+            procedures: 65_535,
+            owner: 65_534,
+            facts: 4_096,
+            mark: 255,
+            is_even: true,
+            origin: Some(Origin::MarkLow),
+            ..LEAST_IN_VERSION_4
+        },
+        None,
+    ),
+    (
+        Amounts {
+            procedures: 65_536,
+            ..LEAST_IN_VERSION_4
+        },
+        Some(WriteFault::Procedures),
+    ),
+    (
+        Amounts {
+            facts: 4_097,
+            ..LEAST_IN_VERSION_4
+        },
+        Some(WriteFault::Facts),
+    ),
+    (
+        Amounts {
+            kept: 16,
+            origin: Some(Origin::Kept(15)),
+            ..LEAST_IN_VERSION_4
+        },
+        None,
+    ),
+    (
+        Amounts {
+            kept: 17,
+            ..LEAST_IN_VERSION_4
+        },
+        Some(WriteFault::Kept),
+    ),
+    (
+        Amounts {
+            origin: Some(Origin::Kept(16)),
+            ..LEAST_IN_VERSION_4
+        },
+        Some(WriteFault::Values),
+    ),
 ];
 
 /// A node of main at 0100.
@@ -569,27 +659,52 @@ fn state_of(amounts: &Amounts) -> Abs {
     state
 }
 
+const FACT: Fact = Fact {
+    first: 0xC000,
+    last: 0xC000,
+    step: 1,
+    value: StridedInterval {
+        lo: 0,
+        hi: 1,
+        count: 0,
+    },
+};
+
 /// What stands against so many equal procedures and nodes.
 fn fault_of(alloc: Global, amounts: &Amounts) -> Result<Option<WriteFault>, AllocError> {
     let ranges = vec![in alloc; Range {
         first: 0xC000,
         last: 0xC000
     }; amounts.ranges]?;
+    let kept = vec![in alloc; 0xC000u16; amounts.kept]?;
+    let facts = vec![in alloc; FACT; amounts.facts]?;
     let state = state_of(amounts);
     let procedure = ProcedurePlan {
         entry: amounts.entry,
         base: 0,
         need: amounts.need,
         ranges: ranges.as_slice(),
+        kept: kept.as_slice(),
+        mark: amounts.mark,
         exit: None,
     };
     let mut procedures = vec![in alloc; procedure; amounts.procedures]?;
     if let Some(main) = procedures.first_mut() {
         main.base = amounts.base;
     }
-    let nodes = vec![in alloc; main_node(&state); amounts.nodes]?;
-    let (procedures, nodes) = (procedures.as_slice(), nodes.as_slice());
-    match write_certificate(alloc, amounts.version, REGION, procedures, nodes) {
+    let node = NodePlan {
+        procedure: amounts.owner,
+        ..main_node(&state)
+    };
+    let nodes = vec![in alloc; node; amounts.nodes]?;
+    let plan = CertificatePlan {
+        version: amounts.version,
+        region: REGION,
+        facts: facts.as_slice(),
+        procedures: procedures.as_slice(),
+        nodes: nodes.as_slice(),
+    };
+    match write_certificate(alloc, &plan) {
         Ok(_) => Ok(None),
         Err(fault) => Ok(Some(fault)),
     }
@@ -610,6 +725,8 @@ fn is_least(alloc: Global, version: Version, state: &Abs, expected: &[u8]) -> bo
         base: 0xE000,
         need: 0,
         ranges: &[],
+        kept: &[],
+        mark: 0,
         exit: None,
     };
     let first = main_node(state);
@@ -621,7 +738,14 @@ fn is_least(alloc: Global, version: Version, state: &Abs, expected: &[u8]) -> bo
         address: 0x0150,
         ..first
     };
-    match write_certificate(alloc, version, REGION, &[main], &[first, second, third]) {
+    let plan = CertificatePlan {
+        version,
+        region: REGION,
+        facts: &[],
+        procedures: &[main],
+        nodes: &[first, second, third],
+    };
+    match write_certificate(alloc, &plan) {
         Ok(bytes) => bytes.as_slice() == expected,
         Err(fault) => fault == WriteFault::Memory,
     }

@@ -173,6 +173,255 @@ fn changed_bytes_of_version_3_are_found(rt: HostRuntime) {
     }
 }
 
+/// The least certificate in version 4, which counts procedures in two bytes, with a fact behind the head, at 17: C000 holds
+/// 00 to 03. Main, at 25, keeps no addresses and has no mark, and its nodes, at 37, 87 and 137, take two bytes each for their
+/// procedure and for what is there.
+fn least_in_version_4() -> [u8; 187] {
+    let mut bytes = [0; 187];
+    let third = least_in_version_3();
+    put(&mut bytes, 0, &third[..9]);
+    put(
+        &mut bytes,
+        4,
+        &[
+            0x04, 0x00, 0xDF, 0xFF, 0xDF, 0x01, 0x00, 0x03, 0x00, 0x00, 0x00, 0x01, 0x00, 0x00,
+            0xC0, 0x00, 0xC0, 0x01, 0x00, 0x03, 0x00,
+        ],
+    );
+    put(&mut bytes, 29, &[0x00, 0xE0]);
+    for node in 0..3usize {
+        put(
+            &mut bytes,
+            39 + 50 * node,
+            &third[25 + 48 * node..69 + 48 * node],
+        );
+    }
+    bytes
+}
+
+const FACT: Part = Part::Fact(0);
+
+/// A's origin and its low bits.
+const A_TAG: Field = Field::ValueTag(Owner::Register(Register::A));
+
+/// Changed bytes of the certificate in version 4.
+const CHANGED_FOURTH: [Step; 27] = [
+    (&[(3, 0x43)], (VERSION, HEAD, Field::Version, 4, 5)),
+    (&[(9, 0x00)], (FIELD, HEAD, Field::ProcedureCount, 9, 11)),
+    (&[(13, 0x10)], (COUNT, HEAD, Field::NodeCount, 11, 15)),
+    // 4,353 facts, where there may be 4,096.
+    (
+        &[(15, 0x01), (16, 0x11)],
+        (COUNT, HEAD, Field::FactCount, 15, 17),
+    ),
+    // A second fact is main's entry and base.
+    (
+        &[(15, 0x02)],
+        (FIELD, Part::Fact(1), Field::FactLast, 27, 29),
+    ),
+    // A fact's addresses meet the stack region; it has no step, or one that leads past the last address.
+    (&[(20, 0xDF)], (FIELD, FACT, Field::FactLast, 19, 21)),
+    (&[(21, 0x00)], (FIELD, FACT, Field::FactStep, 21, 22)),
+    (
+        &[(19, 0x01), (21, 0x02)],
+        (FIELD, FACT, Field::FactStep, 21, 22),
+    ),
+    // It leaves no byte out, or its bounds differ in a low bit that is known.
+    (&[(23, 0xFF)], (FIELD, FACT, Field::FactGreatest, 23, 24)),
+    (&[(24, 0x01)], (FIELD, FACT, Field::FactLowBits, 24, 25)),
+    (&[(25, 0x03)], (FIELD, MAIN, Field::Entry, 25, 29)),
+    (&[(29, 0x02)], (FIELD, MAIN, Field::Base, 29, 31)),
+    (&[(32, 0x02)], (REGION, MAIN, Field::Need, 31, 33)),
+    (&[(33, 0x01)], (COUNT, MAIN, Field::RangeCount, 33, 34)),
+    // Main keeps no address.
+    (&[(34, 0x01)], (COUNT, MAIN, Field::KeptCount, 34, 35)),
+    (&[(36, 0x01)], (FIELD, MAIN, Field::Returns, 36, 37)),
+    (&[(138, 0x01)], (FIELD, NODE, Field::Procedure, 137, 139)),
+    (&[(139, 0x00)], (ORDER, NODE, Field::Address, 139, 141)),
+    (&[(142, 0x02)], (FIELD, NODE, Field::Bank, 141, 143)),
+    (&[(156, 0x20)], (FIELD, NODE, Field::Kept, 156, 157)),
+    // A single A has no low bits, and main keeps no address that A could come from.
+    (&[(164, 0x21)], (FIELD, NODE, A_TAG, 164, 165)),
+    (&[(164, 0x0C)], (FIELD, NODE, A_TAG, 164, 165)),
+    // What is there: parts that there aren't.
+    (&[(184, 0x80)], (FIELD, NODE, Field::ToldWhole, 184, 185)),
+    (&[(185, 0x08)], (FIELD, NODE, Field::ToldWhole, 184, 186)),
+    // A level is there, of which one byte is.
+    (
+        &[(185, 0x02)],
+        (CUT_SHORT, NODE, Field::ToldWhole, 184, 187),
+    ),
+    (&[(186, 0x41)], (COUNT, NODE, Field::CellCount, 186, 187)),
+    // Two nodes are announced, and the third is left over.
+    (
+        &[(11, 0x02)],
+        (LEFT_OVER, Part::End, Field::LeftOver, 137, 137),
+    ),
+];
+
+/// Whether the least certificate of version 4 with these bytes replaced has its fault there.
+fn is_fourth_at(alloc: Global, step: &Step) -> bool {
+    let mut bytes = least_in_version_4();
+    replace(&mut bytes, step.0);
+    is_at(alloc, &bytes, &step.1)
+}
+
+#[test]
+fn changed_bytes_of_version_4_are_found(rt: HostRuntime) {
+    for (i, step) in CHANGED_FOURTH.iter().enumerate() {
+        assert!(rt; is_fourth_at(rt.alloc(), step), "row {i}");
+    }
+}
+
+/// Where node 2 says the level and the fills, from 186 on: level 2, where there is one fact; level 0 and no fill; and nine
+/// fills.
+const LEVELS: &[Step] = &[
+    (
+        &[(185, 0x02), (186, 0x02)],
+        (FIELD, NODE, Field::ToldWhole, 184, 188),
+    ),
+    (&[(186, 0x00)], (FIELD, NODE, Field::ToldWhole, 184, 189)),
+    (&[(188, 0x09)], (COUNT, NODE, Field::ToldWhole, 184, 189)),
+    // Level 1, and a fill whose end has a number that there isn't; then the fill leaves no byte out.
+    (
+        &[
+            (186, 0x01),
+            (188, 0x01),
+            (190, 0xC0),
+            (192, 0xC0),
+            (193, 0x09),
+        ],
+        (FIELD, NODE, Field::ToldWhole, 184, 194),
+    ),
+    (
+        &[(193, 0x00), (195, 0xFF)],
+        (FIELD, NODE, Field::ToldWhole, 184, 196),
+    ),
+    // With a right fill what is left over begins behind the number of cells.
+    (
+        &[(195, 0x7F)],
+        (LEFT_OVER, Part::End, Field::LeftOver, 197, 197),
+    ),
+];
+
+#[test]
+fn what_is_said_of_the_whole_program_is_found(rt: HostRuntime) {
+    let mut bytes = [0; 200];
+    put(&mut bytes, 0, &least_in_version_4());
+    play(&rt, rt.alloc(), &mut bytes, LEVELS);
+}
+
+/// Where node 2 says where SP points, from 186 on: its stack isn't set; then the bounds aren't in order; and then IME may be
+/// pending.
+const ASIDE: &[Step] = &[
+    (&[(185, 0x04)], (FIELD, NODE, Field::ToldWhole, 184, 186)),
+    (
+        &[(145, 0x01), (186, 0x01)],
+        (FIELD, NODE, Field::ToldWhole, 184, 190),
+    ),
+    (&[(143, 0x03)], (FIELD, NODE, Field::ToldWhole, 184, 186)),
+];
+
+#[test]
+fn a_stack_put_aside_is_found(rt: HostRuntime) {
+    let mut bytes = [0; 200];
+    put(&mut bytes, 0, &least_in_version_4());
+    play(&rt, rt.alloc(), &mut bytes, ASIDE);
+}
+
+/// A second procedure at 37: entry 1, no base, no need, no range; it keeps C010 and C020, at 47, has the mark 2, and an
+/// exit, at 53.
+const SECOND_IN_VERSION_4: [u8; 16] = [
+    0x01, 0x00, 0x00, 0x00, 0x00, 0x00, 0x00, 0x00, 0x00, 0x02, 0x10, 0xC0, 0x20, 0xC0, 0x02, 0x01,
+];
+
+const NAMED: Part = Part::Procedure(1);
+
+const EXIT: Part = Part::Exit(1);
+
+/// The exit has no stack set. A may come from one of two kept addresses, by the numbers 12 and 13; there is no third. An
+/// address is known of no byte. The kept addresses don't ascend, or one lies in the stack region; and seventeen are too many.
+const NAMED_STEPS: &[Step] = &[
+    (&[(9, 0x02)], (FIELD, EXIT, Field::StackSet, 55, 56)),
+    (&[(55, 0x01), (74, 0x0E)], (FIELD, EXIT, A_TAG, 74, 75)),
+    (
+        &[(74, 0x0D), (94, 0x02)],
+        (FIELD, EXIT, Field::ToldWhole, 94, 95),
+    ),
+    (&[(49, 0x10)], (ORDER, NAMED, Field::KeptAddress(1), 49, 51)),
+    (&[(48, 0xDF)], (FIELD, NAMED, Field::KeptAddress(0), 47, 49)),
+    (&[(46, 0x11)], (COUNT, NAMED, Field::KeptCount, 46, 47)),
+];
+
+/// The exit is node 0's state.
+#[test]
+fn what_a_procedure_names_is_found(rt: HostRuntime) {
+    let mut bytes = [0; 240];
+    let node = least_in_version_4();
+    put(&mut bytes, 0, &node[..37]);
+    put(&mut bytes, 37, &SECOND_IN_VERSION_4);
+    put(&mut bytes, 53, &node[43..87]);
+    play(&rt, rt.alloc(), &mut bytes, NAMED_STEPS);
+    // A file that ends behind the kept addresses.
+    assert!(rt;
+        is_at(
+            rt.alloc(),
+            &bytes[..46],
+            &(CUT_SHORT, NAMED, Field::KeptCount, 46, 46)
+        )
+    );
+}
+
+/// In the node of a procedure that keeps two addresses A may come from the second one, and from no third; in main's from none.
+const KEPT: &[Step] = &[
+    (&[(224, 0x0E)], (FIELD, NODE, A_TAG, 224, 225)),
+    (
+        &[(224, 0x0D), (174, 0x0C)],
+        (FIELD, Part::Node(1), A_TAG, 174, 175),
+    ),
+];
+
+/// The second procedure, with a right exit, and its node at 197, behind two nodes of main.
+#[test]
+fn what_a_procedure_names_counts_in_its_nodes(rt: HostRuntime) {
+    let mut bytes = [0; 247];
+    let fourth = least_in_version_4();
+    put(&mut bytes, 0, &fourth[..37]);
+    put(&mut bytes, 9, &[0x02]);
+    put(&mut bytes, 37, &SECOND_IN_VERSION_4);
+    put(&mut bytes, 37, &[0x02]);
+    put(&mut bytes, 53, &fourth[43..87]);
+    put(&mut bytes, 55, &[0x01]);
+    put(&mut bytes, 97, &fourth[37..]);
+    put(&mut bytes, 197, &[0x01]);
+    put(&mut bytes, 205, &[0x01]);
+    put(&mut bytes, 224, &[0x0D]);
+    assert!(rt; fault_place(rt.alloc(), &bytes) == Sought::Certificate);
+    play(&rt, rt.alloc(), &mut bytes, KEPT);
+}
+
+/// Procedure 1 begins at 0150 and procedure 2 at 0101; then main's entry is a node of procedure 1, which is found first.
+const ENTRIES: &[Step] = &[
+    (&[(9, 0x03)], (ORDER, Part::End, Field::Entries, 211, 211)),
+    (&[(25, 0x01)], (FIELD, Part::End, Field::Entries, 211, 211)),
+];
+
+/// Two procedures more, at 37 and 49, and the nodes at 61: one each, with a stack that is set.
+#[test]
+fn entries_out_of_order_are_found(rt: HostRuntime) {
+    let mut bytes = [0; 211];
+    let fourth = least_in_version_4();
+    put(&mut bytes, 0, &fourth[..37]);
+    put(&mut bytes, 37, &[0x01]);
+    put(&mut bytes, 49, &[0x02]);
+    put(&mut bytes, 61, &fourth[37..]);
+    put(&mut bytes, 111, &[0x01, 0x00, 0x50, 0x01]);
+    put(&mut bytes, 119, &[0x01]);
+    put(&mut bytes, 161, &[0x02, 0x00, 0x01, 0x01]);
+    put(&mut bytes, 169, &[0x01]);
+    play(&rt, rt.alloc(), &mut bytes, ENTRIES);
+}
+
 /// Whether a certificate that is cut stops at its end, in the field that isn't whole.
 fn is_cut(alloc: Global, bytes: &[u8]) -> bool {
     let length = bytes.len();
@@ -203,6 +452,7 @@ fn one_byte_more(rt: HostRuntime) {
     let mut bytes = [0; 160];
     put(&mut bytes, 0, &least());
     assert!(rt; fault_place(rt.alloc(), &least()) == Sought::Certificate);
+    assert!(rt; fault_place(rt.alloc(), &least_in_version_4()) == Sought::Certificate);
     play(&rt, rt.alloc(), &mut bytes, ONE_MORE);
 }
 
@@ -330,6 +580,13 @@ fn has_third_text(alloc: Global, changes: &[(usize, u8)], text: &str) -> Result<
     has_text(alloc, &bytes, text)
 }
 
+/// Whether a changed certificate of version 4 has this text.
+fn has_fourth_text(alloc: Global, changes: &[(usize, u8)], text: &str) -> Result<bool, Fail> {
+    let mut bytes = least_in_version_4();
+    replace(&mut bytes, changes);
+    has_text(alloc, &bytes, text)
+}
+
 const IME_SET: &str = "C5 at byte 117 (0x75), node 2, IME set: a field is out of its range";
 
 const GREATEST: &str = "C5 at byte 137 (0x89), node 2, greatest of A: a field is out of its range";
@@ -339,6 +596,17 @@ const BASE: &str = "C5 at byte 18 (0x12), procedure 0, base: a field is out of i
 const KNOWN: &str =
     "C5 at byte 166 (0xa6), node 2, what is known of several parts together: a field is out of its range";
 
+const STEP: &str = "C5 at byte 21 (0x15), fact 0, step: a field is out of its range";
+
+const KEPT_ADDRESSES: &str =
+    "C4 at byte 34 (0x22), procedure 0, number of kept addresses: a count is over its limit";
+
+const TAG: &str =
+    "C5 at byte 164 (0xa4), node 2, origin and low bits of A: a field is out of its range";
+
+const SAID: &str =
+    "C5 at byte 184 (0xb8), node 2, what is known of several parts together and said of the whole program: a field is out of its range";
+
 /// A place as a person reads it.
 #[test]
 fn places_have_a_text(rt: HostRuntime) -> Result<(), Fail> {
@@ -346,10 +614,17 @@ fn places_have_a_text(rt: HostRuntime) -> Result<(), Fail> {
     assert!(rt; has_least_text(rt.alloc(), &[(136, 0x02)], GREATEST)?);
     assert!(rt; has_third_text(rt.alloc(), &[(18, 0x02)], BASE)?);
     assert!(rt; has_third_text(rt.alloc(), &[(166, 0x80)], KNOWN)?);
+    assert!(rt; has_fourth_text(rt.alloc(), &[(21, 0x00)], STEP)?);
+    assert!(rt; has_fourth_text(rt.alloc(), &[(34, 0x01)], KEPT_ADDRESSES)?);
+    assert!(rt; has_fourth_text(rt.alloc(), &[(164, 0x0C)], TAG)?);
+    assert!(rt; has_fourth_text(rt.alloc(), &[(185, 0x08)], SAID)?);
     Ok(())
 }
 
 const GATE: Step = (&[(128, 0x00)], (FIELD, NODE, Field::GateSet, 128, 129));
+
+/// The field behind the cells of the last node is read without memory in version 4 too.
+const BEHIND_FACTS: Step = (&[(186, 0x41)], (COUNT, NODE, Field::CellCount, 186, 187));
 
 /// Where memory is refused, nothing is said of bytes whose fields are right; a field that is wrong is found without
 /// memory.
@@ -358,4 +633,7 @@ fn is_found_or_wants_memory(rt: HostRuntime) {
     let found = fault_place(rt.alloc(), &least());
     assert!(rt; matches!(found, Sought::Certificate | Sought::NoMemory));
     assert!(rt; is_least_at(rt.alloc(), &GATE));
+    let found = fault_place(rt.alloc(), &least_in_version_4());
+    assert!(rt; matches!(found, Sought::Certificate | Sought::NoMemory));
+    assert!(rt; is_fourth_at(rt.alloc(), &BEHIND_FACTS));
 }

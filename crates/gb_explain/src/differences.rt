@@ -10,6 +10,7 @@ ghost use Rattle.gb_explain.specs.Noted.{IsNoted};
 use crate::difference::{KnownPart, StateDifference, StatePart};
 use crate::said::ShownSummary;
 use crate::together::{compared, is_test_alone};
+use gb_ops::machine::Kind;
 use gb_ops::op::Register;
 use gb_ops::registers::Registers;
 use gb_verify::{
@@ -76,6 +77,18 @@ fn byte_part(rules: Rules, number: usize) -> StatePart {
         Rules::Simple if number % 2 == 0 => StatePart::HighByte(word),
         Rules::Simple => StatePart::LowByte(word),
         Rules::Extended => StatePart::Item(number),
+    }
+}
+
+/// Whether each value that the low eight bits of MBC5's bank may have is one that is claimed.
+#[tactic(auto, unfolding(crate::specs::Opened::covers_low_bank))]
+fn is_low_bank_within(kind: Kind, left: &Ctl, claimed: &Ctl) -> bool
+    ensures { result ≡ Covering.covers_low_bank kind left.now claimed.now }
+{
+    match kind {
+        Kind::Mbc5 => claimed.bank_lo % 256 <= left.bank_lo % 256
+            && left.bank_hi % 256 <= claimed.bank_hi % 256,
+        _ => true,
     }
 }
 
@@ -171,10 +184,12 @@ impl Differences {
     }
 
     #[tactic(auto, unfolding(crate::specs::Opened::covers_controller))]
-    fn note_controller(&mut self, s: &Ctl, t: &Ctl)
-        ensures { IsNoted self.old.count self.new.count (Covering.covers_controller s.now t.now) }
+    fn note_controller(&mut self, kind: Kind, s: &Ctl, t: &Ctl)
+        ensures { IsNoted self.old.count self.new.count (Covering.covers_controller kind s.now t.now) }
     {
-        let is_bank = t.bank_lo <= s.bank_lo && s.bank_hi <= t.bank_hi;
+        let is_bank = is_low_bank_within(kind, s, t)
+            && t.bank_lo <= s.bank_lo
+            && s.bank_hi <= t.bank_hi;
         let banks = (
             KnownPart::Banks(s.bank_lo, s.bank_hi),
             KnownPart::Banks(t.bank_lo, t.bank_hi),
@@ -197,15 +212,15 @@ impl Differences {
     }
 
     #[tactic(auto, unfolding(crate::specs::Opened::covers_core))]
-    fn note_core(&mut self, s: &Core, t: &Core)
-        ensures { IsNoted self.old.count self.new.count (Covering.covers_core s.now t.now) }
+    fn note_core(&mut self, kind: Kind, s: &Core, t: &Core)
+        ensures { IsNoted self.old.count self.new.count (Covering.covers_core kind s.now t.now) }
     {
         self.note_registers(&s.registers, &t.registers);
         self.note_flags(&s.flags, &t.flags);
         self.note_val(StatePart::InterruptEnable, &s.ie, &t.ie);
         let imes = (KnownPart::Ime(s.ime), KnownPart::Ime(t.ime));
         self.note(covers_ime(&s.ime, &t.ime), StatePart::Ime, imes);
-        self.note_controller(&s.ctl, &t.ctl);
+        self.note_controller(kind, &s.ctl, &t.ctl);
         let bounds = (
             KnownPart::Count(usize::from(s.bound)),
             KnownPart::Count(usize::from(t.bound)),
@@ -274,7 +289,7 @@ impl Differences {
         ensures { IsNoted self.old.count self.new.count (covers program.now s.now t.now) }
     {
         let states = States::of(s);
-        self.note_core(s.core(), t.core());
+        self.note_core(program.kind, s.core(), t.core());
         self.note_relations(&s.core().registers, s.relations(), t.relations());
         self.note_items(rules, 0, s.items(), t.items());
         self.note_cells(program, &states, t.cells());

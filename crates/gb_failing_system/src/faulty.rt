@@ -120,6 +120,14 @@ pub const FAULTY: &[Scenario] = &[
         ..SHOW
     },
     Scenario {
+        about: "a certificate of version 4",
+        cert: Given::Read(Content::Fourth, ALL, Pace::Whole, StreamEnding::End),
+        written: ExpectedOutput::Text("CERTIFICATE C3\n"),
+        status: 2,
+        told: "game.cert: version 4",
+        ..VERIFY
+    },
+    Scenario {
         about: "two files on standard input",
         words: &[b"gulmyrek", b"verify", b"-", b"-"],
         written: NOTHING,

@@ -66,6 +66,7 @@ impl<'a> Contents<'a> {
             Content::Colored => self.colored,
             Content::Certificate => &self.longer[..self.longer.len().saturating_sub(1)],
             Content::Longer => self.longer,
+            Content::Fourth => b"GBBX\x04",
             Content::Markup => self.markup,
             Content::Garbage => &[0xFF, 0xFE, 0x00, 0x80],
             Content::Events => b"# four instructions\nrun x4\n",

@@ -28,6 +28,8 @@ pub enum Content {
     Certificate,
     /// The certificate with a byte left over.
     Longer,
+    /// The first bytes of a certificate of version 4.
+    Fourth,
     /// Symbols with markup in their names.
     Markup,
     /// Bytes that are no text.

@@ -1,6 +1,6 @@
 //! Whether a node holds a state already: the checker's test, with both lists of cells gone through once.
 
-use gb_verify::{Abs, Cell, Val, any, covers_core, covers_relations, covers_val};
+use gb_verify::{Abs, Cell, Program, Val, any, covers_core, covers_relations, covers_val};
 
 /// The cells from an address on; they are in order of address.
 fn from_address(address: u16, cells: &[Cell]) -> &[Cell] {
@@ -37,7 +37,7 @@ pub(crate) fn are_items_known(items: &[Val], others: &[Val]) -> bool {
 
 /// Whether a state stands for all that another one does.
 pub(crate) fn is_covered(other: &Abs, state: &Abs) -> bool {
-    covers_core(other.core(), state.core())
+    covers_core(Program::unknown().kind, other.core(), state.core())
         && are_items_known(state.items(), other.items())
         && are_cells_known(state.cells(), other.cells())
         && covers_relations(

@@ -11,9 +11,9 @@ use crate::types::{Run, RunNode, RunProcedure};
 use gb_ops::registers::Registers;
 use gb_spelling::{INTERRUPT_COUNT, vector_of};
 use gb_verify::{
-    Abs, Cell, Core, Ctl, Flg, ImeSet, KeptBanks, Origin, Pairs, Range, Rules, Val, cell_at,
-    covers_controller, covers_core, covers_ime, covers_relations, covers_val, left_by_dispatch,
-    may_come,
+    Abs, Cell, Core, Ctl, Flg, ImeSet, KeptBanks, Origin, Pairs, Program, Range, Rules, Val,
+    cell_at, covers_controller, covers_core, covers_ime, covers_relations, covers_val,
+    left_by_dispatch, may_come,
 };
 
 /// The bytes of a return word.
@@ -84,7 +84,7 @@ fn gives_back_all(exit: &Core) -> bool {
 
 /// Whether a core holds what is left of it by a handler that gives registers, flags and IE back.
 fn holds_core(core: &Core, exit: &Core) -> bool {
-    (exit.ctl.kept.are_all() || covers_controller(&exit.ctl, &core.ctl))
+    (exit.ctl.kept.are_all() || covers_controller(Program::unknown().kind, &exit.ctl, &core.ctl))
         && covers_ime(&exit.ime, &core.ime)
         && exit.bound <= core.bound
 }
@@ -247,7 +247,7 @@ impl<'a> Run<'a> {
             return false;
         };
         let state = &first.state;
-        covers_core(entered, state.core())
+        covers_core(Program::unknown().kind, entered, state.core())
             && are_items_known(state.items(), &return_word(node.key.address))
             && are_cells_known(state.cells(), node.state.cells())
             && covers_relations(

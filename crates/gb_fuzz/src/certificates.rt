@@ -4,7 +4,7 @@ ghost use Rattle.std.specs.Prelude.{◌≡◌, false};
 
 use crate::random::Random;
 use crate::tally::Tally;
-use gb_cert::{Cert, CertFault, encode};
+use gb_cert::{AnyCert, Cert, CertFault, encode};
 use gb_cert_place::place::{Sought, fault_place};
 use gb_printed::{Outcome, UpgradeTo, Upgraded, show_bytes, upgrade_bytes, verify_bytes};
 use gb_text::kept_bytes::KeptBytes;
@@ -49,7 +49,19 @@ fn fault_line(fault: CertFault) -> [u8; 15] {
     line
 }
 
-/// Whether `show` and `upgrade` write a fault's line, and its place lies in the file.
+/// Whether the place of a fault is told in whichever version the bytes are read: reading has that fault, and the place lies in
+/// the file.
+fn is_placed(alloc: Global, bytes: &[u8]) -> bool {
+    match (AnyCert::parse(alloc, bytes), fault_place(alloc, bytes)) {
+        (Ok(_), Sought::Certificate) => true,
+        (Err(fault), Sought::Fault(place)) => {
+            place.fault == fault && place.offset <= place.end && place.end <= bytes.len()
+        }
+        _ => false,
+    }
+}
+
+/// Whether `show` and `upgrade` write a fault's line, and its place is told.
 fn agree_on_fault(alloc: Global, bytes: &[u8], fault: CertFault) -> bool {
     let line = fault_line(fault);
     let (mut shown, mut upgraded) = (sink(), sink());
@@ -57,13 +69,7 @@ fn agree_on_fault(alloc: Global, bytes: &[u8], fault: CertFault) -> bool {
         && upgrade_bytes(alloc, bytes, UpgradeTo::Two, &mut upgraded) == Ok(Upgraded::Unreadable)
         && shown.kept() == line.as_slice()
         && upgraded.kept() == line.as_slice();
-    let is_placed = match fault_place(alloc, bytes) {
-        Sought::Fault(place) => {
-            place.fault == fault && place.offset <= place.end && place.end <= bytes.len()
-        }
-        Sought::Certificate | Sought::NoMemory => false,
-    };
-    is_told && is_placed
+    is_told && is_placed(alloc, bytes)
 }
 
 /// Whether a certificate's bytes in a version, or in version 3 as before, are read as so many nodes and procedures, and are

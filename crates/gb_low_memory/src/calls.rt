@@ -4,7 +4,8 @@ use bitflags::Flags;
 use clap::error::ErrorKind;
 use gb_bus::Memory;
 use gb_cert::{
-    Cert, CertFault, NodePlan, ProcedurePlan, Version, WriteFault, encode, write_certificate,
+    Cert, CertFault, CertificatePlan, NodePlan, ProcedurePlan, Version, WriteFault, encode,
+    write_certificate,
 };
 use gb_console::{
     Console, Ending, Keys, Outcome, UpgradeTo, Upgraded, upgrade_bytes, verify_bytes,
@@ -125,8 +126,14 @@ fn write(alloc: Global, files: &GivenFiles<'_>) -> CallAnswer {
 
 /// Whether plain values were written as the certificate.
 fn write_plain(alloc: Global, files: &GivenFiles<'_>) -> CallAnswer {
-    let region = files.cert.region();
-    match write_certificate(alloc, Version::One, region, files.procedures, files.nodes) {
+    let plan = CertificatePlan {
+        version: Version::One,
+        region: files.cert.region(),
+        facts: &[],
+        procedures: files.procedures,
+        nodes: files.nodes,
+    };
+    match write_certificate(alloc, &plan) {
         Ok(bytes) if bytes.as_slice() == files.cert.bytes() => CallAnswer::Right,
         Err(WriteFault::Memory) => CallAnswer::Refused,
         _ => CallAnswer::Other,

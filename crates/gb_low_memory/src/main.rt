@@ -41,6 +41,8 @@ const MAIN: ProcedurePlan<'static> = ProcedurePlan {
     base: 0xE000,
     need: 0,
     ranges: &[],
+    kept: &[],
+    mark: 0,
     exit: None,
 };
 

@@ -198,16 +198,15 @@ impl CellSearch {
         }
     }
 
-    /// Whether a POP at a spot may take what a node pushes, by their numbers of bytes.
-    fn may_take(run: &Run<'_>, pop: Spot, bytes: usize) -> bool {
-        for number in run.nodes_at(pop) {
+    /// How many bytes are on the stack where a spot is met.
+    fn depths_at(alloc: Global, run: &Run<'_>, spot: Spot) -> Result<BTreeSet<usize>, AllocError> {
+        let mut depths = BTreeSet::new(alloc);
+        for number in run.nodes_at(spot) {
             if let Some(node) = run.nodes.get(*number) {
-                if node.state.items().len() == bytes.saturating_add(2) {
-                    return true;
-                }
+                depths.insert(node.state.items().len())?;
             }
         }
-        false
+        Ok(depths)
     }
 
     /// Registers are popped: the question goes to what was pushed.
@@ -224,11 +223,12 @@ impl CellSearch {
             rest = without(&rest, *register);
         }
         self.ask(pop, rest)?;
+        // What a POP takes was pushed with two bytes fewer on the stack.
+        let depths = CellSearch::depths_at(self.alloc, run, pop)?;
         for node in &run.nodes {
             let push = node.spot();
-            if push.procedure != pop.procedure
-                || !CellSearch::may_take(run, pop, node.state.items().len())
-            {
+            let depth = node.state.items().len().saturating_add(2);
+            if push.procedure != pop.procedure || !depths.contains(&depth) {
                 continue;
             }
             let Some(Op::Push(from)) = op_at(run, push) else {

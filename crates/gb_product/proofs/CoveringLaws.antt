@@ -14,6 +14,7 @@ use Rattle.gb_domain.specs.declared.relations.Relations.{Relations}
 use Rattle.gb_domain.specs.declared.types.Cell.{Cell}
 use Rattle.gb_domain.specs.declared.types.Origin.{Origin}
 use Rattle.gb_domain.specs.declared.types.Val.{Val}
+use Rattle.gb_ops.specs.declared.machine.Kind.{Kind}
 use Rattle.gb_domain.specs.Meaning.{In as InStrided}
 use Rattle.gb_domain.specs.Summaries.{SummaryParts, Program}
 use Rattle.gb_domain.specs.Types.{AbsState}
@@ -21,7 +22,7 @@ use Rattle.gb_domain.specs.Values.{interval_of}
 use Rattle.gb_domain.proofs.ValueLaws.{Has-same, same-Has}
 use Rattle.gb_abs_effects.specs.Below.gb_vals.Meaning.{In}
 use Rattle.gb_abs_effects.specs.Below.gb_abs.Covering.{cell_at, covers_val, covers_core, covers_items, covers_parts, covers_cells as covers_cells_alone}
-use Rattle.gb_abs_effects.specs.Below.gb_abs.Meaning.{Activation, Holds, MeansParts, IsMemory}
+use Rattle.gb_abs_effects.specs.Below.gb_abs.Meaning.{Activation, Holds, HoldsLowBank, MeansParts, IsMemory}
 use Rattle.gb_abs_effects.specs.Below.gb_abs.Storage.{peek}
 use Rattle.gb_abs_effects.proofs.Below.gb_abs_laws.CoveringLaws.{Holds-covered, Holds-cell, MeansParts-covered}
 use Rattle.gb_abs_effects.proofs.CoreLaws.{In-from}
@@ -144,6 +145,8 @@ HoldsKnown-means s entry base x m =
             bank_most = m.parts.core.controller.bank_most;
             second_least = m.parts.core.controller.second_least;
             second_most = m.parts.core.controller.second_most;
+            low_least = λ e. (subst (λ k. HoldsLowBank k s.core.ctl x.storage.banks.bank) e m.parts.core.controller.low_bank).0;
+            low_most = λ e. (subst (λ k. HoldsLowBank k s.core.ctl x.storage.banks.bank) e m.parts.core.controller.low_bank).1;
           });
       bytes = λ a. let small = m.parts.memory.bytes a in omega arith;
       cells_hold = HoldCells-means s.cells entry x m.parts.cells;
@@ -162,12 +165,12 @@ MeansParts-without_cells : (s : AbsState) (entry : Activation) (base : ℕ) (x :
 MeansParts-without_cells s entry base x m =
     record { core = m.core; memory = m.memory; sp = m.sp; stack = m.stack; items = m.items; cells = tt }
 
-without_cells-covered : (s t : AbsState) → (covers_core s.core t.core && covers_items s.items t.items) ≡ true → covers_parts (without_cells s) (without_cells t) ≡ true
+without_cells-covered : (k : Kind) (s t : AbsState) → (covers_core k s.core t.core && covers_items s.items t.items) ≡ true → covers_parts k (without_cells s) (without_cells t) ≡ true
 unfolding covers_parts covers_cells_alone
-without_cells-covered s t h = and_true _ h
+without_cells-covered k s t h = and_true _ h
 
 record AreCovered (program : Program) (s t : AbsState) : Type 0 where
-  parts : (covers_core s.core t.core && covers_items s.items t.items) ≡ true
+  parts : (covers_core program.kind s.core t.core && covers_items s.items t.items) ≡ true
   cells : covers_cells program (values_in s) s.cells s.summary t.cells ≡ true
   relations : covers_relations s.core.registers s.relations t.relations ≡ true
   said : covers_summary program (values_in s) s.core.ctl s.cells s.summary t.cells t.summary ≡ true
@@ -189,7 +192,7 @@ Means-covered s t entry base x h m =
     let known = HoldsKnown-means s entry base x m in
     let state = HoldsState-known entry.program (values_in s) s.core.ctl s.cells s.summary x.processor (peek x.storage) x.storage.banks known in
     let parts =
-    MeansParts-covered (without_cells s) (without_cells t) entry base x (without_cells-covered s t all.parts)
+    MeansParts-covered entry.program.kind (without_cells s) (without_cells t) entry base x refl (without_cells-covered entry.program.kind s t all.parts)
     (MeansParts-without_cells s entry base x m.parts) in
     record {
       parts = record {

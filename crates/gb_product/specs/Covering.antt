@@ -69,7 +69,7 @@ values_in s = values_of s.core.registers s.relations.pairs
 -- in this program t stands for each state that s stands for
 unfoldable pub covers : Program → AbsState → AbsState → Bool
 covers program s t =
-    covers_core s.core t.core && covers_items s.items t.items
+    covers_core program.kind s.core t.core && covers_items s.items t.items
     && covers_cells program (values_in s) s.cells s.summary t.cells
     && covers_relations s.core.registers s.relations t.relations
     && covers_summary program (values_in s) s.core.ctl s.cells s.summary t.cells t.summary

@@ -108,7 +108,7 @@ fn covers_all(program: &Program<'_>, s: &Abs, t: &Abs) -> bool
     ensures { result ≡ Covering.covers program.now s.now t.now }
 {
     let states = States::of(s);
-    covers_core(s.core(), t.core())
+    covers_core(program.kind, s.core(), t.core())
         && covers_lists(program, &states, t)
         && covers_relations(&s.core().registers, s.relations(), t.relations())
         && covers_said(program, &states, t.cells(), t.summary())

@@ -4,8 +4,8 @@ use crate::demands::{entry_of, procedure_of};
 use crate::onward::state_of;
 use arrayvec::ArrayVec;
 use gb_draft::{
-    Abs, Cert, NodePlan, ProcedurePlan, Range, Version, WriteFault, exit_of, ranges_of,
-    write_certificate,
+    Abs, Cert, CertificatePlan, NodePlan, ProcedurePlan, Range, Version, WriteFault, exit_of,
+    ranges_of, write_certificate,
 };
 use gb_ops::machine::Region;
 use std::alloc::{AllocError, Global};
@@ -129,7 +129,7 @@ impl Changed {
         for standing in &standings {
             if let Some(node) = self.nodes.get(standing.node) {
                 nodes.push(NodePlan {
-                    procedure: standing.procedure,
+                    procedure: u16::from(standing.procedure),
                     address: node.address,
                     bank: node.bank,
                     state: &node.state,
@@ -142,13 +142,14 @@ impl Changed {
                 procedures.push(procedure.plan(places.as_slice()))?;
             }
         }
-        write_certificate(
-            self.alloc,
-            Version::Three,
-            self.region,
-            procedures.as_slice(),
-            nodes.as_slice(),
-        )
+        let plan = CertificatePlan {
+            version: Version::Three,
+            region: self.region,
+            facts: &[],
+            procedures: procedures.as_slice(),
+            nodes: nodes.as_slice(),
+        };
+        write_certificate(self.alloc, &plan)
     }
 
     /// The nodes that are left, in their order.
@@ -195,6 +196,8 @@ impl ChangedProcedure {
             base: self.base,
             need: self.need,
             ranges: self.ranges.as_slice(),
+            kept: &[],
+            mark: 0,
             exit: match &self.exit {
                 Some(exit) => Some(exit),
                 None => None,

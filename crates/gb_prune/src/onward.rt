@@ -80,7 +80,9 @@ fn first_standing(
     for number in from..after {
         if number < cert.nodes() {
             let node = cert.node(number);
-            if covers_core(state.core(), &node.core()) && covers(program, state, &node.state()) {
+            if covers_core(program.kind, state.core(), &node.core())
+                && covers(program, state, &node.state())
+            {
                 return Some(number);
             }
         }

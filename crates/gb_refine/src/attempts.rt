@@ -1,6 +1,7 @@
 //! The attempts at a cartridge: by the rules of version 3, and where these lead to no certificate, by those of versions 1
 //! and 2, by which states are told apart otherwise. So nothing is lost that these rules certify. Both are tried with few
-//! nodes first, since an edit that leads into very many is mostly one that doesn't help.
+//! nodes first, since an edit that leads into very many is mostly one that doesn't help; and with more while that helps
+//! against a failure.
 
 use crate::rounds::{Made, Refinement, SearchLimits, SearchProgress};
 use crate::shrink::shrink;
@@ -8,6 +9,9 @@ use gb_page::Finding;
 use gb_prune::limits::FEW_NODES;
 use gb_prune::{Rom, Rules};
 use std::alloc::{AllocError, Global};
+
+/// The most nodes of the attempts that come next, before as many as are allowed.
+pub(crate) const MORE_NODES: usize = 100_000;
 
 /// The attempts so far.
 #[derive(Drop)]
@@ -44,8 +48,11 @@ impl<'a> Attempts<'a> {
                 Ok(Attempted::Certificate(shrink(&refinement, bytes, progress)?))
             }
             Made::Findings(findings) => {
-                self.keep(rules, findings);
-                let is_limited = refinement.is_limited;
+                // What stood with fewer nodes was told as it was first met.
+                if self.findings.is_empty() || !refinement.stands_again() {
+                    self.keep(rules, findings);
+                }
+                let is_limited = refinement.is_limited && !refinement.is_hopeless;
                 self.keep_learnt(rules, refinement);
                 Ok(Attempted::Nothing { is_limited })
             }
@@ -113,16 +120,16 @@ impl<'a> Attempts<'a> {
 
     /// All attempts.
     fn make<P: SearchProgress>(mut self, progress: &mut P) -> Result<Made, AllocError> {
-        let nodes = self.limits.nodes;
-        let few = nodes.min(FEW_NODES);
-        match self.attempt_all(few, Limited::both(), progress)? {
-            Both::Certificate(bytes) => return Ok(Made::Certificate(bytes)),
-            Both::Nothing(limited) => {
-                if few < nodes {
-                    if let Both::Certificate(bytes) = self.attempt_all(nodes, limited, progress)? {
-                        return Ok(Made::Certificate(bytes));
-                    }
+        let mut limited = Limited::both();
+        let mut before = 0;
+        for most in [FEW_NODES, MORE_NODES, self.limits.nodes] {
+            let nodes = most.min(self.limits.nodes);
+            if nodes > before {
+                match self.attempt_all(nodes, limited, progress)? {
+                    Both::Certificate(bytes) => return Ok(Made::Certificate(bytes)),
+                    Both::Nothing(after) => limited = after,
                 }
+                before = nodes;
             }
         }
         let Attempts { findings, .. } = self;

@@ -1,5 +1,5 @@
 //! Idle edits: those that tell nothing apart. A round under them would end where the one before did, so the same run is asked
-//! again.
+//! again, and so it is where a failure stands that it went past.
 
 use crate::rounds::{Change, Lesson, Refinement};
 use gb_plans::EditedPlaces;
@@ -31,8 +31,8 @@ fn edits_of(
 }
 
 impl<'a> Refinement<'a> {
-    /// A lesson, and behind it what the run teaches further while the edits tell nothing apart: a round under them would end
-    /// where this one did.
+    /// A lesson, and after it what the run teaches further where another run would end where this one did: while the edits tell
+    /// nothing apart, and past failures that stand.
     pub(crate) fn past_idle(
         &mut self,
         run: &mut Run<'_>,
@@ -40,11 +40,14 @@ impl<'a> Refinement<'a> {
         first: Lesson,
     ) -> Result<Lesson, AllocError> {
         let mut lesson = first;
+        let mut end = outcome;
         for _ in 0..IDLE_EDITS {
-            if !self.is_idle(run, &lesson)? {
+            if let Some(next) = self.end_besides(run, &lesson)? {
+                end = next;
+            } else if !self.is_idle(run, &lesson)? {
                 break;
             }
-            lesson = self.learn_further(run, outcome, lesson)?;
+            lesson = self.learn_further(run, end, lesson)?;
         }
         Ok(lesson)
     }

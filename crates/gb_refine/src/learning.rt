@@ -15,6 +15,9 @@ use gb_prune::{
 use std::alloc::{AllocError, Global};
 use std::collections::BTreeSet;
 
+/// After how many runs that are the same, one after another, no more cells get the room of others.
+const SAME_RUNS: u32 = 2;
+
 /// One finding that nothing helps against, and nothing else.
 fn end_by(alloc: Global, finding: Finding) -> Result<Lesson, AllocError> {
     Ok(Lesson::End(alone(alloc, finding)?))
@@ -58,7 +61,11 @@ impl<'a> Refinement<'a> {
     }
 
     /// The failures of a run at places that were given up, in the order in which they were met, and one more.
-    fn standing(&self, run: &Run<'_>, last: Option<&Failure>) -> Result<Vec<Finding>, AllocError> {
+    pub(crate) fn standing(
+        &self,
+        run: &Run<'_>,
+        last: Option<&Failure>,
+    ) -> Result<Vec<Finding>, AllocError> {
         let mut findings = Vec::new(self.alloc);
         self.add_standing(run, last, &mut findings)?;
         findings.truncate(OBSTACLES);
@@ -374,7 +381,9 @@ impl<'a> Refinement<'a> {
     /// A failure is looked into only where no more can be known of cells and widening, but in a long run.
     fn learn_failed(&self, run: &Run<'_>, failure: &Failure) -> Result<Lesson, AllocError> {
         let mut news = self.news(run)?;
-        self.cells.add_waiting(&mut news.cells)?;
+        if self.same_runs < SAME_RUNS {
+            self.cells.add_waiting(&mut news.cells)?;
+        }
         if run.steps >= DEAR_STEPS || news.is_empty() {
             self.learn_at_once(run, failure, news)
         } else {
@@ -465,7 +474,7 @@ fn comes_from_many(finding: &InstructionFinding) -> bool {
 }
 
 /// Whether a failure means that there is no code.
-fn is_no_code(cause: Cause) -> bool {
+pub(crate) fn is_no_code(cause: Cause) -> bool {
     match cause {
         Cause::Area | Cause::Unreadable { .. } | Cause::UndefinedOpcode { .. } | Cause::Stop => {
             true

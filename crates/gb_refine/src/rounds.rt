@@ -1,5 +1,6 @@
 //! The rounds: a run, what is learnt from where it stopped, and a finer configuration.
 
+use crate::attempts::MORE_NODES;
 use crate::failures::tell;
 use crate::tracking::Cells;
 use gb_ops::machine::Region;
@@ -13,8 +14,7 @@ use gb_prune::{
     Cause, CodePoint, Configuration, Rom, Rules, Run, RunEnd, StackMisuse, TargetPlace, Wish,
 };
 use std::alloc::{AllocError, Global};
-use std::collections::{BTreeMap, BTreeSet, HashSet};
-use std::mem;
+use std::collections::{BTreeMap, BTreeSet};
 
 /// The bytes of a word.
 pub(crate) const WORD: usize = 2;
@@ -160,24 +160,34 @@ pub(crate) struct Refinement<'a> {
     pub(crate) tried: BTreeMap<Tried, u32>,
     /// Where failures stand, in the order in which they were met.
     pub(crate) given_up: Vec<TargetPlace>,
+    /// Where failures stood with fewer nodes.
+    pub(crate) stood: BTreeSet<TargetPlace>,
+    /// Whether the search has ended with a failure against which no more nodes help.
+    pub(crate) is_hopeless: bool,
+    /// The steps of all runs before the first failure stood.
+    pub(crate) stands_since: u64,
     /// How many plans were taken back.
     taken_back: u32,
     /// Whether one failure alone is to be mended, since it was too much to mend several.
     pub(crate) is_single: bool,
     /// Where a finer configuration made the run too large.
     pub(crate) too_large: BTreeSet<TargetPlace>,
-    /// Where a store goes, or SP is set, by a pointer from RAM that nothing bounds: with more nodes it would only walk further.
-    any_address: BTreeSet<TargetPlace>,
+    /// Where an access goes by a pointer from RAM that nothing bounds.
+    pub(crate) open: BTreeSet<TargetPlace>,
+    /// Where a store goes, or SP is set, by such a pointer: with more nodes it would only walk further.
+    pub(crate) any_address: BTreeSet<TargetPlace>,
     /// How many procedures began at each point of code in the last run.
     pub(crate) targets: BTreeMap<CodePoint, usize>,
     /// The nodes and the steps of the last run.
     pub(crate) nodes: usize,
     pub(crate) steps: u64,
+    /// How many runs before it were the same, one after another.
+    pub(crate) same_runs: u32,
     /// How many pairs of nodes the last run had at one address: a state that no node covers is sought among them value by
     /// value.
     pub(crate) pairs: u64,
     /// The steps of all runs.
-    spent: u64,
+    pub(crate) spent: u64,
     /// How many rounds were begun.
     rounds: u32,
     /// Whether the limit of nodes was met.
@@ -232,13 +242,18 @@ impl<'a> Refinement<'a> {
             circles: Vec::new(alloc),
             tried: BTreeMap::new(alloc),
             given_up: Vec::new(alloc),
+            stood: BTreeSet::new(alloc),
+            is_hopeless: false,
+            stands_since: 0,
             taken_back: 0,
             is_single: false,
             too_large: BTreeSet::new(alloc),
+            open: BTreeSet::new(alloc),
             any_address: BTreeSet::new(alloc),
             targets: BTreeMap::new(alloc),
             nodes: 0,
             steps: 0,
+            same_runs: 0,
             pairs: 0,
             spent: 0,
             rounds: 0,
@@ -271,6 +286,7 @@ impl<'a> Refinement<'a> {
         };
         progress.ran(run.nodes.len(), run.procedures.len());
         self.cells.learn(self.alloc, run)?;
+        self.count_same(run);
         self.nodes = run.nodes.len();
         self.steps = run.steps;
         self.pairs = pairs_of(run);
@@ -279,8 +295,18 @@ impl<'a> Refinement<'a> {
         if run.rules() == Rules::Extended {
             learn_touched(self.alloc, run, &mut self.configuration)?;
         }
-        let lesson = self.learn(run, outcome)?;
-        self.past_idle(run, outcome, lesson)
+        let first = self.learn(run, outcome)?;
+        let lesson = self.past_idle(run, outcome, first)?;
+        self.unless_standing(run, lesson)
+    }
+
+    /// Counts a run if it is as the one before: what was learnt in between tells nothing apart.
+    fn count_same(&mut self, run: &Run<'_>) {
+        self.same_runs = if self.nodes == run.nodes.len() && self.steps == run.steps {
+            self.same_runs.saturating_add(1)
+        } else {
+            0
+        };
     }
 
     /// Something is refined; what was before is kept.
@@ -348,6 +374,9 @@ impl<'a> Refinement<'a> {
             if let Cause::Recursion { .. } = finding.cause {
                 self.circles.push(place)?;
             }
+            if finding.is_any_address {
+                self.open.insert(place)?;
+            }
             if walks(&finding) {
                 self.any_address.insert(place)?;
             }
@@ -377,10 +406,21 @@ impl<'a> Refinement<'a> {
         }
     }
 
-    /// How many plans are taken back with another one tried in their place.
+    /// How many plans are taken back with another one tried in their place: fewer where a pointer from RAM is told apart through
+    /// all memory, and none where that, or a place that stood, takes very many nodes.
     fn most_taken_back(&self) -> u32 {
-        if self.limits.nodes <= FEW_NODES {
+        let (is_open, has_stood) = match &self.before {
+            Some(before) => {
+                let place = before.place;
+                (self.open.contains(&place), self.stood.contains(&place))
+            }
+            None => (false, false),
+        };
+        let nodes = self.limits.nodes;
+        if nodes <= FEW_NODES && !is_open {
             TAKEN_BACK
+        } else if nodes > FEW_NODES && is_open || nodes > MORE_NODES && has_stood {
+            0
         } else {
             TAKEN_BACK_OF_MANY
         }
@@ -413,6 +453,9 @@ impl<'a> Refinement<'a> {
             self.is_limited = true;
         }
         match place {
+            Some(place) if self.ends_too_large(place) => {
+                Ok(Some(self.end_standing(Finding::TooLarge(crowd))?))
+            }
             Some(place) if self.given_up.len() < OBSTACLES => {
                 if !self.is_single && !is_any_address {
                     self.too_large.insert(place)?;
@@ -422,18 +465,6 @@ impl<'a> Refinement<'a> {
             Some(place) => Ok(Some(self.end_at(place, Finding::TooLarge(crowd))?)),
             None => Ok(Some(self.end_standing(Finding::TooLarge(crowd))?)),
         }
-    }
-
-    /// The failures that stand are told, as they were first met, and another finding.
-    fn end_standing(&mut self, other: Finding) -> Result<Made, AllocError> {
-        let mut findings = Vec::new(self.alloc);
-        for place in &self.given_up {
-            if let Some(standing) = self.first.remove(place) {
-                tell(Finding::Instruction(standing), &mut findings)?;
-            }
-        }
-        findings.push(other)?;
-        Ok(Made::Findings(findings))
     }
 
     /// The failure at a place is told, as it was first met, and another finding.
@@ -506,13 +537,6 @@ impl<'a> Refinement<'a> {
         for place in &self.given_up {
             older.given_up.insert(*place)?;
         }
-        Ok(())
-    }
-
-    /// A failure at a place stands.
-    fn stand(&mut self, place: TargetPlace) -> Result<(), AllocError> {
-        self.given_up.push(place)?;
-        self.configuration.given_up.insert(place)?;
         Ok(())
     }
 
@@ -614,24 +638,13 @@ impl<'a> Refinement<'a> {
         ALL_STEPS.max(many).min(nodes.saturating_mul(STEPS_A_NODE))
     }
 
-    /// No failure stands any more, but where a pointer comes from RAM that can be any address.
-    fn reopen(&mut self) -> Result<(), AllocError> {
-        let before = mem::replace(&mut self.given_up, Vec::new(self.alloc));
-        self.configuration.given_up = HashSet::new(self.alloc);
-        for place in before {
-            if self.any_address.contains(&place) {
-                self.stand(place)?;
-            }
-        }
-        Ok(())
-    }
-
     /// More nodes are allowed from now on. What made a run too large may help then: no plan is taken back any more, and no failure
     /// stands that one was made for.
     pub(crate) fn allow(&mut self, nodes: usize) -> Result<(), AllocError> {
         self.limits.nodes = nodes;
         self.configuration.limit = nodes;
         self.configuration.taken_back = BTreeSet::new(self.alloc);
+        self.spent = 0;
         self.reopen()?;
         self.too_large = BTreeSet::new(self.alloc);
         self.tried = BTreeMap::new(self.alloc);
@@ -639,7 +652,6 @@ impl<'a> Refinement<'a> {
         self.taken_back = 0;
         self.is_single = false;
         self.is_limited = false;
-        self.spent = 0;
         Ok(())
     }
 

@@ -26,6 +26,8 @@ use Rattle.gb_calls.proofs.EnteringLaws.{Means-entered}
 use Rattle.gb_calls.proofs.RangeLaws.{IsKept-inside}
 use Rattle.gb_calls.proofs.ResumingLaws.{Means-resumed_alone}
 use Rattle.gb_successors.specs.Below.gb_abs_effects.Pairs.{known_word}
+use Rattle.gb_ops.specs.declared.machine.Kind.TheVariants as kind
+use Rattle.gb_rules.proofs.ProgramLaws.{no_controller}
 use Rattle.gb_rules.specs.Covered.{covered_at}
 use Rattle.gb_rules.specs.Procedures.{ranges_of, need_of, setting_of, program_of, exit_of}
 use Rattle.gb_rules.specs.Safety.{begun, IsAt, IsMeant, Calls, Returns}
@@ -102,7 +104,7 @@ IsAt-called rom cert procedure entry base t certificate simple program c p =
       program = refl;
       means = Means-covered (entered_by Simple (length c.node.state.items) c.state) c.node.state (begun rom cert t) t.processor.sp t
           (subst (λ q. covers q (entered_by Simple (length c.node.state.items) c.state) c.node.state ≡ true) program c.begins)
-          (Means-entered (length c.node.state.items) c.state entry base (begun rom cert t) (caller_means cert procedure entry base t c p) small);
+          (Means-entered (length c.node.state.items) c.state entry base (begun rom cert t) (sym program) (caller_means cert procedure entry base t c p) small);
       mark = inl c.mark;
       main = λ e. absurd (omega arith);
       based = based_setting cert c.node.procedure t.processor.sp certificate simple (λ e. absurd (omega arith));
@@ -190,11 +192,13 @@ back_is cert f procedure entry base s certificate simple w keeps =
     ap (λ n. word n (peek s.storage base)) high ∙ (ap (λ n. word (peek entry.entered.storage (base + 1)) n) low ∙ (ap (λ n. word (peek entry.entered.storage (n + 1)) (peek entry.entered.storage n)) e ∙ found))
 
 -- the callee has come back
-comes_back : (cert : Certificate) (f : Frame) (procedure : ℕ) (entry : Activation) (base : ℕ) (s t : MState) → IsCertificate cert → rules_of cert.version ≡ Simple → (w : IsWaiting cert f procedure entry base)
+comes_back : (rom : List ℕ) (cert : Certificate) (f : Frame) (procedure : ℕ) (entry : Activation) (base : ℕ) (s t : MState) → IsCertificate cert → rules_of cert.version ≡ Simple → entry.program ≡ program_of rom cert
+    → (w : IsWaiting cert f procedure entry base)
     → Keeps cert procedure base entry.entered s → (r : Returns cert procedure entry base s t) → Keeps cert procedure base s t
     → ComesBack cert.region (ranges_of cert procedure) w.calls.state r.exit f.entry f.base entry t
-comes_back cert f procedure entry base s t certificate simple w before r keeps =
+comes_back rom cert f procedure entry base s t certificate simple program w before r keeps =
     let c = w.calls in
+    let unknown : entry.program.kind ≡ kind.Rom = ap (λ p. p.kind) program ∙ no_controller rom cert certificate in
     let p = placed_call cert f.procedure f.entry f.base entry.entered certificate w.room c in
     let exit = exit_state cert procedure r.exit certificate r.is_exit in
     let all = Keeps-then cert procedure base entry.entered s t before keeps in
@@ -209,6 +213,8 @@ comes_back cert f procedure entry base s t certificate simple w before r keeps =
       exit_items = exit_items cert.region r.exit (subst (λ q. IsState q role.Exit cert.region r.exit) simple exit);
       exit_core = exit.core;
       exits = subst (λ n. Means r.exit entry (n + 2) t) w.base_is r.means;
+      caller_unknown = ap (λ p. p.kind) w.program ∙ unknown;
+      callee_unknown = unknown;
       callee = setting_of cert procedure;
       keeps = all_keep cert procedure simple;
       kept = λ b k. all.byte b (subst (λ n. IsKept (setting_of cert procedure) cert.region (ranges_of cert procedure) n b) (sym w.base_is) k);
@@ -223,14 +229,14 @@ is_resumed cert f procedure entry base exit w is =
     (w.calls.resumes exit (ap (exit_of cert) w.callee ∙ is))
 
 -- the caller's state behind the call is meant by a node
-goes_on : (cert : Certificate) (f : Frame) (procedure : ℕ) (entry : Activation) (base : ℕ) (s t : MState) → IsCertificate cert → rules_of cert.version ≡ Simple → (w : IsWaiting cert f procedure entry base)
+goes_on : (rom : List ℕ) (cert : Certificate) (f : Frame) (procedure : ℕ) (entry : Activation) (base : ℕ) (s t : MState) → IsCertificate cert → rules_of cert.version ≡ Simple → entry.program ≡ program_of rom cert → (w : IsWaiting cert f procedure entry base)
     → Keeps cert procedure base entry.entered s → Returns cert procedure entry base s t → Keeps cert procedure base s t
     → IsFoundAt cert f.procedure w.calls.back (length w.calls.state.items) f.entry f.base t
 unfolding resumed_alone
-goes_on cert f procedure entry base s t certificate simple w before r keeps =
+goes_on rom cert f procedure entry base s t certificate simple program w before r keeps =
     let ranges = ranges_of cert procedure in
     let after = resumed_alone ranges w.calls.state r.exit in
-    let back = comes_back cert f procedure entry base s t certificate simple w before r keeps in
+    let back = comes_back rom cert f procedure entry base s t certificate simple program w before r keeps in
     let means = Means-resumed_alone cert.region ranges w.calls.state r.exit f.entry f.base entry t back in
     found_at cert f.procedure w.calls.back after f.entry f.base t (is_resumed cert f procedure entry base r.exit w r.is_exit) means
 
@@ -238,7 +244,7 @@ IsMeant-returned : (rom : List ℕ) (cert : Certificate) (f : Frame) (procedure 
     → entry.program ≡ program_of rom cert → IsWaiting cert f procedure entry base → Keeps cert procedure base entry.entered s → Returns cert procedure entry base s t → Keeps cert procedure base s t
     → IsMeant rom cert f.procedure f.entry f.base t
 IsMeant-returned rom cert f procedure entry base s t certificate simple program w before r keeps =
-    let g = goes_on cert f procedure entry base s t certificate simple w before r keeps in
+    let g = goes_on rom cert f procedure entry base s t certificate simple program w before r keeps in
     let same = g.procedure_is in
     let room = w.room in
     let first = room.first in

@@ -1,5 +1,5 @@
 -- Where the machine stands at a node that passes: its successors are sound, one of them is there, and what it leads to is meant.
-use Rattle.std.proofs.Common.{◌≡◌, ℕ, ◌+◌, false, List, [], length, refl, arith, subst, sym}
+use Rattle.std.proofs.Common.{◌≡◌, ℕ, ◌+◌, false, List, [], length, refl, arith, ap, ◌∙◌, subst, sym}
 use Rattle.std.specs.List.{Contains}
 use Rattle.gb_ops.specs.Play.{MState}
 use Rattle.gb_successors.specs.Below.gb_abs.Meaning.{Activation}
@@ -44,6 +44,7 @@ pub record OnNode (rom : List ℕ) (cert : Certificate) (n : Node) (entry : Acti
   pub held : AreInRegion cert.region base (length n.state.items)
 
 pub stands : (rom : List ℕ) (cert : Certificate) (n : Node) (entry : Activation) (base : ℕ) (x : MState) (k : OnNode rom cert n entry base x) → Stands (setting_of cert n.procedure) rom cert.region k.passes.row n.address n.state entry base x
+unfolding setting_of
 stands rom cert n entry base x k = record {
   cartridge = k.cartridge;
   is_region = k.state.is_region;
@@ -56,6 +57,7 @@ stands rom cert n entry base x k = record {
   unset = k.state.unset;
   room = k.held;
   program = subst (λ p. IsProgram rom cert.region p) (sym k.program) (is_program rom cert k.certificate);
+  controlled = ap (λ p. p.kind) k.program ∙ no_controller rom cert k.certificate;
   apart = k.state.apart;
   means = k.means;
   based = k.based;

@@ -104,7 +104,7 @@ Leads-widely rom cert n entry base x k t extended is y leads related_if said mar
         let parts = or_parts _ _ returnable in
         inr (inr (inl (GoesBack-reached cert n.procedure t.state entry base y (not_main n.procedure parts.0) (record { parts = to.means; related = related; summary = said }) to.room to.goes (marked.clear tt) parts.1)))
     by (target.Main a) to known covered callable shallow returnable marked =
-        let means = to.means (begun rom cert y) in
+        let means = to.means (begun rom cert y) (sym k.program) in
         inr (inr (inr (IsMeant-anew rom cert a t.state y extended k.certificate (record { parts = means; related = related; summary = anew }) to.goes (AreBytes-core t.state.core (begun rom cert y) y f.core means.core) f.pairs to.room marked.harmless
         (subst (λ p. covered_at p Extended cert.nodes 0 a t.state ≡ true) k.program (not-false _ covered)))))
     by target.Unknown to known covered callable shallow returnable marked = absurd known

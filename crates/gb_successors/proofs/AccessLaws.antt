@@ -33,6 +33,7 @@ use Rattle.gb_product.specs.Below.gb_abs_effects.declared.reads.AbsRead.TheVaria
 use Rattle.gb_product.specs.Below.gb_abs_effects.declared.writes.AbsWrite.{AbsWrite}
 use Rattle.gb_product.specs.Below.gb_abs_effects.declared.writes.AbsWrite.TheVariants as write
 use Rattle.gb_product.specs.Below.gb_abs_effects.Sound.{HoldsRead, HoldsWrite, IsWrite}
+use Rattle.gb_code.specs.Below.gb_abs_memory.Windows.{known_kind}
 use Rattle.gb_code.specs.Below.gb_abs_memory.declared.store.Stored.{Stored}
 use Rattle.gb_code.specs.Below.gb_abs_memory.Access.{is_storable, may_be_closed, meets_closed_ram, may_copy_closed_ram, store_meets_closed_ram, is_limited, is_store_limited, stored_state, starts_oam_transfer}
 use Rattle.gb_code.specs.Below.gb_abs_memory.Sound.{IsRom, IsStored, view}
@@ -158,12 +159,12 @@ is_other z m a n region ranges s entry base x o b st k = choose (b == a) refl
     choose false e = e
 
 store_one :
-    (z : Setting) (rom : List ℕ) (region : Region) (ranges : List Range) (s : AbsState) (span : Span) (v : Val) (entry : Activation) (base : ℕ) (x : MState) (starting : Bool) (a n : ℕ) → AtWrite z region s entry base x
+    (z : Setting) (rom : List ℕ) (region : Region) (ranges : List Range) (s : AbsState) (span : Span) (v : Val) (entry : Activation) (base : ℕ) (x : MState) (starting : Bool) (a n : ℕ) → AtWrite z region s entry base x → entry.program.kind ≡ known_kind z.is_whole (kind_of rom)
     → is_storable z (kind_of rom) region ranges span ≡ true → store_meets_closed_ram rom s.core span v ≡ false → is_store_limited s.core span ≡ false
-    → IsIn span a → a < 65536 → Holds v entry n → n ≤ 255
+    → IsIn span a → a < 65536 → Holds v entry n → n ≤ 255 → v.hi ≤ 255
     → IsStored z (view rom x starting) a n region ranges s entry base x (record { state = stored_state z region (kind_of rom) span v s; starts = starts_oam_transfer span })
-store_one z rom region ranges s span v entry base x starting a n w storable ram limited i lt h le =
-    (IsSoundStore-stored_state z rom region ranges s span v storable ram limited).gives entry base x starting a n w.based w.means w.placed w.room w.is_region i lt h le
+store_one z rom region ranges s span v entry base x starting a n w kind storable ram limited i lt h le hi =
+    (IsSoundStore-stored_state z rom region ranges s span v storable ram limited).gives entry base x starting a n w.based kind w.means w.placed w.room w.is_region i lt h le hi
 
 or_false : (b c : Bool) → (b || c) ≡ false → (b ≡ false) × (c ≡ false)
 or_false true c h = cc
@@ -173,13 +174,13 @@ at_one : (a : ℕ) → IsIn (one a) a
 at_one a = record { first = omega arith; last = omega arith }
 
 Stores-byte :
-    (z : Setting) (rom : List ℕ) (region : Region) (ranges : List Range) (s : AbsState) (span : Span) (v : Val) (entry : Activation) (base : ℕ) (x : MState) (a n : ℕ) → AtWrite z region s entry base x
+    (z : Setting) (rom : List ℕ) (region : Region) (ranges : List Range) (s : AbsState) (span : Span) (v : Val) (entry : Activation) (base : ℕ) (x : MState) (a n : ℕ) → AtWrite z region s entry base x → entry.program.kind ≡ known_kind z.is_whole (kind_of rom)
     → is_storable z (kind_of rom) region ranges span ≡ true → store_meets_closed_ram rom s.core span v ≡ false → is_store_limited s.core span ≡ false
-    → IsIn span a → a < 65536 → Holds v entry n → n ≤ 255
+    → IsIn span a → a < 65536 → Holds v entry n → n ≤ 255 → v.hi ≤ 255
     → Stores z rom region ranges s (write.Byte span v) entry base x (view rom x false) (machine_write.Byte a n)
 unfolding written starts stored store_faults
-Stores-byte z rom region ranges s span v entry base x a n w storable ram limited i lt h le =
-    let st = store_one z rom region ranges s span v entry base x false a n w storable ram limited i lt h le in
+Stores-byte z rom region ranges s span v entry base x a n w kind storable ram limited i lt h le hi =
+    let st = store_one z rom region ranges s span v entry base x false a n w kind storable ram limited i lt h le hi in
     record {
       means = st.means;
       count = st.count;
@@ -197,6 +198,11 @@ Stores-byte z rom region ranges s span v entry base x a n w storable ram limited
       );
     }
 
+highest_byte : (v : Val) → IsVal v → v.hi ≤ 255
+highest_byte v is =
+    let hi = is.hi in
+    omega arith
+
 word_byte : (v : Val) (entry : Activation) (n : ℕ) → IsVal v → Holds v entry n → n ≤ 255
 word_byte v entry n is h =
     let most = h.most in
@@ -204,15 +210,15 @@ word_byte v entry n is h =
     omega arith
 
 Stores-word :
-    (z : Setting) (rom : List ℕ) (region : Region) (ranges : List Range) (s : AbsState) (a : ℕ) (low high : Val) (entry : Activation) (base : ℕ) (x : MState) (n : ℕ) → AtWrite z region s entry base x
+    (z : Setting) (rom : List ℕ) (region : Region) (ranges : List Range) (s : AbsState) (a : ℕ) (low high : Val) (entry : Activation) (base : ℕ) (x : MState) (n : ℕ) → AtWrite z region s entry base x → entry.program.kind ≡ known_kind z.is_whole (kind_of rom)
     → is_storable z (kind_of rom) region ranges (one a) ≡ true → is_storable z (kind_of rom) region ranges (one (behind a)) ≡ true
     → store_meets_closed_ram rom s.core (one a) low ≡ false → store_meets_closed_ram rom s.core (one (behind a)) high ≡ false
     → is_store_limited s.core (one a) ≡ false → is_store_limited s.core (one (behind a)) ≡ false
     → a < 65536 → IsVal low → IsVal high → Holds low entry (n % 256) → Holds high entry (n / 256)
     → Stores z rom region ranges s (write.Word a low high) entry base x (view rom x false) (machine_write.Word a n)
 unfolding written starts stored store_faults either_faults
-Stores-word z rom region ranges s a low high entry base x n w here there ram_here ram_there clear_here clear_there lt is_low is_high l h =
-    let first = store_one z rom region ranges s (one a) low entry base x false a (n % 256) w here ram_here clear_here (at_one a) lt l (word_byte low entry _ is_low l) in
+Stores-word z rom region ranges s a low high entry base x n w kind here there ram_here ram_there clear_here clear_there lt is_low is_high l h =
+    let first = store_one z rom region ranges s (one a) low entry base x false a (n % 256) w kind here ram_here clear_here (at_one a) lt l (word_byte low entry _ is_low l) (highest_byte low is_low) in
     let y : MState = record x { storage = (wrote (view rom x false) a (n % 256)).storage } in
     let middle : AbsState = stored_state z region (kind_of rom) (one a) low s in
     let begun : Bool = starts_oam_transfer (one a) in
@@ -225,10 +231,10 @@ Stores-word z rom region ranges s a low high entry base x n w here there ram_her
       is_region = w.is_region;
       based = w.based;
     })
-    there
+    kind there
     (store_meets_closed_ram-stored z rom region (kind_of rom) a low s high ∙ ram_there)
     (is_store_limited-stored z region (kind_of rom) (one a) (one (behind a)) low s ∙ clear_there)
-    (at_one (behind a)) (omega arith) h (word_byte high entry _ is_high h) in
+    (at_one (behind a)) (omega arith) h (word_byte high entry _ is_high h) (highest_byte high is_high) in
     record {
       means = subst (λ (m : View). MeansParts (stored_state z region (kind_of rom) (one (behind a)) high middle) entry base (record x { storage = (wrote m (behind a) (n / 256)).storage })) (sym seen) second.means;
       count = second.count ∙ first.count;
@@ -262,27 +268,27 @@ Stores-word z rom region ranges s a low high entry base x n w here there ram_her
     }
 
 pub Stores-write :
-    (z : Setting) (rom : List ℕ) (region : Region) (ranges : List Range) (s : AbsState) (entry : Activation) (base : ℕ) (x : MState) (sp : ℕ) (w : AbsWrite) (mw : Write) → AtWrite z region s entry base x
+    (z : Setting) (rom : List ℕ) (region : Region) (ranges : List Range) (s : AbsState) (entry : Activation) (base : ℕ) (x : MState) (sp : ℕ) (w : AbsWrite) (mw : Write) → AtWrite z region s entry base x → entry.program.kind ≡ known_kind z.is_whole (kind_of rom)
     → IsPlainWrite w → IsWrite w → HoldsWrite w entry sp mw → is_unstorable z (kind_of rom) region ranges w ≡ false → writes_closed_ram rom s.core w ≡ false → is_write_limited region s.core w ≡ false
     → Stores z rom region ranges s w entry base x (view rom x false) mw
 unfolding written starts stored store_faults is_unstorable writes_closed_ram is_write_limited
-Stores-write z rom region ranges s entry base x sp write.Nothing machine_write.Nothing at plain is h allowed ram limited =
+Stores-write z rom region ranges s entry base x sp write.Nothing machine_write.Nothing at kind plain is h allowed ram limited =
     record { means = at.means; count = refl; items = λ e. refl; starting = refl; faults = refl; kept = λ b k. refl; writes = λ b. refl; in_turn = λ b. refl }
-Stores-write z rom region ranges s entry base x sp (write.Byte span v) (machine_write.Byte a n) at plain is h allowed ram limited =
-    Stores-byte z rom region ranges s span v entry base x a n at (not-false _ allowed) ram limited h.0 (in_span span a h.0 plain) h.1 h.2
-Stores-write z rom region ranges s entry base x sp (write.Word a low high) (machine_write.Word b n) at plain is h allowed ram limited =
+Stores-write z rom region ranges s entry base x sp (write.Byte span v) (machine_write.Byte a n) at kind plain is h allowed ram limited =
+    Stores-byte z rom region ranges s span v entry base x a n at kind (not-false _ allowed) ram limited h.0 (in_span span a h.0 plain) h.1 h.2 (highest_byte v is)
+Stores-write z rom region ranges s entry base x sp (write.Word a low high) (machine_write.Word b n) at kind plain is h allowed ram limited =
     let stores = or_false _ _ allowed in
     let rams = or_false _ _ ram in
     let clear = or_false _ _ limited in
     subst (λ c. Stores z rom region ranges s (write.Word a low high) entry base x (view rom x false) (machine_write.Word c n)) (sym h.0)
-    (Stores-word z rom region ranges s a low high entry base x n at (not-false _ stores.0) (not-false _ stores.1) rams.0 rams.1 clear.0 clear.1 plain is.0 is.1 h.1 h.2)
-Stores-write z rom region ranges s entry base x sp (write.Push high low) mw at plain is h allowed ram limited = absurd plain
-Stores-write z rom region ranges s entry base x sp write.Nothing (machine_write.Byte a n) at plain is h allowed ram limited = absurd h
-Stores-write z rom region ranges s entry base x sp write.Nothing (machine_write.Word a n) at plain is h allowed ram limited = absurd h
-Stores-write z rom region ranges s entry base x sp write.Nothing (machine_write.Push a n) at plain is h allowed ram limited = absurd h
-Stores-write z rom region ranges s entry base x sp (write.Byte span v) machine_write.Nothing at plain is h allowed ram limited = absurd h
-Stores-write z rom region ranges s entry base x sp (write.Byte span v) (machine_write.Word a n) at plain is h allowed ram limited = absurd h
-Stores-write z rom region ranges s entry base x sp (write.Byte span v) (machine_write.Push a n) at plain is h allowed ram limited = absurd h
-Stores-write z rom region ranges s entry base x sp (write.Word a low high) machine_write.Nothing at plain is h allowed ram limited = absurd h
-Stores-write z rom region ranges s entry base x sp (write.Word a low high) (machine_write.Byte b n) at plain is h allowed ram limited = absurd h
-Stores-write z rom region ranges s entry base x sp (write.Word a low high) (machine_write.Push b n) at plain is h allowed ram limited = absurd h
+    (Stores-word z rom region ranges s a low high entry base x n at kind (not-false _ stores.0) (not-false _ stores.1) rams.0 rams.1 clear.0 clear.1 plain is.0 is.1 h.1 h.2)
+Stores-write z rom region ranges s entry base x sp (write.Push high low) mw at kind plain is h allowed ram limited = absurd plain
+Stores-write z rom region ranges s entry base x sp write.Nothing (machine_write.Byte a n) at kind plain is h allowed ram limited = absurd h
+Stores-write z rom region ranges s entry base x sp write.Nothing (machine_write.Word a n) at kind plain is h allowed ram limited = absurd h
+Stores-write z rom region ranges s entry base x sp write.Nothing (machine_write.Push a n) at kind plain is h allowed ram limited = absurd h
+Stores-write z rom region ranges s entry base x sp (write.Byte span v) machine_write.Nothing at kind plain is h allowed ram limited = absurd h
+Stores-write z rom region ranges s entry base x sp (write.Byte span v) (machine_write.Word a n) at kind plain is h allowed ram limited = absurd h
+Stores-write z rom region ranges s entry base x sp (write.Byte span v) (machine_write.Push a n) at kind plain is h allowed ram limited = absurd h
+Stores-write z rom region ranges s entry base x sp (write.Word a low high) machine_write.Nothing at kind plain is h allowed ram limited = absurd h
+Stores-write z rom region ranges s entry base x sp (write.Word a low high) (machine_write.Byte b n) at kind plain is h allowed ram limited = absurd h
+Stores-write z rom region ranges s entry base x sp (write.Word a low high) (machine_write.Push b n) at kind plain is h allowed ram limited = absurd h

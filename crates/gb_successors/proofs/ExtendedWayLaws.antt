@@ -108,7 +108,7 @@ LeadsWidely-narrowed z region (target.Call a) t p entry base y e are bytes relat
 LeadsWidely-narrowed z region target.Return t p entry base y e are bytes related h =
     record { means = MeansParts-narrowed z t p entry base y e are bytes related h.means; goes = h.goes; room = h.room; procedure = h.procedure }
 LeadsWidely-narrowed z region (target.Main a) t p entry base y e are bytes related h =
-    record { means = λ other. MeansParts-narrowed z t p other (region.last + 1) y e are bytes related (h.means other); goes = h.goes; room = h.room }
+    record { means = λ other same. MeansParts-narrowed z t p other (region.last + 1) y e are bytes related (h.means other same); goes = h.goes; room = h.room }
 LeadsWidely-narrowed z region target.Unknown t p entry base y e are bytes related h = tt
 LeadsWidely-narrowed z region target.Lost t p entry base y e are bytes related h = tt
 
@@ -127,7 +127,7 @@ related_narrowed z region w t p entry base y e are bytes related h followed = by
     by (target.At a) k f = of_core k.means.core
     by (target.Call a) k f = of_core k.means.core
     by target.Return k f = of_core k.means.core
-    by (target.Main a) k f = of_core (k.means entry).core
+    by (target.Main a) k f = of_core (k.means entry refl).core
     by target.Unknown k f = cc
     by target.Lost k f = cc
 
@@ -137,7 +137,7 @@ LeadsWidely-related z region (target.At a) r t entry base y h = record { means =
 LeadsWidely-related z region (target.Call a) r t entry base y h =
     record { means = MeansParts-related r t.state entry base y h.means; goes = h.goes; room = h.room; stack_set = h.stack_set; next = h.next; top = h.top; placed = h.placed }
 LeadsWidely-related z region target.Return r t entry base y h = record { means = MeansParts-related r t.state entry base y h.means; goes = h.goes; room = h.room; procedure = h.procedure }
-LeadsWidely-related z region (target.Main a) r t entry base y h = record { means = λ other. MeansParts-related r t.state other (region.last + 1) y (h.means other); goes = h.goes; room = h.room }
+LeadsWidely-related z region (target.Main a) r t entry base y h = record { means = λ other same. MeansParts-related r t.state other (region.last + 1) y (h.means other same); goes = h.goes; room = h.room }
 LeadsWidely-related z region target.Unknown r t entry base y h = tt
 LeadsWidely-related z region target.Lost r t entry base y h = tt
 

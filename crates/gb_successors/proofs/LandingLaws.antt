@@ -297,7 +297,7 @@ stores_still c k l still plain stores ram limited =
     let f = follows c (given_at c).low (given_at c).high k (given_by c k l) in
     let gate : IsSameGate c.state.core (effect_at c).core = record { ctl = (keeps_effect c k).ctl; bound = (keeps_effect c k).bound } in
     Stores-write c.stack.setting c.rom c.stack.region c.ranges (with_core c.state (effect_at c).core) c.entry c.base (acting c) (begun_at c).processor.sp (effect_at c).write (acted_at c).write
-    (AtWrite-still c k still f.core) plain (is_write_at c k) f.write stores
+    (AtWrite-still c k still f.core) k.stands.controlled plain (is_write_at c k) f.write stores
     (writes_same c.rom c.state.core (effect_at c).core (effect_at c).write gate ∙ ram)
     (write_limited_same c.stack.region c.state.core (effect_at c).core (effect_at c).write gate ∙ limited)
 

@@ -213,20 +213,20 @@ Landed-moved c m e quiet silent moved =
 
 -- in main, where that begins anew
 pub record LandedAnew (c : Situation) : Type 0 where
-  pub means : (entry : Activation) → MeansParts (parts_at c).state entry (c.stack.region.last + 1) (left_at c)
+  pub means : (entry : Activation) → entry.program ≡ c.entry.program → MeansParts (parts_at c).state entry (c.stack.region.last + 1) (left_at c)
   pub room : AreInRegion c.stack.region (c.stack.region.last + 1) (length (parts_at c).state.items)
   pub bytes : length (parts_at c).state.items ≡ bytes_moved (move_at c) (length c.state.items)
 
 pub Landed-anew :
     (c : Situation) (n : ℕ) → move_at c ≡ move.Restart n → (effect_at c).write ≡ write.Nothing → (acted_at c).write ≡ machine_write.Nothing
-    → ((entry : Activation) → IsMoved c.stack.region (move.Restart n) c.state (moved_at c (move.Restart n) (effect_at c).core) entry (c.stack.region.last + 1) (acting c)) → LandedAnew c
+    → ((entry : Activation) → entry.program ≡ c.entry.program → IsMoved c.stack.region (move.Restart n) c.state (moved_at c (move.Restart n) (effect_at c).core) entry (c.stack.region.last + 1) (acting c)) → LandedAnew c
 Landed-anew c n e quiet silent moved =
     let m : StackMove = move.Restart n in
     let state = quiet_is c m e quiet in
     let count : length (parts_at c).state.items ≡ length (moved_at c m (effect_at c).core).items = ap (λ (s : AbsState). length s.items) state ∙ ap length (ended_items false c.row.cycles (moved_at c m (effect_at c).core)) in
     record {
-      means = λ entry. subst (λ s. MeansParts s entry (c.stack.region.last + 1) (left_at c)) (sym state) (ended_quietly c (moved_at c m (effect_at c).core) entry (c.stack.region.last + 1) silent (moved entry).means);
-      room = subst (AreInRegion c.stack.region (c.stack.region.last + 1)) (sym count) (moved c.entry).room;
+      means = λ entry same. subst (λ s. MeansParts s entry (c.stack.region.last + 1) (left_at c)) (sym state) (ended_quietly c (moved_at c m (effect_at c).core) entry (c.stack.region.last + 1) silent (moved entry same).means);
+      room = subst (AreInRegion c.stack.region (c.stack.region.last + 1)) (sym count) (moved c.entry refl).room;
       bytes = subst (λ n. length (parts_at c).state.items ≡ bytes_moved n (length c.state.items)) (sym e)
-          (subst (λ n. n ≡ bytes_moved m (length c.state.items)) (sym count) (moved c.entry).bytes);
+          (subst (λ n. n ≡ bytes_moved m (length c.state.items)) (sym count) (moved c.entry refl).bytes);
     }

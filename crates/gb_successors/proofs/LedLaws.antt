@@ -179,8 +179,8 @@ lands_moved c (move.Restart n) k found l moves quiet e none =
       count = n;
       restarts = e;
       landed = Landed-anew c n e quiet s
-          (λ other.
-          set_anew c.stack n c.state (effect_at c).core c.entry other c.base c.machine (acted_at c).processor k.extended k.stands.means.parts (acting_core c k l)
+          (λ other same.
+          set_anew c.stack n c.state (effect_at c).core c.entry other c.base c.machine (acted_at c).processor same k.extended k.stands.means.parts (acting_core c k l)
           (subst (λ m. IsReady c.stack c.row.op m c.state c.base) e (ready_at c k)) k.stands.is_region (subst (λ m. IsMovedTo c.stack m c.machine.processor.sp (acted_at c).processor.sp) e (moves_at c k)));
       leaves = Leaves-quiet c k l s;
     })

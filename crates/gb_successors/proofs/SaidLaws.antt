@@ -58,7 +58,7 @@ LeadsWidely-said z region (target.Call a) m t entry base y h =
     record { means = MeansParts-said m t.state entry base y h.means; goes = h.goes; room = h.room; stack_set = h.stack_set; next = h.next; top = h.top; placed = h.placed }
 LeadsWidely-said z region target.Return m t entry base y h = record { means = MeansParts-said m t.state entry base y h.means; goes = h.goes; room = h.room; procedure = h.procedure }
 LeadsWidely-said z region (target.Main a) m t entry base y h =
-    record { means = λ other. MeansParts-said m t.state other (region.last + 1) y (h.means other); goes = h.goes; room = h.room }
+    record { means = λ other same. MeansParts-said m t.state other (region.last + 1) y (h.means other same); goes = h.goes; room = h.room }
 LeadsWidely-said z region target.Unknown m t entry base y h = tt
 LeadsWidely-said z region target.Lost m t entry base y h = tt
 

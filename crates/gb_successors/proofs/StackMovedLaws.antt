@@ -168,10 +168,10 @@ MeansCore-unset core entry x m =
       stopped = m.stopped;
     }
 
-MeansParts-forgotten : (s : AbsState) (entry other : Activation) (base top : ℕ) (x : MState) → MeansParts s entry base x → MeansParts (forgotten s) other top x
-MeansParts-forgotten s entry other base top x m =
+MeansParts-forgotten : (s : AbsState) (entry other : Activation) (base top : ℕ) (x : MState) → other.program ≡ entry.program → MeansParts s entry base x → MeansParts (forgotten s) other top x
+MeansParts-forgotten s entry other base top x same m =
     record {
-      core = MeansCore-unset (core_without_origins s.core) other x (MeansCore-without_origins s.core entry other x m.core);
+      core = MeansCore-unset (core_without_origins s.core) other x (MeansCore-without_origins s.core entry other x (ap (λ p. p.kind) (sym same)) m.core);
       memory = m.memory;
       sp = m.sp;
       stack = λ on. absurd (cc);
@@ -184,16 +184,16 @@ unfolding resized
 same_forgotten n s core = refl
 
 pub set_anew :
-    (k : Stack) (n : ℕ) (s : AbsState) (core : Core) (entry other : Activation) (base : ℕ) (x : MState) (p : Processor) → k.setting.rules ≡ Extended
+    (k : Stack) (n : ℕ) (s : AbsState) (core : Core) (entry other : Activation) (base : ℕ) (x : MState) (p : Processor) → other.program ≡ entry.program → k.setting.rules ≡ Extended
     → MeansParts s entry base x → MeansCore core entry (record x { processor = p }) → AreInRegion k.region (k.region.last + 1) n → IsRegion k.region
     → IsMovedTo k (move.Restart n) x.processor.sp p.sp
     → IsMoved k.region (move.Restart n) s (with_core (with_stack_moved k.setting (move.Restart n) s) (moved_core (move.Restart n) core)) other (k.region.last + 1) (record x { processor = p })
 unfolding with_stack_moved moved_core
-set_anew k n s core entry other base x p extended m c room is to =
+set_anew k n s core entry other base x p same extended m c room is to =
     let base_of_main : ℕ = k.region.last + 1 in
     let done =
-    set_below k.region n (forgotten s) (core_without_origins core) other base_of_main x p (MeansParts-forgotten s entry other base base_of_main x m)
-    (MeansCore-without_origins core entry other (record x { processor = p }) c) room is to.at in
+    set_below k.region n (forgotten s) (core_without_origins core) other base_of_main x p (MeansParts-forgotten s entry other base base_of_main x same m)
+    (MeansCore-without_origins core entry other (record x { processor = p }) (ap (λ p. p.kind) (sym same)) c) room is to.at in
     subst (λ (t : AbsState). IsMoved k.region (move.Restart n) s t other (k.region.last + 1) (record x { processor = p }))
     (sym (ap (λ (t : AbsState). with_core t (core_set (core_without_origins core))) (set-if_room k.setting n (begun_anew s) extended to.few) ∙ same_forgotten n s (core_set (core_without_origins core))))
     (record { means = done.means; room = done.room; bytes = done.bytes })

@@ -409,7 +409,7 @@ stores z rom region ranges row a s entry base x reads c k plain allowed f small 
     let acted_at = acts z rom region ranges row a s entry base x reads c k plain f small in
     let w : AbsWrite = (abs_effect z rom row a s c).write in
     let may = allowed_write z rom region ranges s base _ allowed in
-    Stores-write z rom region ranges (effect_state z rom row a s c) entry base (acted rom row x reads) (begun row x).processor.sp w (effect rom row x reads).write acted_at.at
+    Stores-write z rom region ranges (effect_state z rom row a s c) entry base (acted rom row x reads) (begun row x).processor.sp w (effect rom row x reads).write acted_at.at k.stands.controlled
     (plain_write z.is_whole row.op base (behind_row a row) (sp_halves z s) c (low_of z rom row s c) (high_of z rom row s c) plain k.operands k.core)
     (is_write z rom region ranges row a s entry base x reads c k) f.write
     (subst (λ v. is_unstorable z (kind_of rom) region ranges v ≡ false) (write_is z rom region row a s c) allowed.stores)

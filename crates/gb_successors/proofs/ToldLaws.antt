@@ -120,6 +120,7 @@ Stands-told z rom region row a (Some c) s entry base x told h =
       unset = h.unset;
       room = h.room;
       program = h.program;
+      controlled = h.controlled;
       apart = h.apart;
       means = record { parts = MeansParts-told region (cell_room z.rules) c s entry base x told h.placed h.room h.is_region h.means.parts; related = h.means.related; summary = HoldSummary-with_cells entry.program s.cells _ s.summary x.processor (peek x.storage) x.storage.banks (has_cells_with_cell (cell_room z.rules) c s.cells) h.means.summary };
       based = h.based;

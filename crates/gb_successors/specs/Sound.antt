@@ -39,6 +39,7 @@ use Rattle.gb_code.specs.Below.gb_abs_memory.Sound.{IsRom, AreVals}
 use Rattle.gb_product.specs.Below.gb_relations.Sound.{IsByteFree}
 use Rattle.gb_product.specs.declared.parts.Product.{Product}
 use Rattle.gb_product.specs.Meaning.{AreRelated, IsSummarized, Means}
+use Rattle.gb_code.specs.Below.gb_abs_memory.Windows.{known_kind}
 use Rattle.gb_successors.specs.declared.stacks.Stack.{Stack}
 use Rattle.gb_successors.specs.declared.stacks.StackMove.{StackMove}
 use Rattle.gb_successors.specs.declared.stacks.StackMove.TheVariants as move
@@ -209,9 +210,9 @@ pub record ReturnsBy (z : Setting) (region : Region) (t : Successor) (entry : Ac
   pub room : AreInRegion region base (length t.state.items)
   pub procedure : z.is_main ≡ false
 
--- main begins anew: nothing that is known is a copy of what stood somewhere at entry
-pub record BeginsAnew (region : Region) (a : ℕ) (t : Successor) (y : MState) : Type 0 where
-  pub means : (entry : Activation) → MeansParts t.state entry (region.last + 1) y
+-- main begins anew in its program: nothing that is known is a copy of what stood somewhere at entry
+pub record BeginsAnew (program : Program) (region : Region) (a : ℕ) (t : Successor) (y : MState) : Type 0 where
+  pub means : (entry : Activation) → entry.program ≡ program → MeansParts t.state entry (region.last + 1) y
   pub goes : y.processor.pc ≡ a
   pub room : AreInRegion region (region.last + 1) (length t.state.items)
 
@@ -220,7 +221,7 @@ abbrev pub LeadsWidely : Setting → Region → Target → Successor → Activat
 LeadsWidely z region (target.At a) t entry base y = StaysAt region a t entry base y
 LeadsWidely z region (target.Call a) t entry base y = CalledAt region a t entry base y
 LeadsWidely z region target.Return t entry base y = ReturnsBy z region t entry base y
-LeadsWidely z region (target.Main a) t entry base y = BeginsAnew region a t y
+LeadsWidely z region (target.Main a) t entry base y = BeginsAnew entry.program region a t y
 LeadsWidely z region _ t entry base y = Unit {0}
 
 abbrev pub LeadsTo : Rules → Setting → Region → Target → Successor → Activation → ℕ → MState → MState → Type 0
@@ -267,6 +268,7 @@ pub record Stands (z : Setting) (rom : List ℕ) (region : Region) (row : Row) (
   pub unset : s.core.stack_set ≡ false → s.items ≡ []
   pub room : AreInRegion region base (length s.items)
   pub program : IsProgram rom region entry.program
+  pub controlled : entry.program.kind ≡ known_kind z.is_whole (kind_of rom)
   pub apart : IsFree region s.summary
   pub means : Means s entry base x
   pub based : IsBase z base

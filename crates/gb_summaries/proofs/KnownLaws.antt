@@ -26,7 +26,7 @@ use Rattle.gb_domain.specs.declared.types.Ctl.{Ctl}
 use Rattle.gb_relations.specs.Below.gb_copies.declared.windows.BankWindow.{BankWindow}
 use Rattle.gb_relations.specs.Below.gb_copies.declared.windows.BankWindow.TheVariants.{First, Second}
 use Rattle.gb_relations.specs.Below.gb_copies.Windows.{register_of}
-use Rattle.gb_summaries.specs.Known.{pointer_bounds, low_bounds, window_bounds, AreWithin, WindowsAreWithin}
+use Rattle.gb_summaries.specs.Known.{pointer_bounds, window_bounds, AreWithin, WindowsAreWithin}
 
 -- ---- the same bytes
 
@@ -60,21 +60,7 @@ PointersIn-known v p h = record { least = λ q. known-least v p q h; most = λ q
 
 -- ---- the controller's windows
 
-low-least : (lo hi b : ℕ) → lo ≤ b → b ≤ hi → (low_bounds lo hi).first ≤ b % 256
-low-least lo hi b least most = choose (lo / 256 == hi / 256) refl
-  where
-    choose : (e : Bool) → (lo / 256 == hi / 256) ≡ e → (cond {A = Bounds} e (record { first = lo % 256; last = hi % 256 }) (record { first = 0; last = 255 })).first ≤ b % 256
-    choose true e = let same = eqb-true (lo / 256) (hi / 256) e in omega arith
-    choose false e = omega arith
-
-low-most : (lo hi b : ℕ) → lo ≤ b → b ≤ hi → b % 256 ≤ (low_bounds lo hi).last
-low-most lo hi b least most = choose (lo / 256 == hi / 256) refl
-  where
-    choose : (e : Bool) → (lo / 256 == hi / 256) ≡ e → b % 256 ≤ (cond {A = Bounds} e (record { first = lo % 256; last = hi % 256 }) (record { first = 0; last = 255 })).last
-    choose true e = let same = eqb-true (lo / 256) (hi / 256) e in omega arith
-    choose false e = omega arith
-
-window-least : (k : Kind) (c : Ctl) (r : Banks) (which : BankWindow) → AreWithin c r → (window_bounds k which c).first ≤ register_of k which r
+window-least : (k : Kind) (c : Ctl) (r : Banks) (which : BankWindow) → AreWithin k c r → (window_bounds k which c).first ≤ register_of k which r
 unfolding window_bounds register_of
 window-least kind.Rom c r First h = h.bank_least
 window-least kind.Rom c r Second h = h.second_least
@@ -82,10 +68,10 @@ window-least kind.Mbc1 c r First h = h.bank_least
 window-least kind.Mbc1 c r Second h = h.second_least
 window-least kind.Mbc3 c r First h = h.bank_least
 window-least kind.Mbc3 c r Second h = h.second_least
-window-least kind.Mbc5 c r First h = low-least c.bank_lo c.bank_hi r.bank h.bank_least h.bank_most
+window-least kind.Mbc5 c r First h = h.low_least refl
 window-least kind.Mbc5 c r Second h = let least = h.bank_least in omega arith
 
-window-most : (k : Kind) (c : Ctl) (r : Banks) (which : BankWindow) → AreWithin c r → register_of k which r ≤ (window_bounds k which c).last
+window-most : (k : Kind) (c : Ctl) (r : Banks) (which : BankWindow) → AreWithin k c r → register_of k which r ≤ (window_bounds k which c).last
 unfolding window_bounds register_of
 window-most kind.Rom c r First h = h.bank_most
 window-most kind.Rom c r Second h = h.second_most
@@ -93,7 +79,7 @@ window-most kind.Mbc1 c r First h = h.bank_most
 window-most kind.Mbc1 c r Second h = h.second_most
 window-most kind.Mbc3 c r First h = h.bank_most
 window-most kind.Mbc3 c r Second h = h.second_most
-window-most kind.Mbc5 c r First h = low-most c.bank_lo c.bank_hi r.bank h.bank_least h.bank_most
+window-most kind.Mbc5 c r First h = h.low_most refl
 window-most kind.Mbc5 c r Second h = let most = h.bank_most in omega arith
 
 pub windows_within : WindowsAreWithin

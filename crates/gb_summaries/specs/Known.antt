@@ -1,5 +1,5 @@
 -- What a state knows of its pointers, and of the controller's windows (abstract interpretation: the interval domain; MBCs; own).
-use Rattle.std.specs.Prelude.{ℕ, ◌+◌, ◌/◌, ◌%◌, ◌≤◌, ◌<◌, ◌==◌, if◌then◌else◌, List}
+use Rattle.std.specs.Prelude.{◌≡◌, ℕ, ◌+◌, ◌/◌, ◌%◌, ◌≤◌, ◌<◌, List}
 use Rattle.gb_ops.specs.declared.machine.Banks.{Banks}
 use Rattle.gb_ops.specs.declared.machine.Kind.{Kind}
 use Rattle.gb_ops.specs.declared.machine.Kind.TheVariants as kind
@@ -29,13 +29,9 @@ pointer_bounds v =
       high_c = record { first = 0xFF00 + v.registers.c.lo; last = 0xFF00 + v.registers.c.hi };
     }
 
--- the low eight bits of numbers from lo to hi: any where bit 8 isn't single
-abbrev pub low_bounds : ℕ → ℕ → Bounds
-low_bounds lo hi = if lo / 256 == hi / 256 then record { first = lo % 256; last = hi % 256 } else record { first = 0; last = 255 }
-
 -- the bounds of a window's register: MBC5 has its bank's low eight bits in one, and bit 8 in the other
 unfoldable pub window_bounds : Kind → BankWindow → Ctl → Bounds
-window_bounds kind.Mbc5 First c = low_bounds c.bank_lo c.bank_hi
+window_bounds kind.Mbc5 First c = record { first = c.bank_lo % 256; last = c.bank_hi % 256 }
 window_bounds kind.Mbc5 Second c = record { first = c.bank_lo / 256; last = c.bank_hi / 256 }
 window_bounds _ First c = record { first = c.bank_lo; last = c.bank_hi }
 window_bounds _ Second c = record { first = c.second_lo; last = c.second_hi }
@@ -47,16 +43,18 @@ pub record HoldWindows (k : Kind) (c : Ctl) (r : Banks) : Type 0 where
   pub least : (which : BankWindow) → (window_bounds k which c).first ≤ register_of k which r
   pub most : (which : BankWindow) → register_of k which r ≤ (window_bounds k which c).last
 
--- the controller's registers are within the bounds that a state gives them
-pub record AreWithin (c : Ctl) (r : Banks) : Type 0 where
+-- the controller's registers are within the bounds that a state gives them; the low eight bits of MBC5's bank have their own
+pub record AreWithin (k : Kind) (c : Ctl) (r : Banks) : Type 0 where
   pub bank_least : c.bank_lo ≤ r.bank
   pub bank_most : r.bank ≤ c.bank_hi
   pub second_least : c.second_lo ≤ r.second
   pub second_most : r.second ≤ c.second_hi
+  pub low_least : k ≡ kind.Mbc5 → c.bank_lo % 256 ≤ r.bank % 256
+  pub low_most : k ≡ kind.Mbc5 → r.bank % 256 ≤ c.bank_hi % 256
 
 -- so are the windows' registers then, whatever the controller
 abbrev pub WindowsAreWithin : Type 0
-WindowsAreWithin = (k : Kind) (c : Ctl) (r : Banks) → AreWithin c r → HoldWindows k c r
+WindowsAreWithin = (k : Kind) (c : Ctl) (r : Banks) → AreWithin k c r → HoldWindows k c r
 
 -- registers, the controller's, cells and a summary hold, and memory has bytes
 pub record HoldsKnown (program : Program) (v : Values) (c : Ctl) (cells : List Cell) (s : SummaryParts) (p : Processor) (memory : ℕ → ℕ) (banks : Banks) : Type 0 where

@@ -36,10 +36,10 @@ use Rattle.gb_summaries.specs.declared.returning.GivenBack.{GivenBack}
 
 -- a window's register: MBC5 has its bank's low eight bits in one, and bit 8 in the other
 unfoldable pub is_window_kept : Kind → BankWindow → KeptBanks → Bool
-is_window_kept kind.Mbc5 First k = k.bank
 is_window_kept kind.Mbc5 Second k = k.high_bank
-is_window_kept _ First k = k.bank && k.high_bank
 is_window_kept _ Second k = k.second
+is_window_kept kind.Rom First k = k.bank && k.high_bank
+is_window_kept _ First k = k.bank
 
 -- an address of the caller's: the routine writes elsewhere, or gives the byte back
 abbrev pub is_given : List ℕ → ℕ → Bool

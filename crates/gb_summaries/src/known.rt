@@ -33,30 +33,16 @@ pub fn pointer_bounds(values: &Values) -> Pointers<Bounds>
     }
 }
 
-/// The low eight bits of numbers from one to another: any where bit 8 isn't single.
-fn low_bounds(first: u16, last: u16) -> Bounds
-    ensures { result ≡ Known.low_bounds first last }
-{
-    if first / 256 == last / 256 {
-        Bounds {
-            first: first % 256,
-            last: last % 256,
-        }
-    } else {
-        Bounds {
-            first: 0,
-            last: 255,
-        }
-    }
-}
-
 /// The bounds of a window's register.
 #[tactic(auto, unfolding(crate::specs::Known::window_bounds))]
 pub fn window_bounds(kind: Kind, window: BankWindow, ctl: &Ctl) -> Bounds
     ensures { result ≡ Known.window_bounds kind window ctl.now }
 {
     match (kind, window) {
-        (Kind::Mbc5, BankWindow::First) => low_bounds(ctl.bank_lo, ctl.bank_hi),
+        (Kind::Mbc5, BankWindow::First) => Bounds {
+            first: ctl.bank_lo % 256,
+            last: ctl.bank_hi % 256,
+        },
         (Kind::Mbc5, BankWindow::Second) => Bounds {
             first: ctl.bank_lo / 256,
             last: ctl.bank_hi / 256,

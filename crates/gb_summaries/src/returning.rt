@@ -41,10 +41,10 @@ fn is_window_kept(kind: Kind, window: BankWindow, kept: KeptBanks) -> bool
     ensures { result ≡ Returning.is_window_kept kind window kept }
 {
     match (kind, window) {
-        (Kind::Mbc5, BankWindow::First) => kept.bank,
         (Kind::Mbc5, BankWindow::Second) => kept.high_bank,
-        (_, BankWindow::First) => kept.bank && kept.high_bank,
         (_, BankWindow::Second) => kept.second,
+        (Kind::Rom, BankWindow::First) => kept.bank && kept.high_bank,
+        (_, BankWindow::First) => kept.bank,
     }
 }
 

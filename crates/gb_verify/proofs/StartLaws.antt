@@ -1,6 +1,9 @@
 -- Power-up is one of the machine states that its abstract state means.
 use Rattle.std.proofs.Common.{◌≡◌, ℕ, ◌+◌, ◌≤◌, ◌<◌, Bool, true, false, not, ◌==◌, ◌⊎◌, inl, inr, List, [], ◌∷◌, Option, Some, None, length, get_or, slice_get, slice_index, refl, sym, ◌∙◌, ap, subst, arith}
 use Rattle.std.proofs.lemmas.Bool.{eqb-true, not-false, or_parts, and_parts}
+use Rattle.gb_ops.specs.declared.machine.Banks.{Banks}
+use Rattle.gb_ops.specs.declared.machine.Kind.{Kind}
+use Rattle.gb_ops.specs.declared.machine.Kind.TheVariants as kind
 use Rattle.gb_ops.specs.declared.machine.Region.{Region}
 use Rattle.std.specs.List.{All, Contains}
 use Rattle.std.proofs.lemmas.List.{get_or_past}
@@ -15,13 +18,15 @@ use Rattle.gb_ops.specs.Play.{MState, IsStart, processor_at_power_up}
 use Rattle.gb_rules.specs.Below.gb_domain.declared.types.Origin.{Origin}
 use Rattle.gb_rules.specs.Below.gb_domain.declared.types.Origin.TheVariants as origin
 use Rattle.gb_rules.specs.Below.gb_domain.declared.types.Val.{Val}
+use Rattle.gb_rules.specs.Below.gb_domain.declared.types.Ctl.{Ctl}
+use Rattle.gb_rules.specs.Below.gb_domain.declared.types.KeptBanks.{KeptBanks}
 use Rattle.gb_rules.specs.Below.gb_domain.Summaries.{Program}
 use Rattle.gb_rules.specs.Below.gb_domain.Types.{AbsState, ProcedureParts, Node}
 use Rattle.gb_rules.specs.Below.gb_domain.Values.{have_same}
 use Rattle.gb_rules.specs.Below.gb_states.Rules.{IsCertificate, is_of, have_entries}
 use Rattle.gb_rules.specs.Below.gb_domain.Certificate.{Certificate}
 use Rattle.gb_rules.specs.Below.gb_abs.Storage.{peek, peek_by}
-use Rattle.gb_rules.specs.Below.gb_abs.Meaning.{Activation, Holds, HoldsFlags, MeansCore, MeansParts, IsMemory, origin_value, ime_may_be}
+use Rattle.gb_rules.specs.Below.gb_abs.Meaning.{Activation, Holds, HoldsFlags, HoldsLowBank, KeepsBanks, MeansCore, MeansParts, IsMemory, origin_value, ime_may_be}
 use Rattle.gb_rules.specs.Below.gb_vals.Flags.{known}
 use Rattle.gb_rules.specs.Below.gb_vals.Meaning.{may_be}
 use Rattle.gb_rules.proofs.Below.gb_vals_laws.MeaningLaws.{known-may_be}
@@ -78,6 +83,20 @@ HoldsFlags-start rom cert s h =
       own = λ e. refl;
     }
 
+-- bank 1 is shown, whatever the controller
+low_at_start : (k : Kind) (c : Ctl) (bank : ℕ) → c.bank_lo ≡ 1 → c.bank_hi ≡ 1 → bank ≡ 1 → HoldsLowBank k c bank
+low_at_start kind.Rom c bank lo hi e = tt
+low_at_start kind.Mbc1 c bank lo hi e = tt
+low_at_start kind.Mbc3 c bank lo hi e = tt
+low_at_start kind.Mbc5 c bank lo hi e = (omega arith, omega arith)
+
+-- what stays is kept
+kept_at_start : (k : Kind) (kept : KeptBanks) (b : Banks) → KeepsBanks k kept b b
+kept_at_start kind.Rom kept b = record { bank = λ e. refl; second = λ e. refl; gate = λ e. refl; mode = λ e. refl; high_bank = λ e. refl }
+kept_at_start kind.Mbc1 kept b = record { bank = λ e. refl; second = λ e. refl; gate = λ e. refl; mode = λ e. refl; high_bank = λ e. tt }
+kept_at_start kind.Mbc3 kept b = record { bank = λ e. refl; second = λ e. refl; gate = λ e. refl; mode = λ e. refl; high_bank = λ e. tt }
+kept_at_start kind.Mbc5 kept b = record { bank = λ e. refl; second = λ e. refl; gate = λ e. refl; mode = λ e. refl; high_bank = λ e. refl }
+
 MeansCore-at_start : (rom : List ℕ) (cert : Certificate) (s : MState) → IsStart rom s → MeansCore (core_at_power_up rom cert.region) (begun rom cert s) s
 unfolding core_at_power_up processor_at_power_up
 MeansCore-at_start rom cert s h =
@@ -89,11 +108,12 @@ MeansCore-at_start rom cert s h =
       controller = record {
         bank_least = least s.storage.banks.bank 1 (ap (λ c. c.bank) h.banks);
         bank_most = most s.storage.banks.bank 1 (ap (λ c. c.bank) h.banks);
+        low_bank = low_at_start (begun rom cert s).program.kind (core_at_power_up rom cert.region).ctl s.storage.banks.bank refl refl (ap (λ c. c.bank) h.banks);
         second_least = least s.storage.banks.second 0 (ap (λ c. c.second) h.banks);
         second_most = most s.storage.banks.second 0 (ap (λ c. c.second) h.banks);
         gate = ap (λ c. may_be (known false) c.gate) h.banks;
         mode = ap (λ c. may_be (known false) c.mode) h.banks;
-        kept = record { bank = λ e. refl; second = λ e. refl; gate = λ e. refl; mode = λ e. refl; high_bank = λ e. refl };
+        kept = kept_at_start (begun rom cert s).program.kind _ s.storage.banks;
       };
       count = most s.storage.count 0 h.count;
       locked = ap (λ p. p.locked) h.processor;

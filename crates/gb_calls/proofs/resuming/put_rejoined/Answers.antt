@@ -10,7 +10,7 @@ returns-then-are_too_many-clause-exact c =
     let x = c.args.exit.now in
     let kept : c.kept_by-kept.result ≡ kept_by c.args.ranges.now s.relations.byte x.core =
     rw (c.relations.ensures, c.core.ensures) at c.kept_by-kept.ensures in
-    let core : c.core_back-core.result ≡ core_back s.core x.core = rw (c.core-2.ensures, c.core-3.ensures) at c.core_back-core.ensures in
+    let core : c.core_back-core.result ≡ core_back c.args.program.now.kind s.core x.core = rw (c.known_kind.ensures, c.core-2.ensures, c.core-3.ensures) at c.core_back-core.ensures in
     let relations : c.returned-relations.result ≡ returned c.kept_by-kept.result s.relations x.relations =
     rw (c.relations-2.ensures, c.relations-3.ensures) at c.returned-relations.ensures.exact in
     too_deep c.args.program.now c.args.count c.args.ranges.now s x c.kept_by-kept.result c.core_back-core.result c.returned-relations.result

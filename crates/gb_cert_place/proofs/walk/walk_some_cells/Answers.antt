@@ -1,36 +1,36 @@
 use Rattle.std.proofs.Common.{refl}
 use Rattle.gb_fields.specs.Format.{several}
 use Rattle.gb_domain.specs.Rules.{after_cell}
-use Rattle.gb_states.specs.Reading.{cell_at}
+use Rattle.gb_states.specs.Forms.{cell_by}
 use Rattle.gb_cert_place.specs.declared.block.Block.TheVariants as block
 use Rattle.gb_cert_place.specs.Standing.{NonePassed, Of, AmongCells, AtCell}
-use Rattle.gb_cert_place.proofs.FieldsAreLocal.{IsLocal-cell}
+use Rattle.gb_cert_place.proofs.WholeFieldsAreLocal.{IsLocal-cell_by}
 use Rattle.gb_cert_place.proofs.BlockLaws.{no_cell, stopped-cell}
 use Rattle.gb_cert_place.proofs.WalkLaws.{leads_start, leads_on, leads_end, leads_done}
 use Rattle.gb_cert_place.proofs.StandingLaws.{stops_in_front, passed_on}
 use Rattle.gb_cert_place.proofs.walk.walk_some_cells.Goals as goal
 
 pub stopped-requires : goal.stopped-requires
-stopped-requires c = no_cell c.args.rules c.loop-index.index c.args.region c.loop-index.least c.loop-index.rest.now c.in-Err.fault c.in-Err.ensures
+stopped-requires c = no_cell c.args.form c.loop-index.index c.args.region c.loop-index.least c.loop-index.rest.now c.in-Err.fault c.in-Err.ensures
 
 pub returns-in-Err-clause-reads : goal.returns-in-Err-clause-reads
 returns-in-Err-clause-reads c =
-    leads_end (cell_at c.args.rules c.args.region) after_cell (several (cell_at c.args.rules c.args.region) after_cell 0 c.args.count) c.args.bytes.now c.loop-index.least c.args.count c.loop-index.index c.loop-index.rest.now c.stopped.result c.loop-index-test.true
-    (stopped-cell c.args.rules c.loop-index.index c.args.region c.loop-index.least c.loop-index.rest.now c.stopped.result c.stopped.ensures.place) c.loop-index.invariant.0
+    leads_end (cell_by c.args.form c.args.region) after_cell (several (cell_by c.args.form c.args.region) after_cell 0 c.args.count) c.args.bytes.now c.loop-index.least c.args.count c.loop-index.index c.loop-index.rest.now c.stopped.result c.loop-index-test.true
+    (stopped-cell c.args.form c.loop-index.index c.args.region c.loop-index.least c.loop-index.rest.now c.stopped.result c.stopped.ensures.place) c.loop-index.invariant.0
 
 pub loop-index-preserved : goal.loop-index-preserved
 loop-index-preserved c = (
-  leads_on (cell_at c.args.rules c.args.region) after_cell (IsLocal-cell c.args.rules c.args.region) (several (cell_at c.args.rules c.args.region) after_cell 0 c.args.count) c.args.bytes.now c.loop-index.least c.args.count c.loop-index.index c.loop-index.rest.now c.in-Ok.cell c.in-Ok.after.now c.loop-index-test.true c.in-Ok.ensures c.loop-index.invariant.0,
-  passed_on (cell_at c.args.rules c.args.region) after_cell 0 c.args.bytes.now c.loop-index.index c.loop-index.least c.loop-index.rest.now c.in-Ok.cell c.in-Ok.after.now c.in-Ok.ensures c.loop-index.invariant.1,
+  leads_on (cell_by c.args.form c.args.region) after_cell (IsLocal-cell_by c.args.form c.args.region) (several (cell_by c.args.form c.args.region) after_cell 0 c.args.count) c.args.bytes.now c.loop-index.least c.args.count c.loop-index.index c.loop-index.rest.now c.in-Ok.cell c.in-Ok.after.now c.loop-index-test.true c.in-Ok.ensures c.loop-index.invariant.0,
+  passed_on (cell_by c.args.form c.args.region) after_cell 0 c.args.bytes.now c.loop-index.index c.loop-index.least c.loop-index.rest.now c.in-Ok.cell c.in-Ok.after.now c.in-Ok.ensures c.loop-index.invariant.1,
 )
 
 pub returns-clause-reads : goal.returns-clause-reads
-returns-clause-reads c = leads_done (cell_at c.args.rules c.args.region) after_cell (several (cell_at c.args.rules c.args.region) after_cell 0 c.args.count) c.args.bytes.now c.loop-index.least c.args.count c.loop-index.index c.loop-index.rest.now c.loop-index-test.false c.loop-index.invariant.0
+returns-clause-reads c = leads_done (cell_by c.args.form c.args.region) after_cell (several (cell_by c.args.form c.args.region) after_cell 0 c.args.count) c.args.bytes.now c.loop-index.least c.args.count c.loop-index.index c.loop-index.rest.now c.loop-index-test.false c.loop-index.invariant.0
 
 pub returns-in-Err-clause-block : goal.returns-in-Err-clause-block
 returns-in-Err-clause-block c =
-    stops_in_front (Of c.args.part (AmongCells c.args.rules c.args.region c.args.count c.args.bytes.now)) c.args.part (block.Cell c.args.rules c.loop-index.index c.args.region c.loop-index.least) c.loop-index.rest.now c.stopped.result c.stopped.ensures.part c.stopped.ensures.block c.stopped.ensures.before c.stopped.ensures.place
+    stops_in_front (Of c.args.part (AmongCells c.args.form c.args.region c.args.count c.args.bytes.now)) c.args.part (block.Cell c.args.form c.loop-index.index c.args.region c.loop-index.least) c.loop-index.rest.now c.stopped.result c.stopped.ensures.part c.stopped.ensures.block c.stopped.ensures.before c.stopped.ensures.place
     (refl, AtCell c.loop-index-test.true c.loop-index.invariant.1)
 
 pub loop-index-init : goal.loop-index-init
-loop-index-init c = (leads_start (cell_at c.args.rules c.args.region) after_cell 0 c.args.count c.args.bytes.now, NonePassed)
+loop-index-init c = (leads_start (cell_by c.args.form c.args.region) after_cell 0 c.args.count c.args.bytes.now, NonePassed)

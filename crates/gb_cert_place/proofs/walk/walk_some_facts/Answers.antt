@@ -1,0 +1,35 @@
+use Rattle.gb_fields.specs.Format.{several}
+use Rattle.gb_states.specs.WholeReading.{fact_at}
+use Rattle.gb_cert_place.specs.declared.block.Block.TheVariants as block
+use Rattle.gb_cert_place.specs.declared.block.Part.TheVariants as part
+use Rattle.gb_cert_place.specs.Standing.{NonePassed, AmongFacts, AtFact}
+use Rattle.gb_cert_place.proofs.WholeFieldsAreLocal.{IsLocal-fact}
+use Rattle.gb_cert_place.proofs.BlockLaws.{no_fact, stopped-fact}
+use Rattle.gb_cert_place.proofs.WalkLaws.{leads_start, leads_on, leads_end, leads_done}
+use Rattle.gb_cert_place.proofs.StandingLaws.{stops_in_front, passed_on}
+use Rattle.gb_cert_place.proofs.walk.walk_some_facts.Goals as goal
+
+pub stopped-requires : goal.stopped-requires
+stopped-requires c = no_fact c.args.region c.loop-index.rest.now c.in-Err.fault c.in-Err.ensures
+
+pub returns-in-Err-clause-reads : goal.returns-in-Err-clause-reads
+returns-in-Err-clause-reads c =
+    leads_end (λ (s : Unit {0}). fact_at c.args.region) (λ f. tt) (several (λ (s : Unit {0}). fact_at c.args.region) (λ f. tt) tt c.args.count) c.args.bytes.now tt c.args.count c.loop-index.index c.loop-index.rest.now c.stopped.result c.loop-index-test.true
+    (stopped-fact c.args.region c.loop-index.rest.now c.stopped.result c.stopped.ensures.place) c.loop-index.invariant.0
+
+pub loop-index-preserved : goal.loop-index-preserved
+loop-index-preserved c = (
+  leads_on (λ (s : Unit {0}). fact_at c.args.region) (λ f. tt) (λ (s : Unit {0}). IsLocal-fact c.args.region) (several (λ (s : Unit {0}). fact_at c.args.region) (λ f. tt) tt c.args.count) c.args.bytes.now tt c.args.count c.loop-index.index c.loop-index.rest.now c.in-Ok._fact c.in-Ok.after.now c.loop-index-test.true c.in-Ok.ensures c.loop-index.invariant.0,
+  passed_on (λ (s : Unit {0}). fact_at c.args.region) (λ f. tt) tt c.args.bytes.now c.loop-index.index tt c.loop-index.rest.now c.in-Ok._fact c.in-Ok.after.now c.in-Ok.ensures c.loop-index.invariant.1,
+)
+
+pub returns-clause-reads : goal.returns-clause-reads
+returns-clause-reads c = leads_done (λ (s : Unit {0}). fact_at c.args.region) (λ f. tt) (several (λ (s : Unit {0}). fact_at c.args.region) (λ f. tt) tt c.args.count) c.args.bytes.now tt c.args.count c.loop-index.index c.loop-index.rest.now c.loop-index-test.false c.loop-index.invariant.0
+
+pub returns-in-Err-clause-block : goal.returns-in-Err-clause-block
+returns-in-Err-clause-block c =
+    stops_in_front (AmongFacts c.args.region c.args.count c.args.bytes.now) (part.Fact c.loop-index.index) (block.Fact c.args.region) c.loop-index.rest.now c.stopped.result c.stopped.ensures.part c.stopped.ensures.block c.stopped.ensures.before c.stopped.ensures.place
+    (AtFact c.loop-index-test.true c.loop-index.invariant.1)
+
+pub loop-index-init : goal.loop-index-init
+loop-index-init c = (leads_start (λ (s : Unit {0}). fact_at c.args.region) (λ f. tt) tt c.args.count c.args.bytes.now, NonePassed)
