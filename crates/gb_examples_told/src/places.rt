@@ -199,6 +199,17 @@ fn least_in_version_4() -> [u8; 187] {
     bytes
 }
 
+/// The bytes before a place.
+fn front(bytes: &[u8], end: usize) -> &[u8] {
+    bytes.get(..end).unwrap_or(&[])
+}
+
+/// Puts the bytes of a certificate from one place to before another one.
+fn put_part(bytes: &mut [u8], at: usize, whole: &[u8], from: usize, end: usize) {
+    let part = front(whole, end).get(from..).unwrap_or(&[]);
+    put(bytes, at, part);
+}
+
 const FACT: Part = Part::Fact(0);
 
 /// A's origin and its low bits.
@@ -358,15 +369,15 @@ const NAMED_STEPS: &[Step] = &[
 fn what_a_procedure_names_is_found(rt: HostRuntime) {
     let mut bytes = [0; 240];
     let node = least_in_version_4();
-    put(&mut bytes, 0, &node[..37]);
+    put_part(&mut bytes, 0, &node, 0, 37);
     put(&mut bytes, 37, &SECOND_IN_VERSION_4);
-    put(&mut bytes, 53, &node[43..87]);
+    put_part(&mut bytes, 53, &node, 43, 87);
     play(&rt, rt.alloc(), &mut bytes, NAMED_STEPS);
     // A file that ends behind the kept addresses.
     assert!(rt;
         is_at(
             rt.alloc(),
-            &bytes[..46],
+            front(&bytes, 46),
             &(CUT_SHORT, NAMED, Field::KeptCount, 46, 46)
         )
     );
@@ -386,13 +397,13 @@ const KEPT: &[Step] = &[
 fn what_a_procedure_names_counts_in_its_nodes(rt: HostRuntime) {
     let mut bytes = [0; 247];
     let fourth = least_in_version_4();
-    put(&mut bytes, 0, &fourth[..37]);
+    put_part(&mut bytes, 0, &fourth, 0, 37);
     put(&mut bytes, 9, &[0x02]);
     put(&mut bytes, 37, &SECOND_IN_VERSION_4);
     put(&mut bytes, 37, &[0x02]);
-    put(&mut bytes, 53, &fourth[43..87]);
+    put_part(&mut bytes, 53, &fourth, 43, 87);
     put(&mut bytes, 55, &[0x01]);
-    put(&mut bytes, 97, &fourth[37..]);
+    put_part(&mut bytes, 97, &fourth, 37, 187);
     put(&mut bytes, 197, &[0x01]);
     put(&mut bytes, 205, &[0x01]);
     put(&mut bytes, 224, &[0x0D]);
@@ -411,10 +422,10 @@ const ENTRIES: &[Step] = &[
 fn entries_out_of_order_are_found(rt: HostRuntime) {
     let mut bytes = [0; 211];
     let fourth = least_in_version_4();
-    put(&mut bytes, 0, &fourth[..37]);
+    put_part(&mut bytes, 0, &fourth, 0, 37);
     put(&mut bytes, 37, &[0x01]);
     put(&mut bytes, 49, &[0x02]);
-    put(&mut bytes, 61, &fourth[37..]);
+    put_part(&mut bytes, 61, &fourth, 37, 187);
     put(&mut bytes, 111, &[0x01, 0x00, 0x50, 0x01]);
     put(&mut bytes, 119, &[0x01]);
     put(&mut bytes, 161, &[0x02, 0x00, 0x01, 0x01]);
