@@ -53,7 +53,7 @@ fn read_facts(
     }
 }
 
-/// For each procedure of the head: where its bytes begin, and how many cells it keeps. Then the bytes behind the last one.
+/// Finds for each procedure where its bytes begin and how many addresses it keeps. Also gives the bytes after the last one.
 #[tactic(auto, unfolding(gb_states::specs::WholeReading::procedures_at))]
 fn place_procedures<'a>(
     alloc: Global,

@@ -213,7 +213,7 @@ pub(crate) fn units(rules: Rules, bytes: u16) -> u16
     }
 }
 
-/// Adds bytes of the stack behind the number of words, or in versions 3 and 4 of bytes, that they are.
+/// Adds how many words of the stack there are, or in versions 3 and 4 how many bytes, and then the bytes.
 fn put_items(version: Version, items: &[Val], out: &mut Vec<u8>) -> Result<(), AllocError>
     requires few { length items.now ≤ 255 }
     requires said { list_all (says version) items.now ≡ true }

@@ -76,7 +76,7 @@ fn put_fact(fact: &Fact, out: &mut Vec<u8>) -> Result<(), AllocError>
     put(&[fact.step, value.lo, value.hi, value.count], out)
 }
 
-/// Adds facts behind their count.
+/// Adds the number of facts, and then the facts.
 #[tactic(auto, unfolding(gb_states::specs::WholeSpelling::facts))]
 pub(crate) fn put_facts(facts: &[Fact], out: &mut Vec<u8>) -> Result<(), AllocError>
     requires { length facts.now ≤ fact_limit }
@@ -133,7 +133,7 @@ fn put_fill(fill: &Fill, out: &mut Vec<u8>) -> Result<(), AllocError>
     put(&[fill.lo, fill.hi], out)
 }
 
-/// Adds fills behind their count.
+/// Adds the number of fills, and then the fills.
 fn put_fills(fills: &[Fill], out: &mut Vec<u8>) -> Result<(), AllocError>
     requires { length fills.now ≤ fill_limit }
     ensures { OnOk result (out.new.items ≡ out.old.items ++ older.counted spelled.fill fills.now) }
@@ -261,7 +261,7 @@ pub(crate) fn put_told(
 
 // ---- what a procedure names
 
-/// Adds addresses to be kept behind their count.
+/// Adds the number of kept addresses, and then the addresses.
 #[tactic(auto, unfolding(gb_states::specs::WholeSpelling::kept_addresses))]
 pub(crate) fn put_kept_addresses(addresses: &[u16], out: &mut Vec<u8>) -> Result<(), AllocError>
     requires { length addresses.now ≤ kept_limit }

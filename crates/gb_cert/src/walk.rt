@@ -361,7 +361,7 @@ pub fn kept_of(counts: &[u8], number: u16) -> u8
     }
 }
 
-/// The key of the node at the start of the bytes, which comes after a node with the key `before`, and the bytes behind the node.
+/// Reads the node at the start of the bytes, which comes after a node with the key `before`: gives its key, and the bytes after it.
 #[tactic(auto, using(crate::proofs::FourthSkipping::skip_node))]
 pub fn skip_node<'a>(
     head: AnyHead,

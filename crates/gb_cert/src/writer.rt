@@ -229,7 +229,7 @@ fn put_procedure_number(version: Version, number: u16, out: &mut Vec<u8>) -> Res
     }
 }
 
-/// Adds what stands before the facts and the procedures.
+/// Adds the head, which comes before the facts and the procedures.
 #[tactic(auto, unfolding(gb_states::specs::WholeSpelling::head, crate::specs::Opened::node_limit))]
 fn put_head(plan: &CertificatePlan<'_>, out: &mut Vec<u8>) -> Result<(), AllocError>
     requires procedures { length plan.now.procedures.now ≤ procedure_limit_by (is_fourth plan.now.version) }

@@ -1,10 +1,10 @@
 //! Where in its file a certificate's fault is, and in which field: `fault_place` reads the bytes again,
-//! and says behind how many of them reading stops. Fewer say only that bytes are missing; these have
+//! and says after how many of them reading stops. Fewer say only that bytes are missing; these have
 //! the fault, whatever follows.
 //!
-//! Read specs/Stops.antt, specs/Standing.antt and specs/Places.antt first, then place; parts (readers by the
-//! version), block (runs of fields, and where in one of them reading stops), field (which fields stand in a
-//! block), walk (up to the block with the fault) and text (a place as a person reads it).
+//! Read specs/Stops.antt, specs/Standing.antt and specs/Places.antt first. Then read place, parts (a reader for
+//! each version), block (fields that follow one another, and where reading stops in them), field (the fields of
+//! a block), walk (up to the block with the fault) and text (a place as a person reads it).
 #![tactic(auto)]
 
 pub mod block;
