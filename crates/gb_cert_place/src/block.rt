@@ -5,7 +5,7 @@ ghost use Rattle.gb_fields.specs.Format.{Gives};
 ghost use Rattle.gb_cert_place.specs.Blocks.{read_block};
 ghost use Rattle.gb_cert_place.specs.Stops.{is_missing, StopsAt, Stopped};
 
-use crate::parts::{core_by, free_address_at, kept_room};
+use crate::parts::core_by;
 use gb_cert::CertFault;
 use gb_domain::types::Rules;
 use gb_fields::head::any_head_at;
@@ -17,7 +17,7 @@ use gb_states::form::{Form, cell_by, key_by, val_by};
 use gb_states::relations::relations_at;
 use gb_states::role::Role;
 use gb_states::states::{item_count_at, range_at};
-use gb_states::whole::fact_at;
+use gb_states::whole::{fact_at, free_address_at, kept_room};
 use gb_states::whole_states::told_at;
 
 /// A run of fields that is read by one rule, with what the rule asks of the fields before it.

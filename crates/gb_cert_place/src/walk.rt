@@ -18,7 +18,7 @@ ghost use Rattle.gb_cert_place.specs.Standing.{Of, AmongItems, InItems, InTold, 
 ghost use Rattle.gb_cert_place.specs.Stops.{Walks, Finds, StopsIn, parts_at};
 
 use crate::block::{Block, Part, Stop, stopped};
-use crate::parts::{core_by, free_address_at, kept_room, rules_in};
+use crate::parts::{core_by, rules_in};
 use arrayvec::ArrayVec;
 use gb_domain::types::Rules;
 use gb_fields::head::{AnyHead, any_head_at, any_rules_of};
@@ -30,7 +30,7 @@ use gb_states::form::{Form, cell_by, key_by, val_by};
 use gb_states::relations::relations_at;
 use gb_states::role::Role;
 use gb_states::states::{item_count_at, range_at};
-use gb_states::whole::fact_at;
+use gb_states::whole::{fact_at, free_address_at, kept_room};
 use gb_states::whole_states::{may_be_aside, told_at};
 
 /// How many addresses each procedure names to be kept: version 4 has at most so many procedures.

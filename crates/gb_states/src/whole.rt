@@ -464,11 +464,7 @@ pub fn summary_at(
 
 /// An address of RAM outside the region, from the least one on.
 #[tactic(auto, unfolding(crate::specs::WholeReading::free_address_at))]
-pub(crate) fn free_address_at(
-    region: Region,
-    least: u32,
-    bytes: &[u8],
-) -> Result<(u16, &[u8]), CertFault>
+pub fn free_address_at(region: Region, least: u32, bytes: &[u8]) -> Result<(u16, &[u8]), CertFault>
     ensures { Gives (λ x. (x.0, x.1.now)) result (free_address_at region least bytes.now) }
 {
     let (address, rest) = address_at(region, bytes)?;
@@ -500,7 +496,7 @@ fn some_kept(
 }
 
 /// The most addresses that main, or another procedure, names to be kept.
-fn kept_room(is_main: bool) -> u8
+pub fn kept_room(is_main: bool) -> u8
     ensures exact { result ≡ kept_room is_main }
     ensures few { result ≤ kept_limit }
 {

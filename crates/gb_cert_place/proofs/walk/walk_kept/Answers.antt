@@ -17,4 +17,4 @@ pub returns-in_err-end-in-Ok-clause-block : goal.returns-in_err-end-in-Ok-clause
 returns-in_err-end-in-Ok-clause-block c =
     let p = err_from_is_err_and c.from_residual.result c.from_residual.ensures.1 in
     rw (p.1, p.2) (stops_within_part c.args.part (AmongKept c.args.region c.in-Ok.count c.in-Ok.rest.now) (Of c.args.part (InKept c.args.is_main c.args.region c.args.bytes.now)) c.in_err-end-in-Ok.field-0.0
-    (λ b rest a. (refl, BehindKeptCount (subst (λ (n : ℕ). count_within n c.args.bytes.now ≡ Ok (c.in-Ok.count, c.in-Ok.rest.now)) c.kept_room.ensures c.in-Ok.ensures) a)) c.in_err-end-in-Ok.ensures.block)
+    (λ b rest a. (refl, BehindKeptCount (subst (λ (n : ℕ). count_within n c.args.bytes.now ≡ Ok (c.in-Ok.count, c.in-Ok.rest.now)) c.kept_room.ensures.exact c.in-Ok.ensures) a)) c.in_err-end-in-Ok.ensures.block)
