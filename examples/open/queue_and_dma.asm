@@ -1,4 +1,4 @@
-; As dma_copy_hl in habits, without the mask on the queue's addresses: the finding is at the store to VRAM.
+; As dma_copy_hl in habits, without the mask on the queue's addresses: the finding is where one is loaded.
 	.module queue_and_dma
 	.include "hardware.inc"
 	.area	_FIXED (ABS)

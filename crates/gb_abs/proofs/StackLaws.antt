@@ -306,10 +306,10 @@ MeansParts-pushed region s entry base x m i w means same set room r placed clear
 -- ---- a pop
 
 -- the youngest word stands on top, n bytes below it
-record AreTop (items : List Val) (n : ℕ) (i : Halves) (entry : Activation) (sp top : ℕ) (t : Storage) : Type 0 where
-  high : Holds i.high entry (peek t (sp + 1))
-  low : Holds i.low entry (peek t sp)
-  rest : AreItems (take n items) entry top t
+pub record AreTop (items : List Val) (n : ℕ) (i : Halves) (entry : Activation) (sp top : ℕ) (t : Storage) : Type 0 where
+  pub high : Holds i.high entry (peek t (sp + 1))
+  pub low : Holds i.low entry (peek t sp)
+  pub rest : AreItems (take n items) entry top t
 
 halves-same : (high low : Val) (i : Halves) → word_of (Some high) (Some low) ≡ Some i → (i.high ≡ high) × (i.low ≡ low)
 halves-same high low i h = (cc, cc)
@@ -346,6 +346,18 @@ is-last items i h = choose (nat_lt (length items) 2) refl h
         → cond b None (word_of (slice_get items (length items - 2)) (slice_get items (length items - 1))) ≡ Some i → IsLast items i
     choose true e k = cc
     choose false e k = record { some = grind (arith, nat_tests); is = k }
+
+-- the word that was pushed last stands where SP points
+pub AreTop-youngest :
+    (s : AbsState) (i : Halves) (entry : Activation) (sp top : ℕ) (t : Storage)
+    → youngest s ≡ Some i → sp + length s.items ≡ top → AreItems s.items entry top t → AreTop s.items (length s.items - 2) i entry sp top t
+unfolding youngest
+AreTop-youngest s i entry sp top t is stack h =
+    let last = is-last s.items i is in
+    let some = last.some in
+    let next : suc (length s.items - 2) ≡ length s.items - 1 = omega arith in
+    let bytes = subst (λ n. word_of (slice_get s.items (length s.items - 2)) (slice_get s.items n) ≡ Some i) (sym next) last.is in
+    are-top s.items (length s.items - 2) i entry sp top t bytes (omega arith) stack h
 
 -- of two bytes or more, the last two are a word
 pub youngest_is :
@@ -412,9 +424,7 @@ pops region s entry base p m i free means set is room r clear =
     let ram' = region_in_ram region (p.sp + 1) r above high in
     let near = region_not_closed m.storage region p.sp r clear low under in
     let far = region_not_closed m.storage region (p.sp + 1) r clear above high in
-    let next : suc (length s.items - 2) ≡ length s.items - 1 = omega arith in
-    let bytes = subst (λ n. word_of (slice_get s.items (length s.items - 2)) (slice_get s.items n) ≡ Some i) (sym next) last.is in
-    let top = are-top s.items (length s.items - 2) i entry p.sp base m.storage bytes (omega arith) stack means.items in
+    let top = AreTop-youngest s i entry p.sp base m.storage is stack means.items in
     let given = loaded-word m p.sp free word.second ram ram' near far in
     record {
       low = subst (λ (v : Loaded). Holds i.low entry v.low) (sym given) top.low;

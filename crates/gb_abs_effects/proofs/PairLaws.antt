@@ -390,7 +390,7 @@ MeansCore-with_stack_pair stack.Af s entry x w l h low high m =
     MeansCore-a s entry x w.high (flags_of_val w.low) h (flags_of l) high (HoldsFlags-popped w.low entry l low) m
 
 -- PUSH AF: F's byte is a copy of F where F is its own
-Holds-pushed : (f : Flg) (entry : Activation) (g : Flags) → HoldsFlags f entry g → Holds (flags_val f) entry (flags_byte g)
+pub Holds-pushed : (f : Flg) (entry : Activation) (g : Flags) → HoldsFlags f entry g → Holds (flags_val f) entry (flags_byte g)
 unfolding flags_val
 Holds-pushed f entry g h =
     let k : In (flags_val f) (flags_byte g) = flags_val_sound f (flags_val f) g refl (FlagsIn-from f entry g h) in

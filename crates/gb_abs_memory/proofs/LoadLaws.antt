@@ -124,10 +124,10 @@ access-faultless rom core entry x starting span a m i ram limited =
 -- ---- the byte that is read
 
 -- a read, by what the memory map has there
-abbrev answer : Mapped → View → ℕ → List ℕ → Reading
+abbrev pub answer : Mapped → View → ℕ → List ℕ → Reading
 answer k m a free = read_by (is_free_place (place_by k m a)) (byte_by k m a) free
 
-read_open : (m : View) (a : ℕ) (free : List ℕ) → is_closed m.storage a ≡ false → read_at m a free ≡ answer (mapped_at a) m a free
+pub read_open : (m : View) (a : ℕ) (free : List ℕ) → is_closed m.storage a ≡ false → read_at m a free ≡ answer (mapped_at a) m a free
 unfolding read_at is_free place_of byte_at
 read_open m a free h = rw h refl
 
@@ -154,7 +154,7 @@ ie_byte s entry base x m q =
     omega arith
 
 -- whatever is read is a byte
-read_byte :
+pub read_byte :
     (rom : List ℕ) (s : AbsState) (entry : Activation) (base : ℕ) (x : MState) (starting : Bool) (a : ℕ) (free : List ℕ) → IsRom rom → MeansParts s entry base x → IsVal s.core.ie
     → slice_index free 0 ≤ 255 → (answer (mapped_at a) (view rom x starting) a free).value ≤ 255
 unfolding peek
@@ -223,7 +223,7 @@ unfolding mapped_at
 ie_at a h = grind (arith, nat_tests)
 
 -- what is known of a byte stands for what is read
-Holds-val_at :
+pub Holds-val_at :
     (rom : List ℕ) (s : AbsState) (entry : Activation) (base : ℕ) (x : MState) (starting : Bool) (a : ℕ) (free : List ℕ) → IsRom rom → MeansParts s entry base x → IsVal s.core.ie
     → a < 65536 → slice_index free 0 ≤ 255 → Holds (val_at rom s a) entry (answer (mapped_at a) (view rom x starting) a free).value
 unfolding val_at
@@ -303,20 +303,20 @@ Holds-table rom bank a (suc more) k entry h = choose (nat_le k more) refl (λ le
         (joined-new (table rom bank a more) (rom_byte rom bank (a + suc more)) entry)
 
 -- an address of a table lies in the half where it begins
-record IsInTable (span : Span) (a : ℕ) : Type 0 where
-  half : nat_lt span.first 0x4000 ≡ nat_lt a 0x4000
-  first : nat_lt span.first 0x8000 ≡ true
-  here : nat_lt a 0x8000 ≡ true
-  below : a < 0x8000
+pub record IsInTable (span : Span) (a : ℕ) : Type 0 where
+  pub half : nat_lt span.first 0x4000 ≡ nat_lt a 0x4000
+  pub first : nat_lt span.first 0x8000 ≡ true
+  pub here : nat_lt a 0x8000 ≡ true
+  pub below : a < 0x8000
 
-in_table : (span : Span) (a : ℕ) → is_table span ≡ true → IsIn span a → IsInTable span a
+pub in_table : (span : Span) (a : ℕ) → is_table span ≡ true → IsIn span a → IsInTable span a
 unfolding is_table
 in_table span a h i =
     let low = i.first in
     let high = i.last in
     record { half = grind (arith, nat_tests); first = grind (arith, nat_tests); here = grind (arith, nat_tests); below = grind (arith, nat_tests) }
 
-known_bank-half : (rom : List ℕ) (c : Ctl) (span : Span) (a : ℕ) → IsInTable span a → known_bank rom c a ≡ known_bank rom c span.first
+pub known_bank-half : (rom : List ℕ) (c : Ctl) (span : Span) (a : ℕ) → IsInTable span a → known_bank rom c a ≡ known_bank rom c span.first
 unfolding known_bank
 known_bank-half rom c span a t = rw (t.half, t.first, t.here) refl
 

@@ -22,6 +22,7 @@ pub use windows::{ControllerRegister, Window};
 pub use gb_abs::covering::{
     cell_at, covers_controller, covers_core, covers_ime, covers_may, covers_origin, covers_val,
 };
+pub use gb_abs::located::item_at;
 pub use gb_abs::operations::{settle, with_value};
 pub use gb_abs::reason::Reason;
 pub use gb_abs::span::Span;

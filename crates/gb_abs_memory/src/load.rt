@@ -20,7 +20,7 @@ use gb_domain::types::{Abs, Core, Rules, Setting, Val};
 use gb_header::Rom;
 
 /// Where the byte at an address is kept: the echo of work RAM is the same byte.
-fn home_of(address: u16) -> u16
+pub fn home_of(address: u16) -> u16
     ensures { result ≡ Access.home_of address }
 {
     match address {
@@ -82,7 +82,7 @@ fn val_or_item(setting: Setting, rom: &Rom<'_>, core: &Core, state: &Abs, addres
 
 /// Whether these are at most 256 addresses of one half of ROM.
 #[tactic(auto, unfolding(crate::specs::Access::is_table))]
-fn is_table(span: Span) -> bool
+pub fn is_table(span: Span) -> bool
     ensures { result ≡ Access.is_table span }
 {
     span.first <= span.last

@@ -3,7 +3,6 @@ use Rattle.std.proofs.Common.{◌≡◌, ℕ, zero, suc, ◌+◌, ◌≤◌, ◌
 use Rattle.std.proofs.lemmas.List.{length-map, take-take, take_all, at_drop_more}
 use Rattle.std.specs.List.{AllByRecursion, filter}
 use Rattle.gb_domain.specs.declared.types.Cell.{Cell}
-use Rattle.gb_product.specs.Below.gb_abs.Origins.{cell_without_origin}
 use Rattle.gb_domain.specs.declared.types.Range.{Range}
 use Rattle.gb_calls.specs.Resuming.{is_in_ranges, is_out_of_ranges, inserted, merged, all_cells_back}
 
@@ -100,30 +99,30 @@ put-behind c xs place is many within few =
 
 -- ---- one after the other
 
--- those of a certificate's cells that pass a test, as no copies
-abbrev pub written : (Cell → Bool) → List Cell → List Cell
-written test xs = map cell_without_origin (filter test xs)
+-- those of an exit's cells that pass a test, as they are given back
+abbrev pub written : (Cell → Cell) → (Cell → Bool) → List Cell → List Cell
+written given test xs = map given (filter test xs)
 
-written-cons : (test : Cell → Bool) (x : Cell) (xs : List Cell) (b : Bool) → test x ≡ b
-    → written test (x ∷ xs) ≡ cond b (cell_without_origin x ∷ written test xs) (written test xs)
-written-cons test x xs true e = ap (λ b. map cell_without_origin (cond b (x ∷ filter test xs) (filter test xs))) e
-written-cons test x xs false e = ap (λ b. map cell_without_origin (cond b (x ∷ filter test xs) (filter test xs))) e
+written-cons : (given : Cell → Cell) (test : Cell → Bool) (x : Cell) (xs : List Cell) (b : Bool) → test x ≡ b
+    → written given test (x ∷ xs) ≡ cond b (given x ∷ written given test xs) (written given test xs)
+written-cons given test x xs true e = ap (λ b. map given (cond b (x ∷ filter test xs) (filter test xs))) e
+written-cons given test x xs false e = ap (λ b. map given (cond b (x ∷ filter test xs) (filter test xs))) e
 
 -- a cell that passes is put in its place
 pub merged-put :
-    (test : Cell → Bool) (from held : List Cell) (i : ℕ) (d : Cell) → i < length from → test (get_or from i d) ≡ true
-    → take 64 (merged (written test (drop (i + 1) from)) (take 64 (inserted (cell_without_origin (get_or from i d)) held)))
-    ≡ take 64 (merged (written test (drop i from)) held)
-merged-put test from held i d lt e =
-    take-merged 64 (written test (drop (i + 1) from)) (inserted (cell_without_origin (get_or from i d)) held)
-    ∙ ap (λ cs. take 64 (merged cs held)) (sym (at_drop_more (written test) from i d lt ∙ written-cons test (get_or from i d) (drop (i + 1) from) true e))
+    (given : Cell → Cell) (test : Cell → Bool) (from held : List Cell) (i : ℕ) (d : Cell) → i < length from → test (get_or from i d) ≡ true
+    → take 64 (merged (written given test (drop (i + 1) from)) (take 64 (inserted (given (get_or from i d)) held)))
+    ≡ take 64 (merged (written given test (drop i from)) held)
+merged-put given test from held i d lt e =
+    take-merged 64 (written given test (drop (i + 1) from)) (inserted (given (get_or from i d)) held)
+    ∙ ap (λ cs. take 64 (merged cs held)) (sym (at_drop_more (written given test) from i d lt ∙ written-cons given test (get_or from i d) (drop (i + 1) from) true e))
 
 -- another one is passed
 pub merged-passed :
-    (test : Cell → Bool) (from held : List Cell) (i : ℕ) (d : Cell) → i < length from → test (get_or from i d) ≡ false
-    → take 64 (merged (written test (drop (i + 1) from)) held) ≡ take 64 (merged (written test (drop i from)) held)
-merged-passed test from held i d lt e =
-    ap (λ cs. take 64 (merged cs held)) (sym (at_drop_more (written test) from i d lt ∙ written-cons test (get_or from i d) (drop (i + 1) from) false e))
+    (given : Cell → Cell) (test : Cell → Bool) (from held : List Cell) (i : ℕ) (d : Cell) → i < length from → test (get_or from i d) ≡ false
+    → take 64 (merged (written given test (drop (i + 1) from)) held) ≡ take 64 (merged (written given test (drop i from)) held)
+merged-passed given test from held i d lt e =
+    ap (λ cs. take 64 (merged cs held)) (sym (at_drop_more (written given test) from i d lt ∙ written-cons given test (get_or from i d) (drop (i + 1) from) false e))
 
 -- ---- fewer of them
 
@@ -154,9 +153,9 @@ length-merged (c ∷ cs) others =
     omega arith
 
 pub all_counted :
-    (ranges : List Range) (caller exit : List Cell)
-    → length (all_cells_back ranges caller exit) ≡ length (filter (is_out_of_ranges ranges) caller) + length (filter (is_in_ranges ranges) exit)
-all_counted ranges caller exit =
-    let all = length-merged (map cell_without_origin (filter (is_in_ranges ranges) exit)) (filter (is_out_of_ranges ranges) caller) in
-    let same = length-map (filter (is_in_ranges ranges) exit) cell_without_origin in
+    (given : Cell → Cell) (ranges : List Range) (caller exit : List Cell)
+    → length (all_cells_back given ranges caller exit) ≡ length (filter (is_out_of_ranges ranges) caller) + length (filter (is_in_ranges ranges) exit)
+all_counted given ranges caller exit =
+    let all = length-merged (map given (filter (is_in_ranges ranges) exit)) (filter (is_out_of_ranges ranges) caller) in
+    let same = length-map (filter (is_in_ranges ranges) exit) given in
     omega arith

@@ -1,7 +1,6 @@
 -- Of the cells that count where a callee returns none is lost, where a state holds all of them.
 use Rattle.std.proofs.Common.{◌≡◌, ℕ, ◌+◌, ◌≤◌, ◌==◌, Bool, true, false, nat_le, nat_lt, cond, List, [], ◌∷◌, map, length, take, Option, Some, None, refl, sym, ◌∙◌, ap, subst, arith}
-use Rattle.std.proofs.lemmas.Bool.{eqb-true}
-use Rattle.std.proofs.lemmas.Bool.Decides.{nat_tests}
+use Rattle.std.proofs.lemmas.Bool.{eqb-true, leb-true}
 use Rattle.std.proofs.lemmas.List.{take_all}
 use Rattle.std.specs.List.{filter, list_any}
 use Rattle.gb_domain.specs.declared.types.Cell.{Cell}
@@ -15,6 +14,7 @@ use Rattle.gb_product.specs.Below.gb_summaries.Below.gb_ram_bounds.Meaning.{HasC
 use Rattle.gb_product.specs.Below.gb_summaries.Below.gb_ram_bounds.Returned.{is_in_ranges as lies_in_ranges}
 use Rattle.gb_product.specs.Below.gb_summaries.Returning.{AreCellsBack}
 use Rattle.gb_calls.specs.Resuming.{is_address_in, is_in_ranges, is_out_of_ranges, inserted, merged, all_cells_back, cells_back, has_room}
+use Rattle.gb_calls.proofs.CellLaws.{all_counted}
 
 not_so : {X : Type 0} → true ≡ false → X
 not_so h = cc
@@ -76,14 +76,15 @@ none_passed p (c ∷ cells) a all h = choose (p c) refl h (none_passed p cells a
     choose true e g rest = let first = none_here c (filter p cells) a g in still_none c cells a first.0 (rest first.1)
     choose false e g rest = still_none c cells a (other e (c.address == a) refl) (rest g)
 
-pub none_uncopied : (cells : List Cell) (a : ℕ) → has_cell (map cell_without_origin cells) a ≡ false → has_cell cells a ≡ false
-none_uncopied [] a h = h
-none_uncopied (c ∷ cells) a h =
-    let first = none_here (cell_without_origin c) (map cell_without_origin cells) a h in
-    still_none c cells a first.0 (none_uncopied cells a first.1)
+-- a cell stays where it is
+none_given : (given : Cell → Cell) → ((c : Cell) → (given c).address ≡ c.address) → (cells : List Cell) (a : ℕ) → has_cell (map given cells) a ≡ false → has_cell cells a ≡ false
+none_given given same [] a h = h
+none_given given same (c ∷ cells) a h =
+    let first = none_here (given c) (map given cells) a h in
+    still_none c cells a (ap (λ n. n == a) (sym (same c)) ∙ first.0) (none_given given same cells a first.1)
 
 pub HasCellsOf-uncopied : (cells : List Cell) → HasCellsOf cells (map cell_without_origin cells)
-HasCellsOf-uncopied cells = record { gives = none_uncopied cells }
+HasCellsOf-uncopied cells = record { gives = none_given cell_without_origin (λ c. refl) cells }
 
 -- ---- where the callee returns
 
@@ -98,22 +99,28 @@ outside_at : (ranges : List Range) (a : ℕ) → lies_in_ranges ranges a ≡ fal
 outside_at ranges a h c e = ap (λ b. cond b false true) (ap (is_address_in ranges) (eqb-true c.address a e) ∙ (same_ranges ranges a ∙ h))
 
 none_back :
-    (ranges : List Range) (caller exit : List Cell) (a : ℕ) → has_cell (all_cells_back ranges caller exit) a ≡ false
+    (given : Cell → Cell) → ((c : Cell) → (given c).address ≡ c.address) → (ranges : List Range) (caller exit : List Cell) (a : ℕ)
+    → has_cell (all_cells_back given ranges caller exit) a ≡ false
     → (has_cell (filter (is_in_ranges ranges) exit) a ≡ false) × (has_cell (filter (is_out_of_ranges ranges) caller) a ≡ false)
-none_back ranges caller exit a h =
-    let both = none_merged (map cell_without_origin (filter (is_in_ranges ranges) exit)) (filter (is_out_of_ranges ranges) caller) a h in
-    (none_uncopied (filter (is_in_ranges ranges) exit) a both.0, both.1)
+none_back given same ranges caller exit a h =
+    let both = none_merged (map given (filter (is_in_ranges ranges) exit)) (filter (is_out_of_ranges ranges) caller) a h in
+    (none_given given same (filter (is_in_ranges ranges) exit) a both.0, both.1)
 
-all_back : (ranges : List Range) (caller exit : List Cell) → has_room ranges caller exit ≡ true → cells_back (cell_room Extended) ranges caller exit ≡ all_cells_back ranges caller exit
+all_back :
+    (given : Cell → Cell) (ranges : List Range) (caller exit : List Cell) → has_room ranges caller exit ≡ true
+    → cells_back (cell_room Extended) given ranges caller exit ≡ all_cells_back given ranges caller exit
 unfolding cells_back cell_room
-all_back ranges caller exit h = take_all 64 (all_cells_back ranges caller exit) (grind (arith, nat_tests))
+all_back given ranges caller exit h =
+    let count = all_counted given ranges caller exit in
+    let few : length (filter (is_out_of_ranges ranges) caller) + length (filter (is_in_ranges ranges) exit) ≤ 64 = leb-true _ 64 h in
+    take_all 64 (all_cells_back given ranges caller exit) (omega arith)
 
 pub cells_are_back :
-    (ranges : List Range) (caller exit : List Cell) → has_room ranges caller exit ≡ true
-    → AreCellsBack ranges exit caller (cells_back (cell_room Extended) ranges caller exit)
-cells_are_back ranges caller exit room =
-    subst (AreCellsBack ranges exit caller) (sym (all_back ranges caller exit room))
+    (given : Cell → Cell) → ((c : Cell) → (given c).address ≡ c.address) → (ranges : List Range) (caller exit : List Cell)
+    → has_room ranges caller exit ≡ true → AreCellsBack ranges exit caller (cells_back (cell_room Extended) given ranges caller exit)
+cells_are_back given same ranges caller exit room =
+    subst (AreCellsBack ranges exit caller) (sym (all_back given ranges caller exit room))
     (record {
-      inside = λ a in_ranges h. none_passed (is_in_ranges ranges) exit a (inside_at ranges a in_ranges) (none_back ranges caller exit a h).0;
-      outside = λ a out h. none_passed (is_out_of_ranges ranges) caller a (outside_at ranges a out) (none_back ranges caller exit a h).1;
+      inside = λ a in_ranges h. none_passed (is_in_ranges ranges) exit a (inside_at ranges a in_ranges) (none_back given same ranges caller exit a h).0;
+      outside = λ a out h. none_passed (is_out_of_ranges ranges) caller a (outside_at ranges a out) (none_back given same ranges caller exit a h).1;
     })

@@ -1,5 +1,6 @@
 pub mod ItemLaws
 pub mod EnteringLaws
+pub mod ToldLaws
 pub mod CoveringLaws
 pub mod CalleeLaws
 pub mod RangeLaws

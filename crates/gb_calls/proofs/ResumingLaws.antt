@@ -1,10 +1,11 @@
 -- What a caller goes on with holds of the machine, whatever its callee did.
-use Rattle.std.proofs.Common.{◌≡◌, ℕ, ◌+◌, ◌*◌, ◌/◌, ◌%◌, ◌≤◌, ◌<◌, Bool, true, false, ◌&&◌, not, cond, List, [], ◌∷◌, length, map, Option, Some, None, refl, sym, ◌∙◌, ap, subst, arith}
-use Rattle.std.proofs.lemmas.Bool.{and_parts, or_from}
+use Rattle.std.proofs.Common.{◌≡◌, ℕ, ◌+◌, ◌-◌, ◌*◌, ◌/◌, ◌%◌, ◌≤◌, ◌<◌, Bool, true, false, ◌&&◌, ◌||◌, not, cond, List, [], ◌∷◌, length, map, Option, Some, None, inl, inr, refl, sym, ◌∙◌, ap, subst, arith}
+use Rattle.std.proofs.lemmas.Bool.{and_parts, or_cases, or_from}
+use Rattle.std.proofs.lemmas.List.{length-map}
 use Rattle.std.proofs.lemmas.Option.{same_Some}
 use Rattle.std.specs.Prelude.{IfSome}
 use Rattle.std.proofs.lemmas.Bool.Decides.{nat_tests}
-use Rattle.std.specs.List.{AllByRecursion, filter, list_any}
+use Rattle.std.specs.List.{AllByRecursion, filter, list_all, list_any}
 use Rattle.gb_ops.specs.declared.machine.Region.{Region}
 use Rattle.gb_ops.specs.declared.machine.Banks.{Banks}
 use Rattle.gb_ops.specs.declared.op.Register.{Register}
@@ -46,7 +47,8 @@ use Rattle.gb_product.specs.Below.gb_pairs.Sound.{HoldsIn, IsCut}
 use Rattle.gb_product.proofs.Below.gb_pairs_laws.CutLaws.{reduced_cuts}
 use Rattle.gb_product.proofs.Below.gb_pairs_laws.ReducedLaws.{reduced_sound}
 use Rattle.gb_product.specs.Below.gb_relations.Places.{is_free}
-use Rattle.gb_product.specs.Below.gb_summaries.Returning.{GivesBack}
+use Rattle.gb_product.specs.Below.gb_summaries.Below.gb_ram_bounds.Returned.{is_in_ranges as lies_in_ranges}
+use Rattle.gb_product.specs.Below.gb_summaries.Returning.{is_given, is_byte_kept, GivesBack}
 use Rattle.gb_calls.specs.Resuming.{given_by}
 use Rattle.gb_calls.proofs.CellsBackLaws.{same_ranges}
 use Rattle.gb_calls.proofs.SummaryBackLaws.{same_window, HoldSummary-back}
@@ -62,59 +64,59 @@ use Rattle.gb_product.proofs.Below.gb_relations_laws.ComparedLaws.{HoldOneByte-n
 use Rattle.gb_product.proofs.Below.gb_relations_laws.TransferLaws.{HoldPairs-nothing}
 use Rattle.gb_domain.specs.Areas.{IsRegion, meets}
 use Rattle.gb_product.specs.Below.gb_abs.Span.{one}
-use Rattle.gb_product.specs.Below.gb_abs.Covering.{covers_origin}
 use Rattle.gb_product.specs.Below.gb_abs.Cells.{IsPlaced, ArePlaced}
-use Rattle.gb_product.specs.Below.gb_abs.Meaning.{Activation, origin_value, Holds, HoldsFlags, IsBankKept, IsHighBankKept, KeepsBanks, HoldsLowBank, HoldsController, MeansCore}
+use Rattle.gb_product.specs.Below.gb_abs.Meaning.{Activation, origin_value, Holds, HoldsFlags, IsBankKept, IsHighBankKept, KeepsBanks, HoldsLowBank, HoldsController, MeansCore, AreItems, IsMemory}
 use Rattle.gb_product.specs.Below.gb_vals.Meaning.{may_be}
 use Rattle.gb_product.proofs.Below.gb_summaries_laws.MeaningLaws.{nothing_holds}
 use Rattle.gb_product.specs.Meaning.{Means}
 use Rattle.gb_product.specs.Below.gb_abs.Storage.{peek, is_ram}
 use Rattle.gb_product.proofs.Below.gb_abs_laws.CellLaws.{AllByRecursion-where}
-use Rattle.gb_product.proofs.Below.gb_abs_laws.CoveringLaws.{same_origin, AreCells}
+use Rattle.gb_product.proofs.Below.gb_abs_laws.CoveringLaws.{AreCells}
+use Rattle.gb_product.proofs.Below.gb_abs_effects_laws.CoreLaws.{byte-of}
 use Rattle.gb_product.proofs.Below.gb_abs_laws.StorageLaws.{region_in_ram, placed_in_ram, AreItems-same}
 use Rattle.gb_abs_memory.specs.Access.{is_range}
 use Rattle.gb_abs_memory.specs.Windows.{low_bank_least, low_bank_most}
 use Rattle.gb_abs_memory.proofs.WindowLaws.{low_ends_small}
 use Rattle.gb_abs_memory.specs.Kept.{keeps, IsKept}
-use Rattle.gb_product.specs.Below.gb_abs.Origins.{is_own, without_origin, cell_without_origin}
-use Rattle.gb_product.proofs.Below.gb_abs_laws.OriginLaws.{origin_value-of_register, Holds-without_origin, AreCells-without_origins}
+use Rattle.gb_product.specs.Below.gb_abs.Origins.{is_own}
+use Rattle.gb_product.proofs.Below.gb_abs_laws.OriginLaws.{origin_value-of_register}
 use Rattle.gb_calls.specs.declared.resuming.Resumed.{Resumed}
 use Rattle.gb_calls.specs.declared.resuming.Resumed.TheVariants.{Nothing, States, TooDeep}
-use Rattle.gb_calls.specs.Resuming.{kept_back, whole_bank, joined_halves, bank_back, controller_back, given_back, registers_back, core_back, is_address_in, is_in_ranges, is_out_of_ranges, merged, byte_back, cells_back, resumed_alone, is_address_kept, own_by_register, kept_by, rejoined, with_values, with_values_if, reduced_state, resumed, IsTooDeep, IsResumed}
+use Rattle.gb_calls.specs.Resuming.{kept_back, whole_bank, joined_halves, bank_back, controller_back, registers_back, core_back, is_address_in, is_in_ranges, is_out_of_ranges, merged, given_addresses, byte_back, cells_back, unknown_program, resumed_alone, own_by_register, kept_by, rejoined, with_values, with_values_if, reduced_state, are_registers_left, is_cell_left, are_all_left, is_something, resumed, IsTooDeep, IsResumed}
+use Rattle.gb_calls.specs.Told.{named, is_left, place_back, val_back, cell_back}
 use Rattle.gb_calls.specs.Sound.{ComesBack, HandsBack, ComesBackBy, MeansIf, MeansResumed, ReducesSoundly, IsSoundResuming}
 use Rattle.gb_calls.specs.TakenOver.{base_below, given_back_items}
 use Rattle.gb_calls.proofs.EnteringLaws.{MeansCore-with_word}
-use Rattle.gb_calls.proofs.TakenOverLaws.{given_back-items, given_back-pointer}
+use Rattle.gb_calls.proofs.TakenOverLaws.{given_back-items, given_back-pointer, given_back-count}
+use Rattle.gb_calls.proofs.ToldLaws.{IsCaller, IsTold, IsTold-exit, Tells, own-value, Holds-place_back, AreItems-back, AreCells-back, IsGiven-back}
 use Rattle.gb_calls.proofs.CellLaws.{AllByRecursion-merged, AllByRecursion-take}
 
 -- ---- what is given back
 
-same_own : (p : Option Origin) (o : Origin) → covers_origin p (Some o) ≡ true → p ≡ Some o
-same_own None o h = cc
-same_own (Some q) o h = ap Some (same_origin q o h)
+both : (a b : Bool) → a ≡ true → b ≡ true → (a && b) ≡ true
+both true true h i = refl
+both true false h i = cc
+both false b h i = cc
 
--- what an exit gives back is what its procedure was entered with
-own-value : (o : Origin) (v : Val) (called : Activation) (n : ℕ) → is_own o v ≡ true → Holds v called n → n ≡ origin_value o called
-own-value o v called n is h = h.origin o (same_own v.origin o is)
-
-Holds-given_back :
-    (o : Origin) (caller exit : Val) (entry called : Activation) (n : ℕ)
-    → Holds caller entry (origin_value o called) → Holds exit called n → Holds (given_back o caller exit) entry n
-Holds-given_back o caller exit entry called n m h = choose (is_own o exit) refl
-  where
-    choose : (b : Bool) → is_own o exit ≡ b → Holds (cond b caller (without_origin exit)) entry n
-    choose true is = subst (λ y. Holds caller entry y) (sym (own-value o exit called n is h)) m
-    choose false is = Holds-without_origin exit called entry n h
+named_register : (program : Program) (kept : List ℕ) (s : AbsState) (r : Register) → named program kept s (origin_of_register r) ≡ get r s.core.registers
+named_register program kept s A = refl
+named_register program kept s B = refl
+named_register program kept s C = refl
+named_register program kept s D = refl
+named_register program kept s E = refl
+named_register program kept s H = refl
+named_register program kept s L = refl
 
 register_back :
-    (s x : Registers Val) (r : Register) → get r (registers_back s x) ≡ given_back (origin_of_register r) (get r s) (get r x)
-register_back s x A = refl
-register_back s x B = refl
-register_back s x C = refl
-register_back s x D = refl
-register_back s x E = refl
-register_back s x H = refl
-register_back s x L = refl
+    (program : Program) (whole : Bool) (kept : List ℕ) (s : AbsState) (x : Registers Val) (r : Register)
+    → get r (registers_back program whole kept s x) ≡ place_back program whole kept s (origin_of_register r) (get r x)
+register_back program whole kept s x A = refl
+register_back program whole kept s x B = refl
+register_back program whole kept s x C = refl
+register_back program whole kept s x D = refl
+register_back program whole kept s x E = refl
+register_back program whole kept s x H = refl
+register_back program whole kept s x L = refl
 
 HoldsFlags-back :
     (s x : Flg) (entry called : Activation) (f : Flags)
@@ -256,18 +258,29 @@ HoldsController-back k s x entry called b e f m h =
     mode true e = subst (λ g. may_be s.mode g ≡ true) (sym (h.kept.mode e)) m.mode
     mode false e = h.mode
 
+Holds-register_back :
+    (program : Program) (whole : Bool) (kept : List ℕ) (s : AbsState) (x : Core) (entry called : Activation) (y : MState) (r : Register)
+    → IsCore x → Tells program whole kept s entry called → MeansCore s.core entry called.entered → MeansCore x called y
+    → Holds (get r (registers_back program whole kept s x.registers)) entry (get r y.processor.registers)
+Holds-register_back program whole kept s x entry called y r is t m h =
+    let before : Holds (named program kept s (origin_of_register r)) entry (origin_value (origin_of_register r) called) =
+    subst (λ v. Holds v entry (origin_value (origin_of_register r) called)) (sym (named_register program kept s r))
+    (subst (λ n. Holds (get r s.core.registers) entry n) (sym (origin_value-of_register r called)) (m.registers r)) in
+    subst (λ v. Holds v entry (get r y.processor.registers)) (sym (register_back program whole kept s x.registers r))
+    (Holds-place_back program whole kept s (origin_of_register r) (get r x.registers) entry called (get r y.processor.registers) t before
+    (byte-of (get r x.registers) called (get r y.processor.registers) (is.registers r) (h.registers r)) (h.registers r))
+
 MeansCore-resumed :
-    (k : Kind) (s x : Core) (entry called : Activation) (y : MState) → entry.program.kind ≡ k → called.program.kind ≡ k
-    → MeansCore s entry called.entered → MeansCore x called y → MeansCore (core_back k s x) entry y
-MeansCore-resumed k s x entry called y e f m h =
+    (program : Program) (whole : Bool) (kept : List ℕ) (s : AbsState) (x : Core) (entry called : Activation) (y : MState)
+    → entry.program.kind ≡ program.kind → called.program.kind ≡ program.kind → IsCore x → Tells program whole kept s entry called
+    → MeansCore s.core entry called.entered → MeansCore x called y → MeansCore (core_back program whole kept s x) entry y
+MeansCore-resumed program whole kept s x entry called y e f is t m h =
     record {
-      registers = λ r. subst (λ v. Holds v entry (get r y.processor.registers)) (sym (register_back s.registers x.registers r))
-          (Holds-given_back (origin_of_register r) (get r s.registers) (get r x.registers) entry called (get r y.processor.registers)
-          (subst (λ n. Holds (get r s.registers) entry n) (sym (origin_value-of_register r called)) (m.registers r)) (h.registers r));
-      flags = HoldsFlags-back s.flags x.flags entry called y.processor.flags m.flags h.flags;
-      ie = Holds-given_back origin.Ie s.ie x.ie entry called y.storage.ie m.ie h.ie;
+      registers = λ r. Holds-register_back program whole kept s x entry called y r is t m h;
+      flags = HoldsFlags-back s.core.flags x.flags entry called y.processor.flags m.flags h.flags;
+      ie = Holds-place_back program whole kept s origin.Ie x.ie entry called y.storage.ie t m.ie (byte-of x.ie called y.storage.ie is.ie h.ie) h.ie;
       ime = h.ime;
-      controller = HoldsController-back k s.ctl x.ctl entry called y.storage.banks e f m.controller h.controller;
+      controller = HoldsController-back program.kind s.core.ctl x.ctl entry called y.storage.banks e f m.controller h.controller;
       count = h.count;
       locked = h.locked;
       stopped = h.stopped;
@@ -324,18 +337,20 @@ AreCells-kept z region ranges base cells entry m t does kept placed h =
     (λ c out p k. subst (λ n. Holds c.val entry n) (sym (kept c.address (IsKept-cell z region ranges base c does out p))) k)
     cells placed h
 
-AreCells-back :
-    (room : ℕ) (z : Setting) (region : Region) (ranges : List Range) (base : ℕ) (caller exit : List Cell) (entry called : Activation) (m t : Storage)
-    → keeps z ≡ true → ((b : ℕ) → IsKept z region ranges base b → peek t b ≡ peek m b) → ArePlaced region caller → AreCells caller entry m → AreCells exit called t
-    → AreCells (cells_back room ranges caller exit) entry t
+AreCells-joined :
+    (room : ℕ) (program : Program) (whole : Bool) (names : List ℕ) (s : AbsState) (z : Setting) (region : Region) (ranges : List Range) (base : ℕ)
+    (exit : List Cell) (entry called : Activation) (m t : Storage)
+    → Tells program whole names s entry called → IsMemory t → keeps z ≡ true → ((b : ℕ) → IsKept z region ranges base b → peek t b ≡ peek m b)
+    → ArePlaced region s.cells → AreCells s.cells entry m → AreCells exit called t
+    → AreCells (cells_back room (cell_back program whole names s) ranges s.cells exit) entry t
 unfolding cells_back
-AreCells-back room z region ranges base caller exit entry called m t does kept placed h k =
-    let inside = map cell_without_origin (filter (is_in_ranges ranges) exit) in
-    let out = filter (is_out_of_ranges ranges) caller in
+AreCells-joined room program whole names s z region ranges base exit entry called m t tells is does kept placed h k =
+    let inside = map (cell_back program whole names s) (filter (is_in_ranges ranges) exit) in
+    let out = filter (is_out_of_ranges ranges) s.cells in
     AllByRecursion-take (λ c. Holds c.val entry (peek t c.address)) room (merged inside out)
     (AllByRecursion-merged (λ c. Holds c.val entry (peek t c.address)) inside out
-    (AreCells-without_origins (filter (is_in_ranges ranges) exit) called entry t (AreCells-where (is_in_ranges ranges) exit called t k))
-    (AreCells-kept z region ranges base caller entry m t does kept placed h))
+    (AreCells-back program whole names s (filter (is_in_ranges ranges) exit) entry called t tells is (AreCells-where (is_in_ranges ranges) exit called t k))
+    (AreCells-kept z region ranges base s.cells entry m t does kept placed h))
 
 -- ---- what is known together
 
@@ -377,26 +392,35 @@ IsKept-address z region ranges base a does out free =
     apart true h k = cc
     apart false h k = cc
 
+none_of : (b : Bool) → not b ≡ true → b ≡ false
+none_of true h = cc
+none_of false h = refl
+
 address_kept :
-    (z : Setting) (region : Region) (ranges : List Range) (base : ℕ) (address : Option ℕ) (m t : Storage)
-    → keeps z ≡ true → ((b : ℕ) → IsKept z region ranges base b → peek t b ≡ peek m b) → IsByteFree region address → is_address_kept ranges address ≡ true
-    → (a : ℕ) → address ≡ Some a → peek t a ≡ peek m a
-address_kept z region ranges base None m t does kept free out a is = absurd (cc)
-address_kept z region ranges base (Some b) m t does kept free out a is =
-    subst (λ n. peek t n ≡ peek m n) (same_Some b a is) (kept b (IsKept-address z region ranges base b does (not_in_ranges (is_address_in ranges b) out) free))
+    (z : Setting) (region : Region) (ranges : List Range) (base : ℕ) (addresses : List ℕ) (address : Option ℕ) (m t : Storage)
+    → keeps z ≡ true → ((b : ℕ) → IsKept z region ranges base b → peek t b ≡ peek m b) → ((b : ℕ) → is_given addresses b ≡ true → peek t b ≡ peek m b)
+    → IsByteFree region address → is_byte_kept ranges addresses address ≡ true → (a : ℕ) → address ≡ Some a → peek t a ≡ peek m a
+address_kept z region ranges base addresses None m t does kept given free e a is = absurd (cc)
+address_kept z region ranges base addresses (Some b) m t does kept given free e a is =
+    subst (λ n. peek t n ≡ peek m n) (same_Some b a is)
+    (elim (or_cases (not (lies_in_ranges ranges b)) (is_given addresses b) e) [
+      | inl out ↦ kept b (IsKept-address z region ranges base b does (same_ranges ranges b ∙ none_of (lies_in_ranges ranges b) out) free)
+      | inr back ↦ given b back
+    ])
 
 Returned-kept :
-    (z : Setting) (region : Region) (ranges : List Range) (base : ℕ) (s exit : AbsState) (called : Activation) (x : MState)
-    → keeps z ≡ true → ((b : ℕ) → IsKept z region ranges base b → peek x.storage b ≡ peek called.entered.storage b) → IsByteFree region s.relations.byte.address
+    (z : Setting) (region : Region) (ranges : List Range) (base : ℕ) (addresses : List ℕ) (s exit : AbsState) (called : Activation) (x : MState)
+    → keeps z ≡ true → ((b : ℕ) → IsKept z region ranges base b → peek x.storage b ≡ peek called.entered.storage b)
+    → ((b : ℕ) → is_given addresses b ≡ true → peek x.storage b ≡ peek called.entered.storage b) → IsByteFree region s.relations.byte.address
     → MeansCore exit.core called x
-    → Returned.IsKept (kept_by ranges s.relations.byte exit.core) s.relations.byte.address called.entered.processor.registers x.processor.registers
+    → Returned.IsKept (kept_by ranges addresses s.relations.byte exit.core) s.relations.byte.address called.entered.processor.registers x.processor.registers
     (peek called.entered.storage) (peek x.storage) called.entered.processor.flags x.processor.flags
-Returned-kept z region ranges base s exit called x does kept free h =
+Returned-kept z region ranges base addresses s exit called x does kept given free h =
     record {
       registers = λ r is. own-value (origin_of_register r) (get r exit.core.registers) called (get r x.processor.registers)
           (sym (register_own exit.core.registers r) ∙ is) (h.registers r)
           ∙ origin_value-of_register r called;
-      memory = λ out a is. address_kept z region ranges base s.relations.byte.address called.entered.storage x.storage does kept free out a is;
+      memory = λ out a is. address_kept z region ranges base addresses s.relations.byte.address called.entered.storage x.storage does kept given free out a is;
       flags = λ is. h.flags.own is;
     }
 
@@ -415,14 +439,16 @@ Means-resumed_alone region ranges s exit entry base called x h =
     let last = h.room.last in
     record {
       parts = record {
-        core = MeansCore-resumed kind.Rom s.core exit.core entry called x h.caller_unknown h.callee_unknown (MeansCore-with_word s.core entry called.entered h.caller.parts.core) h.exits.parts.core;
+        core = MeansCore-resumed unknown_program false [] s exit.core entry called x h.caller_unknown h.callee_unknown h.exit_core (λ e. absurd (cc))
+            (MeansCore-with_word s.core entry called.entered h.caller.parts.core) h.exits.parts.core;
         memory = h.exits.parts.memory;
         sp = h.exits.parts.sp;
         stack = λ e. omega arith;
         items = AreItems-same s.items entry (called.entered.processor.sp + 2) base called.entered.storage x.storage (omega arith)
             (λ b low high. h.kept b (IsKept-stack h.callee region ranges called.entered.processor.sp b h.keeps h.is_region h.apart (omega arith) (omega arith) (omega arith)))
             h.caller.parts.items;
-        cells = AreCells-back (cell_room Simple) h.callee region ranges called.entered.processor.sp s.cells exit.cells entry called called.entered.storage x.storage h.keeps h.kept h.placed h.caller.parts.cells h.exits.parts.cells;
+        cells = AreCells-joined (cell_room Simple) unknown_program false [] s h.callee region ranges called.entered.processor.sp exit.cells entry called called.entered.storage x.storage
+            (λ e. absurd (cc)) h.exits.parts.memory h.keeps h.kept h.placed h.caller.parts.cells h.exits.parts.cells;
       };
       related = record {
         byte = HoldOneByte-back s exit called x h.caller.related.byte h.exits.parts.core;
@@ -443,10 +469,11 @@ HoldsValues-caller s entry base x m =
 
 -- what the exit gives back of what is said of the whole program is what it was
 GivesBack-exit :
-    (k : Kind) (z : Setting) (region : Region) (ranges : List Range) (base : ℕ) (exit : AbsState) (called : Activation) (x : MState)
-    → called.program.kind ≡ k → keeps z ≡ true → ((b : ℕ) → IsKept z region ranges base b → peek x.storage b ≡ peek called.entered.storage b) → MeansCore exit.core called x
-    → GivesBack k region ranges (given_by exit.core) [] called.entered.processor x.processor (peek called.entered.storage) (peek x.storage) called.entered.storage.banks x.storage.banks
-GivesBack-exit k z region ranges base exit called x of does kept h =
+    (k : Kind) (z : Setting) (region : Region) (ranges : List Range) (base : ℕ) (addresses : List ℕ) (exit : AbsState) (called : Activation) (x : MState)
+    → called.program.kind ≡ k → keeps z ≡ true → ((b : ℕ) → IsKept z region ranges base b → peek x.storage b ≡ peek called.entered.storage b)
+    → ((b : ℕ) → is_given addresses b ≡ true → peek x.storage b ≡ peek called.entered.storage b) → MeansCore exit.core called x
+    → GivesBack k region ranges (given_by exit.core) addresses called.entered.processor x.processor (peek called.entered.storage) (peek x.storage) called.entered.storage.banks x.storage.banks
+GivesBack-exit k z region ranges base addresses exit called x of does kept given h =
     record {
       registers = λ r is. own-value (origin_of_register r) (get r exit.core.registers) called (get r x.processor.registers)
           (sym (register_own exit.core.registers r) ∙ is) (h.registers r)
@@ -454,39 +481,101 @@ GivesBack-exit k z region ranges base exit called x of does kept h =
       windows = λ which is. same_window k which exit.core.ctl.kept called.entered.storage.banks x.storage.banks
           (subst (λ q. KeepsBanks q exit.core.ctl.kept called.entered.storage.banks x.storage.banks) of h.controller.kept) is;
       outside = λ a free out. kept a (IsKept-address z region ranges base a does (same_ranges ranges a ∙ out) free);
-      given = λ a is. absurd (cc);
+      given = given;
     }
+
+IsCaller-handed :
+    (program : Program) (k : ℕ) (region : Region) (ranges : List Range) (names : List ℕ) (s exit : AbsState) (entry : Activation) (base : ℕ) (called : Activation) (x : MState)
+    → HandsBack program k region ranges names s exit entry base called x → IsCaller program names s entry base called
+IsCaller-handed program k region ranges names s exit entry base called x h =
+    record { means = h.begins.caller; stack_set = h.begins.stack_set; program_is = h.caller_program; names = h.names }
 
 -- the waiting items stand, the exit's behind them
 pub Means-rejoined :
-    (program : Program) (k : ℕ) (region : Region) (ranges : List Range) (s exit : AbsState) (entry : Activation) (base : ℕ) (called : Activation) (x : MState)
-    → HandsBack program k region ranges s exit entry base called x → Means (rejoined program k ranges s exit) entry base x
+    (program : Program) (whole : Bool) (k : ℕ) (region : Region) (ranges : List Range) (names : List ℕ) (s exit : AbsState) (entry : Activation) (base : ℕ) (called : Activation) (x : MState)
+    → HandsBack program k region ranges names s exit entry base called x → Means (rejoined program whole k ranges names s exit) entry base x
 unfolding rejoined
-Means-rejoined program k region ranges s exit entry base called x h =
+Means-rejoined program whole k region ranges names s exit entry base called x h =
     let first = h.room.first in
     let last = h.room.last in
     let caller = h.begins.caller in
     let under : ℕ = base_below k s.items base in
+    let back = map (val_back program whole names s) exit.items in
+    let count : length back ≡ length exit.items = length-map exit.items (val_back program whole names s) in
     let left : x.processor.sp + length exit.items ≡ under = h.exits.parts.stack h.exit_set in
+    let tells : Tells program whole names s entry called =
+    λ e. IsTold-exit program names s entry base called (IsCaller-handed program k region ranges names s exit entry base called x h) in
+    let given = IsGiven-back names exit.cells called x.storage h.exits.parts.memory h.exits.parts.cells h.names in
     record {
       parts = record {
-        core = MeansCore-resumed program.kind s.core exit.core entry called x (ap (λ p. p.kind) h.caller_program) (ap (λ p. p.kind) h.callee_program) caller.parts.core h.exits.parts.core;
+        core = MeansCore-resumed program whole names s exit.core entry called x (ap (λ p. p.kind) h.caller_program) (ap (λ p. p.kind) h.callee_program) h.exit_core tells caller.parts.core h.exits.parts.core;
         memory = h.exits.parts.memory;
         sp = h.exits.parts.sp;
-        stack = λ e. given_back-pointer k s.items exit.items base x.processor.sp h.begins.few (omega arith) left;
-        items = given_back-items k s.items exit.items entry called base called.entered.storage x.storage h.begins.few (omega arith) caller.parts.items
+        stack = λ e. given_back-pointer k s.items back base x.processor.sp h.begins.few (omega arith) (omega arith);
+        items = given_back-items k s.items back entry base called.entered.storage x.storage h.begins.few (omega arith) caller.parts.items
             (λ b low high. h.kept b (IsKept-stack h.callee region ranges under b h.keeps h.is_region h.apart (omega arith) (omega arith) low))
-            h.exits.parts.items;
-        cells = AreCells-back (cell_room Extended) h.callee region ranges under s.cells exit.cells entry called called.entered.storage x.storage h.keeps h.kept h.placed.cells caller.parts.cells h.exits.parts.cells;
+            (AreItems-back program whole names s exit.items entry called under x.storage tells h.exits.parts.memory h.exits.parts.items);
+        cells = AreCells-joined (cell_room Extended) program whole names s h.callee region ranges under exit.cells entry called called.entered.storage x.storage
+            tells h.exits.parts.memory h.keeps h.kept h.placed.cells caller.parts.cells h.exits.parts.cells;
       };
-      related = (returned_sound (kept_by ranges s.relations.byte exit.core) s.relations exit.relations _ refl).gives
+      related = (returned_sound (kept_by ranges (given_addresses names exit.cells) s.relations.byte exit.core) s.relations exit.relations _ refl).gives
           called.entered.processor.registers x.processor.registers (peek called.entered.storage) (peek x.storage) called.entered.processor.flags x.processor.flags
-          (Returned-kept h.callee region ranges under s exit called x h.keeps h.kept h.placed.byte h.exits.parts.core)
+          (Returned-kept h.callee region ranges under (given_addresses names exit.cells) s exit called x h.keeps h.kept given h.placed.byte h.exits.parts.core)
           caller.related h.exits.related;
-      summary = HoldSummary-back program region ranges s exit entry called x h.caller_program h.callee_program h.facts h.placed.summary h.exit_free
+      summary = HoldSummary-back program whole region ranges names s exit entry called x h.caller_program h.callee_program h.facts h.placed.summary h.exit_free
           (HoldsValues-caller s entry base called.entered caller)
-          (GivesBack-exit program.kind h.callee region ranges under exit called x (ap (λ p. p.kind) h.callee_program) h.keeps h.kept h.exits.parts.core) caller.summary h.exits.summary;
+          (GivesBack-exit program.kind h.callee region ranges under (given_addresses names exit.cells) exit called x (ap (λ p. p.kind) h.callee_program) h.keeps h.kept given h.exits.parts.core)
+          caller.summary h.exits.summary;
     }
+
+-- ---- something is left of each value
+
+are_left : (program : Program) (names : List ℕ) (s : AbsState) (items : List Val) (entry called : Activation) (top : ℕ) (m : Storage)
+    → ((v : Val) (n : ℕ) → n ≤ 255 → Holds v called n → is_left program names s v ≡ true) → IsMemory m → AreItems items called top m
+    → list_all (is_left program names s) items ≡ true
+are_left program names s [] entry called top m t is h = refl
+are_left program names s (v ∷ items) entry called top m t is h =
+    both (is_left program names s v) (list_all (is_left program names s) items) (t v (peek m (top - 1)) (is.bytes (top - 1)) h.0)
+    (are_left program names s items entry called (top - 1) m t is h.1)
+
+are_cells_left : (program : Program) (names : List ℕ) (ranges : List Range) (s : AbsState) (cells : List Cell) (called : Activation) (m : Storage)
+    → ((v : Val) (n : ℕ) → n ≤ 255 → Holds v called n → is_left program names s v ≡ true) → IsMemory m → AreCells cells called m
+    → list_all (is_cell_left program names ranges s) cells ≡ true
+are_cells_left program names ranges s [] called m t is h = refl
+are_cells_left program names ranges s (c ∷ cells) called m t is h =
+    both (is_cell_left program names ranges s c) (list_all (is_cell_left program names ranges s) cells)
+    (or_second (not (is_in_ranges ranges c)) (is_left program names s c.val) (t c.val (peek m c.address) (is.bytes c.address) h.0))
+    (are_cells_left program names ranges s cells called m t is h.1)
+  where
+    or_second : (a b : Bool) → b ≡ true → (a || b) ≡ true
+    or_second true b e = refl
+    or_second false b e = e
+
+-- where the callee comes back something is meant
+something_left :
+    (program : Program) (whole : Bool) (k : ℕ) (region : Region) (ranges : List Range) (names : List ℕ) (s exit : AbsState) (entry : Activation) (base : ℕ) (called : Activation) (x : MState)
+    → HandsBack program k region ranges names s exit entry base called x → is_something program whole names ranges s exit ≡ true
+unfolding are_all_left
+something_left program false k region ranges names s exit entry base called x h = refl
+something_left program true k region ranges names s exit entry base called x h =
+    both _ _ (both _ _ (both _ _ registers (t exit.core.ie x.storage.ie (byte-of exit.core.ie called x.storage.ie core.ie m.ie) m.ie))
+    (are_left program names s exit.items entry called (base_below k s.items base) x.storage t h.exits.parts.memory h.exits.parts.items))
+    (are_cells_left program names ranges s exit.cells called x.storage t h.exits.parts.memory h.exits.parts.cells)
+  where
+    core : IsCore exit.core
+    core = h.exit_core
+
+    m : MeansCore exit.core called x
+    m = h.exits.parts.core
+
+    t : (v : Val) (n : ℕ) → n ≤ 255 → Holds v called n → is_left program names s v ≡ true
+    t v n byte holds = (IsTold-exit program names s entry base called (IsCaller-handed program k region ranges names s exit entry base called x h) v n byte holds).left
+
+    one : (r : Register) → is_left program names s (get r exit.core.registers) ≡ true
+    one r = t (get r exit.core.registers) (get r x.processor.registers) (byte-of (get r exit.core.registers) called (get r x.processor.registers) (core.registers r) (m.registers r)) (m.registers r)
+
+    registers : are_registers_left program names s exit.core.registers ≡ true
+    registers = both _ _ (both _ _ (both _ _ (both _ _ (both _ _ (both _ _ (one A) (one B)) (one C)) (one D)) (one E)) (one H)) (one L)
 
 -- what registers and pairs leave each other
 pub Means-with_values :
@@ -542,30 +631,47 @@ Means-reduced s entry base x sound bytes m =
     choose (Some w) cuts h = Means-with_values s w entry base x cuts h m
 
 Means-rejoined_reduced :
-    (program : Program) (k : ℕ) (region : Region) (ranges : List Range) (s exit : AbsState) (entry : Activation) (base : ℕ) (called : Activation) (x : MState)
-    → ReducesSoundly (rejoined program k ranges s exit) → HandsBack program k region ranges s exit entry base called x
-    → MeansIf (reduced_state (rejoined program k ranges s exit)) entry base x
-Means-rejoined_reduced program k region ranges s exit entry base called x sound h =
-    Means-reduced (rejoined program k ranges s exit) entry base x sound
+    (program : Program) (whole : Bool) (k : ℕ) (region : Region) (ranges : List Range) (names : List ℕ) (s exit : AbsState) (entry : Activation) (base : ℕ) (called : Activation) (x : MState)
+    → ReducesSoundly (rejoined program whole k ranges names s exit) → HandsBack program k region ranges names s exit entry base called x
+    → MeansIf (reduced_state (rejoined program whole k ranges names s exit)) entry base x
+Means-rejoined_reduced program whole k region ranges names s exit entry base called x sound h =
+    Means-reduced (rejoined program whole k ranges names s exit) entry base x sound
     (registers_are_bytes exit.core called x h.exit_core h.exits.parts.core)
-    (Means-rejoined program k region ranges s exit entry base called x h)
+    (Means-rejoined program whole k region ranges names s exit entry base called x h)
+
+-- where the callee comes back something is meant, and that holds
+Means-something :
+    (program : Program) (whole : Bool) (k : ℕ) (region : Region) (ranges : List Range) (names : List ℕ) (s exit : AbsState) (entry : Activation) (base : ℕ) (called : Activation) (x : MState)
+    → (is_something program whole names ranges s exit ≡ true → ReducesSoundly (rejoined program whole k ranges names s exit))
+    → HandsBack program k region ranges names s exit entry base called x
+    → MeansIf (resumed program Extended whole k ranges names s exit) entry base x
+unfolding resumed
+Means-something program whole k region ranges names s exit entry base called x sound h =
+    let some = something_left program whole k region ranges names s exit entry base called x h in
+    subst (λ b. MeansIf (cond b (reduced_state (rejoined program whole k ranges names s exit)) None) entry base x) (sym some)
+    (Means-rejoined_reduced program whole k region ranges names s exit entry base called x (sound some) h)
 
 -- ---- what was computed
 
 -- with more items than a state holds
 pub too_deep :
-    (program : Program) (k : ℕ) (ranges : List Range) (s exit : AbsState) (kept : Kept) (core : Core) (relations : Relations) (v : Values)
-    → kept ≡ kept_by ranges s.relations.byte exit.core → core ≡ core_back program.kind s.core exit.core → relations ≡ returned kept s.relations exit.relations
-    → Some v ≡ reduced (values_of core.registers relations.pairs)
-    → 255 < length (given_back_items k s.items exit.items) → IsTooDeep (reduced_state (rejoined program k ranges s exit))
+    (program : Program) (whole : Bool) (k : ℕ) (ranges : List Range) (names addresses : List ℕ) (s exit : AbsState) (kept : Kept) (core : Core) (relations : Relations) (v : Values)
+    → addresses ≡ given_addresses names exit.cells → kept ≡ kept_by ranges addresses s.relations.byte exit.core → core ≡ core_back program whole names s exit.core
+    → relations ≡ returned kept s.relations exit.relations → Some v ≡ reduced (values_of core.registers relations.pairs)
+    → 255 < length (given_back_items k s.items exit.items) → IsTooDeep (reduced_state (rejoined program whole k ranges names s exit))
 unfolding rejoined reduced_state item_room
-too_deep program k ranges s exit kept core relations v is is_core are e many =
-    let same : relations ≡ returned (kept_by ranges s.relations.byte exit.core) s.relations exit.relations =
-    are ∙ ap (λ (o : Kept). returned o s.relations exit.relations) is in
-    let cut : Some v ≡ reduced (values_of (core_back program.kind s.core exit.core).registers (returned (kept_by ranges s.relations.byte exit.core) s.relations exit.relations).pairs) =
+too_deep program whole k ranges names addresses s exit kept core relations v given is is_core are e many =
+    let by = kept_by ranges (given_addresses names exit.cells) s.relations.byte exit.core in
+    let same : relations ≡ returned by s.relations exit.relations =
+    are ∙ ap (λ (o : Kept). returned o s.relations exit.relations) (is ∙ ap (λ (xs : List ℕ). kept_by ranges xs s.relations.byte exit.core) given) in
+    let cut : Some v ≡ reduced (values_of (core_back program whole names s exit.core).registers (returned by s.relations exit.relations).pairs) =
     e ∙ (ap (λ (c : Core). reduced (values_of c.registers relations.pairs)) is_core
-    ∙ ap (λ (r : Relations). reduced (values_of (core_back program.kind s.core exit.core).registers r.pairs)) same) in
-    record { state = with_values (rejoined program k ranges s exit) v; is = ap (with_values_if (rejoined program k ranges s exit)) (sym cut); deep = many }
+    ∙ ap (λ (r : Relations). reduced (values_of (core_back program whole names s exit.core).registers r.pairs)) same) in
+    record {
+      state = with_values (rejoined program whole k ranges names s exit) v;
+      is = ap (with_values_if (rejoined program whole k ranges names s exit)) (sym cut);
+      deep = subst (λ n. 255 < n) (sym (given_back-count k s.items exit.items (val_back program whole names s))) many;
+    }
 
 computed : (r : Resumed) (s : Option AbsState) (entry : Activation) (base : ℕ) (x : MState) → IsResumed r s → MeansIf s entry base x → MeansResumed r entry base x
 computed Nothing s entry base x e m = subst (λ (o : Option AbsState). MeansIf o entry base x) e m
@@ -573,19 +679,22 @@ computed (States t) s entry base x e m = subst (λ (o : Option AbsState). MeansI
 computed TooDeep s entry base x e m = tt
 
 pub resumed_alone_sound :
-    (program : Program) (k : ℕ) (ranges : List Range) (s exit o : AbsState) → o ≡ resumed_alone ranges s exit → IsSoundResuming program Simple k ranges s exit (States o)
-resumed_alone_sound program k ranges s exit o e =
+    (program : Program) (k : ℕ) (ranges : List Range) (names : List ℕ) (s exit o : AbsState) → o ≡ resumed_alone ranges s exit
+    → IsSoundResuming program Simple k ranges names s exit (States o)
+resumed_alone_sound program k ranges names s exit o e =
     record {
       gives = λ region entry base called x h. subst (λ (w : AbsState). Means w entry base x) (sym e) (Means-resumed_alone region ranges s exit entry base called x h);
     }
 
 pub rejoined_sound :
-    (program : Program) (k : ℕ) (ranges : List Range) (s exit : AbsState) (r : Resumed)
-    → IsResumed r (reduced_state (rejoined program k ranges s exit)) → ReducesSoundly (rejoined program k ranges s exit) → IsSoundResuming program Extended k ranges s exit r
-rejoined_sound program k ranges s exit r e sound =
+    (program : Program) (whole : Bool) (k : ℕ) (ranges : List Range) (names : List ℕ) (s exit : AbsState) (r : Resumed)
+    → IsResumed r (resumed program Extended whole k ranges names s exit)
+    → (is_something program whole names ranges s exit ≡ true → ReducesSoundly (rejoined program whole k ranges names s exit))
+    → IsSoundResuming program Extended k ranges names s exit r
+rejoined_sound program whole k ranges names s exit r e sound =
     record {
-      gives = λ region entry base called x h. computed r (reduced_state (rejoined program k ranges s exit)) entry base x e
-          (Means-rejoined_reduced program k region ranges s exit entry base called x sound h);
+      gives = λ region entry base called x h. computed r (resumed program Extended whole k ranges names s exit) entry base x e
+          (Means-something program whole k region ranges names s exit entry base called x sound h);
     }
 
 -- ---- by either rules, of states that a certificate may have
@@ -620,18 +729,19 @@ ArePairs-returned k s t h i = record { each = λ p. each p }
     each pair.Hl = IsPairFacts-returned pair.Hl k s.pairs.hl t.pairs.hl (h.each pair.Hl) (i.each pair.Hl)
 
 ReducesSoundly-rejoined :
-    (program : Program) (k : ℕ) (ranges : List Range) (s exit : AbsState) → ArePairs s.relations.pairs → ArePairs exit.relations.pairs → ReducesSoundly (rejoined program k ranges s exit)
+    (program : Program) (whole : Bool) (k : ℕ) (ranges : List Range) (names : List ℕ) (s exit : AbsState) → ArePairs s.relations.pairs → ArePairs exit.relations.pairs
+    → ReducesSoundly (rejoined program whole k ranges names s exit)
 unfolding rejoined
-ReducesSoundly-rejoined program k ranges s exit h i =
-    reduced_sound (values_of (rejoined program k ranges s exit).core.registers (rejoined program k ranges s exit).relations.pairs) _ refl
-    (ArePairs-returned (kept_by ranges s.relations.byte exit.core) s.relations exit.relations h i)
+ReducesSoundly-rejoined program whole k ranges names s exit h i =
+    reduced_sound (values_of (rejoined program whole k ranges names s exit).core.registers (rejoined program whole k ranges names s exit).relations.pairs) _ refl
+    (ArePairs-returned (kept_by ranges (given_addresses names exit.cells) s.relations.byte exit.core) s.relations exit.relations h i)
 
 -- the callee has come back: there is something that its caller goes on with, and it holds
 pub Means-resumed :
-    (program : Program) (rules : Rules) (k : ℕ) (region : Region) (ranges : List Range) (s exit : AbsState) (entry : Activation) (base : ℕ) (called : Activation) (x : MState)
-    → ArePairs s.relations.pairs → ArePairs exit.relations.pairs → ComesBackBy program rules k region ranges s exit entry base called x
-    → MeansIf (resumed program rules k ranges s exit) entry base x
+    (program : Program) (rules : Rules) (whole : Bool) (k : ℕ) (region : Region) (ranges : List Range) (names : List ℕ) (s exit : AbsState) (entry : Activation) (base : ℕ) (called : Activation) (x : MState)
+    → ArePairs s.relations.pairs → ArePairs exit.relations.pairs → ComesBackBy program rules k region ranges names s exit entry base called x
+    → MeansIf (resumed program rules whole k ranges names s exit) entry base x
 unfolding resumed
-Means-resumed program Simple k region ranges s exit entry base called x p q h = Means-resumed_alone region ranges s exit entry base called x h
-Means-resumed program Extended k region ranges s exit entry base called x p q h =
-    Means-rejoined_reduced program k region ranges s exit entry base called x (ReducesSoundly-rejoined program k ranges s exit p q) h
+Means-resumed program Simple whole k region ranges names s exit entry base called x p q h = Means-resumed_alone region ranges s exit entry base called x h
+Means-resumed program Extended whole k region ranges names s exit entry base called x p q h =
+    Means-something program whole k region ranges names s exit entry base called x (λ e. ReducesSoundly-rejoined program whole k ranges names s exit p q) h

@@ -27,26 +27,27 @@ use Rattle.gb_product.specs.Below.gb_summaries.Meaning.{HoldSummary}
 use Rattle.gb_product.specs.Below.gb_summaries.Returning.{is_window_kept, summary_returned, GivesBack}
 use Rattle.gb_product.proofs.Below.gb_summaries_laws.ReturningLaws.{quiet_returned, summary_returned_sound}
 use Rattle.gb_product.specs.Meaning.{IsSummarized}
-use Rattle.gb_calls.specs.Resuming.{given_by, has_room, cells_back, summary_back}
+use Rattle.gb_calls.specs.Resuming.{given_by, given_addresses, has_room, cells_back, summary_back}
+use Rattle.gb_calls.specs.Told.{cell_back}
 use Rattle.gb_calls.proofs.Below.gb_states_laws.SummaryLaws.{silent-is}
 use Rattle.gb_calls.proofs.CellsBackLaws.{cells_are_back}
 
 -- ---- nothing is said
 
 -- of these summaries
-returned_of : Program → List Range → AbsState → AbsState → SummaryParts → SummaryParts → SummaryParts
-returned_of program ranges s x caller exit =
-    summary_returned program ranges (given_by x.core) [] (values_of s.core.registers s.relations.pairs) s.cells caller x.cells exit
-    (has_room ranges s.cells x.cells) (cells_back (cell_room Extended) ranges s.cells x.cells)
+returned_of : Program → Bool → List Range → List ℕ → AbsState → AbsState → SummaryParts → SummaryParts → SummaryParts
+returned_of program whole ranges kept s x caller exit =
+    summary_returned program ranges (given_by x.core) (given_addresses kept x.cells) (values_of s.core.registers s.relations.pairs) s.cells caller x.cells exit
+    (has_room ranges s.cells x.cells) (cells_back (cell_room Extended) (cell_back program whole kept s) ranges s.cells x.cells)
 
 pub silent_back :
-    (program : Program) (ranges : List Range) (s x : AbsState)
-    → is_silent s.summary ≡ true → is_silent x.summary ≡ true → summary_back program ranges s x ≡ no_summary
+    (program : Program) (whole : Bool) (ranges : List Range) (kept : List ℕ) (s x : AbsState)
+    → is_silent s.summary ≡ true → is_silent x.summary ≡ true → summary_back program whole ranges kept s x ≡ no_summary
 unfolding summary_back returned_of
-silent_back program ranges s x h k =
-    ap (λ t. returned_of program ranges s x t x.summary) (silent-is s.summary h)
-    ∙ (ap (λ t. returned_of program ranges s x no_summary t) (silent-is x.summary k)
-    ∙ quiet_returned program ranges (given_by x.core) [] (values_of s.core.registers s.relations.pairs) s.cells x.cells (has_room ranges s.cells x.cells) (cells_back (cell_room Extended) ranges s.cells x.cells))
+silent_back program whole ranges kept s x h k =
+    ap (λ t. returned_of program whole ranges kept s x t x.summary) (silent-is s.summary h)
+    ∙ (ap (λ t. returned_of program whole ranges kept s x no_summary t) (silent-is x.summary k)
+    ∙ quiet_returned program ranges (given_by x.core) (given_addresses kept x.cells) (values_of s.core.registers s.relations.pairs) s.cells x.cells (has_room ranges s.cells x.cells) (cells_back (cell_room Extended) (cell_back program whole kept s) ranges s.cells x.cells))
 
 -- ---- the windows' registers
 
@@ -73,16 +74,18 @@ in_program : (program : Program) (s : AbsState) (entry : Activation) (x : MState
 in_program program s entry x e h = subst (λ p. HoldSummary p s.cells s.summary x.processor (peek x.storage) x.storage.banks) e h
 
 pub HoldSummary-back :
-    (program : Program) (region : Region) (ranges : List Range) (s exit : AbsState) (entry called : Activation) (x : MState)
+    (program : Program) (whole : Bool) (region : Region) (ranges : List Range) (kept : List ℕ) (s exit : AbsState) (entry called : Activation) (x : MState)
     → entry.program ≡ program → called.program ≡ program → AreFreeFacts region program.facts → IsFree region s.summary → IsFree region exit.summary
     → Holds (values_of s.core.registers s.relations.pairs) called.entered.processor.registers
-    → GivesBack program.kind region ranges (given_by exit.core) [] called.entered.processor x.processor (peek called.entered.storage) (peek x.storage) called.entered.storage.banks x.storage.banks
+    → GivesBack program.kind region ranges (given_by exit.core) (given_addresses kept exit.cells) called.entered.processor x.processor (peek called.entered.storage) (peek x.storage) called.entered.storage.banks x.storage.banks
     → IsSummarized s entry called.entered → IsSummarized exit called x
-    → HoldSummary entry.program (cells_back (cell_room Extended) ranges s.cells exit.cells) (summary_back program ranges s exit) x.processor (peek x.storage) x.storage.banks
+    → HoldSummary entry.program (cells_back (cell_room Extended) (cell_back program whole kept s) ranges s.cells exit.cells) (summary_back program whole ranges kept s exit) x.processor (peek x.storage) x.storage.banks
 unfolding summary_back
-HoldSummary-back program region ranges s exit entry called x e f facts free exit_free holds gives caller leaves =
-    subst (λ p. HoldSummary p (cells_back (cell_room Extended) ranges s.cells exit.cells) (summary_back program ranges s exit) x.processor (peek x.storage) x.storage.banks) (sym e)
-    ((summary_returned_sound program ranges (given_by exit.core) [] (values_of s.core.registers s.relations.pairs) s.cells s.summary exit.cells exit.summary
-    (has_room ranges s.cells exit.cells) (cells_back (cell_room Extended) ranges s.cells exit.cells) _ refl).gives region called.entered.processor x.processor
-    (peek called.entered.storage) (peek x.storage) called.entered.storage.banks x.storage.banks facts free exit_free holds gives (cells_are_back ranges s.cells exit.cells)
+HoldSummary-back program whole region ranges kept s exit entry called x e f facts free exit_free holds gives caller leaves =
+    let cells = cells_back (cell_room Extended) (cell_back program whole kept s) ranges s.cells exit.cells in
+    subst (λ p. HoldSummary p cells (summary_back program whole ranges kept s exit) x.processor (peek x.storage) x.storage.banks) (sym e)
+    ((summary_returned_sound program ranges (given_by exit.core) (given_addresses kept exit.cells) (values_of s.core.registers s.relations.pairs) s.cells s.summary exit.cells exit.summary
+    (has_room ranges s.cells exit.cells) cells _ refl).gives region called.entered.processor x.processor
+    (peek called.entered.storage) (peek x.storage) called.entered.storage.banks x.storage.banks facts free exit_free holds gives
+    (cells_are_back (cell_back program whole kept s) (λ c. refl) ranges s.cells exit.cells)
     (in_program program s entry called.entered e caller) (in_program program exit called x f leaves))

@@ -9,7 +9,7 @@ use Rattle.gb_product.specs.Below.gb_abs.Meaning.{Activation, AreItems, MeansPar
 use Rattle.gb_product.specs.Below.gb_abs.Storage.{peek}
 use Rattle.gb_product.proofs.Below.gb_abs_laws.StorageLaws.{AreItems-same}
 use Rattle.gb_product.specs.Below.gb_abs.Origins.{without_origin}
-use Rattle.gb_product.proofs.Below.gb_abs_laws.OriginLaws.{Holds-own, Holds-without_origin, AreItems-without_origins}
+use Rattle.gb_product.proofs.Below.gb_abs_laws.OriginLaws.{Holds-own, Holds-without_origin}
 use Rattle.gb_calls.specs.TakenOver.{newest, waiting, returning, taken_over, base_below, given_back_items}
 
 -- ---- two lists end to end
@@ -87,48 +87,54 @@ taken_over-pointer k items sp base few e =
 -- ---- taken off: nobody has written at or above the callee's base, so the caller's waiting items stand
 
 pub given_back-items :
-    (k : ℕ) (items exit : List Val) (entry callee : Activation) (base : ℕ) (s t : Storage)
+    (k : ℕ) (items given : List Val) (entry : Activation) (base : ℕ) (s t : Storage)
     → k ≤ length items → length items ≤ base → AreItems items entry base s
     → ((b : ℕ) → base_below k items base ≤ b → b < base → peek t b ≡ peek s b)
-    → AreItems exit callee (base_below k items base) t → AreItems (given_back_items k items exit) entry base t
+    → AreItems given entry (base_below k items base) t → AreItems (given_back_items k items given) entry base t
 unfolding given_back_items
-given_back-items k items exit entry callee base s t few room held same left =
+given_back-items k items given entry base s t few room held same left =
     let whole : AreItems (waiting k items ++ newest k items) entry base s = parted k items entry base s held in
     let before : AreItems (waiting k items) entry base s = AreItems-left (waiting k items) (newest k items) entry base s whole in
     let count = waiting-length k items in
     let now : AreItems (waiting k items) entry base t = AreItems-same (waiting k items) entry (base_below k items base) base s t (bounded k items base count room) same before in
-    let exits : AreItems (map without_origin exit) entry (base_below k items base) t = AreItems-without_origins exit callee entry (base_below k items base) t left in
-    AreItems-both (waiting k items) (map without_origin exit) entry base t now (subst (λ n. AreItems (map without_origin exit) entry (base - n) t) (sym count) exits)
+    AreItems-both (waiting k items) given entry base t now (subst (λ n. AreItems given entry (base - n) t) (sym count) left)
   where
     bounded : (k : ℕ) (items : List Val) (base : ℕ) → length (waiting k items) ≡ length items - k → length items ≤ base → base_below k items base + length (waiting k items) ≤ base
     bounded k items base count room = omega arith
 
 -- SP as the caller goes on: base less what it holds then
-pub given_back-pointer : (k : ℕ) (items exit : List Val) (base sp : ℕ) → k ≤ length items → length items ≤ base → sp + length exit ≡ base_below k items base
-    → sp + length (given_back_items k items exit) ≡ base
+pub given_back-pointer : (k : ℕ) (items given : List Val) (base sp : ℕ) → k ≤ length items → length items ≤ base → sp + length given ≡ base_below k items base
+    → sp + length (given_back_items k items given) ≡ base
 unfolding given_back_items
-given_back-pointer k items exit base sp few room e =
+given_back-pointer k items given base sp few room e =
     let count = waiting-length k items in
-    let all = length-append (waiting k items) (map without_origin exit) in
-    let exits = length-map exit without_origin in
+    let all = length-append (waiting k items) given in
     omega arith
 
 -- ---- how many there are
 
 pub given_back_few :
-    (k : ℕ) (held exit : List Val) → (length held - k) + length exit ≤ 255 → length (given_back_items k held exit) ≤ 255
+    (k : ℕ) (held given : List Val) → (length held - k) + length given ≤ 255 → length (given_back_items k held given) ≤ 255
 unfolding given_back_items
-given_back_few k held exit few =
+given_back_few k held given few =
     let count = waiting-length k held in
-    let all = length-append (waiting k held) (map without_origin exit) in
-    let exits = length-map exit without_origin in
+    let all = length-append (waiting k held) given in
     omega arith
 
 pub given_back_fits :
-    (k : ℕ) (held exit : List Val) → 255 < (length held - k) + length exit → 255 < length (given_back_items k held exit)
+    (k : ℕ) (held given : List Val) → 255 < (length held - k) + length given → 255 < length (given_back_items k held given)
 unfolding given_back_items
-given_back_fits k held exit many =
+given_back_fits k held given many =
     let count = waiting-length k held in
-    let all = length-append (waiting k held) (map without_origin exit) in
-    let exits = length-map exit without_origin in
+    let all = length-append (waiting k held) given in
+    omega arith
+
+-- given back as something else each, they are as many
+pub given_back-count :
+    (k : ℕ) (held exit : List Val) (f : Val → Val) → length (given_back_items k held (map f exit)) ≡ length (given_back_items k held exit)
+unfolding given_back_items
+given_back-count k held exit f =
+    let all = length-append (waiting k held) exit in
+    let other = length-append (waiting k held) (map f exit) in
+    let same = length-map exit f in
     omega arith

@@ -4,18 +4,22 @@ use Rattle.std.specs.List.{list_any, list_all}
 use Rattle.gb_ops.specs.declared.registers.Registers.{Registers}
 use Rattle.gb_domain.specs.declared.types.Origin.TheVariants as origin
 use Rattle.gb_domain.specs.declared.types.Val.{Val}
+use Rattle.gb_domain.specs.declared.types.Cell.{Cell}
 use Rattle.gb_domain.specs.declared.types.Core.{Core}
 use Rattle.gb_domain.specs.declared.types.Range.{Range}
 use Rattle.gb_domain.specs.declared.rules.Rules.{Rules}
 use Rattle.gb_domain.specs.declared.rules.Rules.TheVariants.{Simple, Extended}
 use Rattle.gb_domain.specs.declared.setting.Setting.{Setting}
+use Rattle.gb_domain.specs.Limits.{cell_room}
 use Rattle.gb_domain.specs.Settings.{known_base}
 use Rattle.gb_domain.specs.Summaries.{Program, SummaryParts, no_summary}
 use Rattle.gb_domain.specs.Types.{AbsState, ProcedureParts, Node, all_or_none}
 use Rattle.gb_domain.specs.Certificate.{Certificate}
+use Rattle.gb_product.specs.Below.gb_abs.Cells.{with_cell}
 use Rattle.gb_product.specs.Below.gb_abs.Origins.{own, cell_without_origin}
 use Rattle.gb_abs_memory.specs.Access.{is_range}
 use Rattle.gb_product.specs.Covering.{covers}
+use Rattle.gb_calls.specs.Parts.{byte_there}
 use Rattle.gb_calls.specs.TakenOver.{taken_over}
 
 -- ---- entering
@@ -50,14 +54,26 @@ abbrev pub summary_entered : Rules → SummaryParts → SummaryParts
 summary_entered Simple s = no_summary
 summary_entered Extended s = s
 
--- what a procedure begins with that is called in s: each register, the flags and IE are their own origins, the
--- controller is kept, the cells are no copies, what is known together stays, and so does what is said of the whole program
-unfoldable pub entered_by : Rules → ℕ → AbsState → AbsState
-entered_by rules k s =
+-- the byte at a kept address, the one with this number, as s knows it: a copy of what it was as the procedure was entered
+abbrev pub kept_cell : Program → AbsState → ℕ → ℕ → Cell
+kept_cell program s i a = record { address = a; val = own (origin.Kept i) (byte_there program s a) }
+
+-- cells with those of kept addresses, the first of which has the number i: one at the address becomes the copy, else that is put in
+-- its place by address where there is room
+abbrev pub with_kept : Program → Rules → AbsState → ℕ → List ℕ → List Cell → List Cell
+with_kept program rules s i [] cells = cells
+with_kept program rules s i (a ∷ kept) cells =
+    with_kept program rules s (i + 1) kept (with_cell (cell_room rules) (kept_cell program s i a) cells)
+
+-- what a procedure with these kept addresses begins with that is called in s: each register, the flags and IE are their own origins,
+-- the controller is kept, the cells are no copies but for the bytes at these addresses, what is known together stays, and so does
+-- what is said of the whole program
+unfoldable pub entered_by : Program → Rules → ℕ → List ℕ → AbsState → AbsState
+entered_by program rules k kept s =
     record s {
       core = entered_core s.core;
       items = items_entered rules k s.items;
-      cells = map cell_without_origin s.cells;
+      cells = with_kept program rules s 0 kept (map cell_without_origin s.cells);
       summary = summary_entered rules s.summary;
     }
 
@@ -78,19 +94,19 @@ fits_by Extended caller base k n = nat_le k n && is_base_below caller base (n - 
 unfoldable pub fits : Setting → ℕ → ℕ → ℕ → Bool
 fits z base k n = fits_by z.rules (known_base z) base k n
 
--- a procedure with this base and t at its entry may begin where it is called in s
-unfoldable pub may_begin : Program → Setting → AbsState → ℕ → AbsState → Bool
-may_begin program z s base t =
-    fits z base (length t.items) (length s.items) && covers program (entered_by z.rules (length t.items) s) t
+-- a procedure with this base, these kept addresses and t at its entry may begin where it is called in s
+unfoldable pub may_begin : Program → Setting → AbsState → ℕ → List ℕ → AbsState → Bool
+may_begin program z s base kept t =
+    fits z base (length t.items) (length s.items) && covers program (entered_by program z.rules (length t.items) kept s) t
 
 -- the node begins at the address and stands for the states
-abbrev pub is_entry_node : Program → Setting → ℕ → AbsState → ℕ → Option Node → Bool
-is_entry_node program z a s base None = false
-is_entry_node program z a s base (Some n) = (n.address == a) && may_begin program z s base n.state
+abbrev pub is_entry_node : Program → Setting → ℕ → AbsState → ℕ → List ℕ → Option Node → Bool
+is_entry_node program z a s base kept None = false
+is_entry_node program z a s base kept (Some n) = (n.address == a) && may_begin program z s base kept n.state
 
 -- the procedure begins so
 unfoldable pub is_entry : Program → Certificate → Setting → ℕ → AbsState → ProcedureParts → Bool
-is_entry program cert z a s p = is_entry_node program z a s p.base (slice_get cert.nodes p.entry)
+is_entry program cert z a s p = is_entry_node program z a s p.base p.kept (slice_get cert.nodes p.entry)
 
 abbrev pub or_later : Bool → ℕ → Option ℕ → Option ℕ
 or_later true i later = Some i

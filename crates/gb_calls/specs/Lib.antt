@@ -1,5 +1,6 @@
 pub mod Parts
 pub mod TakenOver
+pub mod Told
 pub mod Calls
 pub mod Resuming
 pub mod Interrupts

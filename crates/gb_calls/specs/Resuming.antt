@@ -1,10 +1,9 @@
 -- What a caller goes on with behind a call (own rules: calls).
-use Rattle.std.specs.Prelude.{◌≡◌, ℕ, ◌+◌, ◌*◌, ◌/◌, ◌<◌, Bool, true, false, ◌&&◌, if◌then◌else◌, nat_lt, nat_le, List, [], ◌∷◌, length, map, take, Option, Some, None}
-use Rattle.std.specs.List.{filter, list_any}
+use Rattle.std.specs.Prelude.{◌≡◌, ℕ, ◌+◌, ◌*◌, ◌/◌, ◌<◌, Bool, true, false, not, ◌&&◌, ◌||◌, if◌then◌else◌, nat_lt, nat_le, List, [], ◌∷◌, length, map, take, Option, Some, None}
+use Rattle.std.specs.List.{filter, list_all, list_any}
 use Rattle.gb_ops.specs.declared.machine.Kind.{Kind}
 use Rattle.gb_ops.specs.declared.machine.Kind.TheVariants as kind
 use Rattle.gb_ops.specs.declared.registers.Registers.{Registers}
-use Rattle.gb_domain.specs.declared.types.Origin.{Origin}
 use Rattle.gb_domain.specs.declared.types.Origin.TheVariants as origin
 use Rattle.gb_domain.specs.declared.types.Val.{Val}
 use Rattle.gb_domain.specs.declared.types.Cell.{Cell}
@@ -26,10 +25,12 @@ use Rattle.gb_product.specs.Below.gb_relations.declared.returned.Kept.{Kept}
 use Rattle.gb_product.specs.Below.gb_relations.Compared.{only_of_a}
 use Rattle.gb_product.specs.Below.gb_relations.Returned.{returned}
 use Rattle.gb_product.specs.Below.gb_relations.Transfer.{values_of}
-use Rattle.gb_product.specs.Below.gb_abs.Origins.{without_origin, is_own, cell_without_origin}
+use Rattle.gb_product.specs.Below.gb_abs.Covering.{cell_at}
+use Rattle.gb_product.specs.Below.gb_abs.Origins.{is_own}
 use Rattle.gb_product.specs.Below.gb_abs.Span.{one}
+use Rattle.gb_product.specs.Covering.{values_in}
 use Rattle.gb_product.specs.Below.gb_summaries.declared.returning.GivenBack.{GivenBack}
-use Rattle.gb_product.specs.Below.gb_summaries.Returning.{summary_returned}
+use Rattle.gb_product.specs.Below.gb_summaries.Returning.{is_byte_kept, summary_returned}
 use Rattle.gb_abs_memory.specs.Access.{is_range}
 use Rattle.gb_abs_memory.specs.Windows.{low_bank_least, low_bank_most}
 use Rattle.gb_calls.specs.declared.resuming.Resumed.{Resumed}
@@ -37,22 +38,19 @@ use Rattle.gb_calls.specs.declared.resuming.Resumed.TheVariants.{Nothing, States
 use Rattle.gb_calls.specs.declared.resuming.Return.{Return}
 use Rattle.gb_calls.specs.declared.resuming.Return.TheVariants as return
 use Rattle.gb_calls.specs.TakenOver.{given_back_items}
+use Rattle.gb_calls.specs.Told.{is_left, place_back, val_back, cell_back}
 
 -- ---- the core
 
--- what the callee gives back as it was is the caller's; else its exit says what it is, and that is no copy
-abbrev pub given_back : Origin → Val → Val → Val
-given_back o caller exit = if is_own o exit then caller else without_origin exit
-
-abbrev pub registers_back : Registers Val → Registers Val → Registers Val
-registers_back s x = record {
-  a = given_back origin.A s.a x.a;
-  b = given_back origin.B s.b x.b;
-  c = given_back origin.C s.c x.c;
-  d = given_back origin.D s.d x.d;
-  e = given_back origin.E s.e x.e;
-  h = given_back origin.H s.h x.h;
-  l = given_back origin.L s.l x.l;
+abbrev pub registers_back : Program → Bool → List ℕ → AbsState → Registers Val → Registers Val
+registers_back program whole kept s x = record {
+  a = place_back program whole kept s origin.A x.a;
+  b = place_back program whole kept s origin.B x.b;
+  c = place_back program whole kept s origin.C x.c;
+  d = place_back program whole kept s origin.D x.d;
+  e = place_back program whole kept s origin.E x.e;
+  h = place_back program whole kept s origin.H x.h;
+  l = place_back program whole kept s origin.L x.l;
 }
 
 -- what the caller has kept, where the callee has kept it too
@@ -98,15 +96,15 @@ controller_back k s x = record {
 }
 
 -- interrupts and the bound are the exit's, the stack is the caller's
-abbrev pub core_back : Kind → Core → Core → Core
-core_back k s x = record {
+abbrev pub core_back : Program → Bool → List ℕ → AbsState → Core → Core
+core_back program whole kept s x = record {
   ime = x.ime;
   bound = x.bound;
-  stack_set = s.stack_set;
-  ctl = controller_back k s.ctl x.ctl;
-  flags = if x.flags.is_own then s.flags else x.flags;
-  ie = given_back origin.Ie s.ie x.ie;
-  registers = registers_back s.registers x.registers;
+  stack_set = s.core.stack_set;
+  ctl = controller_back program.kind s.core.ctl x.ctl;
+  flags = if x.flags.is_own then s.core.flags else x.flags;
+  ie = place_back program whole kept s origin.Ie x.ie;
+  registers = registers_back program whole kept s x.registers;
 }
 
 -- ---- cells
@@ -131,14 +129,25 @@ abbrev pub merged : List Cell → List Cell → List Cell
 merged [] others = others
 merged (c ∷ cs) others = merged cs (inserted c others)
 
--- the caller's cells outside the callee's ranges, the exit's inside, which are no copies, by address
-abbrev pub all_cells_back : List Range → List Cell → List Cell → List Cell
-all_cells_back ranges caller exit =
-    merged (map cell_without_origin (filter (is_in_ranges ranges) exit)) (filter (is_out_of_ranges ranges) caller)
+-- the caller's cells outside the callee's ranges, and the exit's inside, each as it is given back, by address
+abbrev pub all_cells_back : (Cell → Cell) → List Range → List Cell → List Cell → List Cell
+all_cells_back given ranges caller exit =
+    merged (map given (filter (is_in_ranges ranges) exit)) (filter (is_out_of_ranges ranges) caller)
 
 -- the first of them, as many as there is room for
-unfoldable pub cells_back : ℕ → List Range → List Cell → List Cell → List Cell
-cells_back room ranges caller exit = take room (all_cells_back ranges caller exit)
+unfoldable pub cells_back : ℕ → (Cell → Cell) → List Range → List Cell → List Cell → List Cell
+cells_back room given ranges caller exit = take room (all_cells_back given ranges caller exit)
+
+-- ---- bytes that are given back
+
+-- those of the kept addresses, the first of which has the number i, at which the exit has a cell with just this copy
+abbrev pub given_from : ℕ → List ℕ → List Cell → List ℕ
+given_from i [] exit = []
+given_from i (a ∷ kept) exit =
+    if is_own (origin.Kept i) (cell_at a exit) then a ∷ given_from (i + 1) kept exit else given_from (i + 1) kept exit
+
+unfoldable pub given_addresses : List ℕ → List Cell → List ℕ
+given_addresses kept exit = given_from 0 kept exit
 
 -- ---- by the rules of versions 1 and 2
 
@@ -147,23 +156,22 @@ abbrev pub byte_back : AbsState → AbsState → OneByte
 byte_back s x =
     if is_own origin.A x.core.registers.a && x.core.flags.is_own then only_of_a s.relations.byte else no_byte
 
--- the caller holds what it held, its cells and a comparison of A as far as they are kept; of the controller's kind nothing is known
+-- nothing is known of the whole program, nor of the controller's kind
+abbrev pub unknown_program : Program
+unknown_program = record { kind = kind.Rom; facts = [] }
+
+-- the caller holds what it held, its cells and a comparison of A as far as they are kept
 unfoldable pub resumed_alone : List Range → AbsState → AbsState → AbsState
 resumed_alone ranges s x =
     record {
-      core = core_back kind.Rom s.core x.core;
+      core = core_back unknown_program false [] s x.core;
       items = s.items;
-      cells = cells_back (cell_room Simple) ranges s.cells x.cells;
+      cells = cells_back (cell_room Simple) (cell_back unknown_program false [] s) ranges s.cells x.cells;
       relations = record no_relations { byte = byte_back s x };
       summary = no_summary;
     }
 
 -- ---- by the rules of version 3
-
--- the address among the places of the caller's byte, if there is one, lies outside the callee's ranges
-abbrev pub is_address_kept : List Range → Option ℕ → Bool
-is_address_kept ranges None = true
-is_address_kept ranges (Some a) = if is_address_in ranges a then false else true
 
 abbrev pub own_by_register : Registers Val → Registers Bool
 own_by_register r = record {
@@ -176,34 +184,38 @@ own_by_register r = record {
   l = is_own origin.L r.l;
 }
 
--- what a callee with these ranges and this exit gives back as it was, of what the caller's byte b and its pairs read
-abbrev pub kept_by : List Range → OneByte → Core → Kept
-kept_by ranges b exit =
-    record { registers = own_by_register exit.registers; flags = exit.flags.is_own; address = is_address_kept ranges b.address }
+-- what a callee with these ranges and this exit gives back as it was, and the bytes at these addresses, of what the caller's byte b
+-- and its pairs read
+abbrev pub kept_by : List Range → List ℕ → OneByte → Core → Kept
+kept_by ranges addresses b exit = record {
+  registers = own_by_register exit.registers;
+  flags = exit.flags.is_own;
+  address = is_byte_kept ranges addresses b.address;
+}
 
 -- what a callee with this exit gives back as it was, of what is said of the whole program
 abbrev pub given_by : Core → GivenBack
 given_by exit = record { registers = own_by_register exit.registers; banks = exit.ctl.kept }
 
--- a state holds all of the cells
+-- a state holds all of the cells: the caller's outside the callee's ranges, and the exit's inside
 abbrev pub has_room : List Range → List Cell → List Cell → Bool
-has_room ranges caller exit = nat_le (length (all_cells_back ranges caller exit)) 64
+has_room ranges caller exit = nat_le (length (filter (is_out_of_ranges ranges) caller) + length (filter (is_in_ranges ranges) exit)) 64
 
 -- what is said of the whole program on either side, as far as it holds where the callee returns
-unfoldable pub summary_back : Program → List Range → AbsState → AbsState → SummaryParts
-summary_back program ranges s x =
-    summary_returned program ranges (given_by x.core) [] (values_of s.core.registers s.relations.pairs) s.cells s.summary x.cells x.summary
-    (has_room ranges s.cells x.cells) (cells_back (cell_room Extended) ranges s.cells x.cells)
+unfoldable pub summary_back : Program → Bool → List Range → List ℕ → AbsState → AbsState → SummaryParts
+summary_back program whole ranges kept s x =
+    summary_returned program ranges (given_by x.core) (given_addresses kept x.cells) (values_in s) s.cells s.summary x.cells x.summary
+    (has_room ranges s.cells x.cells) (cells_back (cell_room Extended) (cell_back program whole kept s) ranges s.cells x.cells)
 
 -- the caller's waiting items and the exit's behind them, what is known together on either side, and what is said of the whole program
-unfoldable pub rejoined : Program → ℕ → List Range → AbsState → AbsState → AbsState
-rejoined program k ranges s x =
+unfoldable pub rejoined : Program → Bool → ℕ → List Range → List ℕ → AbsState → AbsState → AbsState
+rejoined program whole k ranges kept s x =
     record {
-      core = core_back program.kind s.core x.core;
-      items = given_back_items k s.items x.items;
-      cells = cells_back (cell_room Extended) ranges s.cells x.cells;
-      relations = returned (kept_by ranges s.relations.byte x.core) s.relations x.relations;
-      summary = summary_back program ranges s x;
+      core = core_back program whole kept s x.core;
+      items = given_back_items k s.items (map (val_back program whole kept s) x.items);
+      cells = cells_back (cell_room Extended) (cell_back program whole kept s) ranges s.cells x.cells;
+      relations = returned (kept_by ranges (given_addresses kept x.cells) s.relations.byte x.core) s.relations x.relations;
+      summary = summary_back program whole ranges kept s x;
     }
 
 abbrev pub with_values : AbsState → Values → AbsState
@@ -217,13 +229,36 @@ with_values_if s (Some v) = Some (with_values s v)
 unfoldable pub reduced_state : AbsState → Option AbsState
 reduced_state s = with_values_if s (reduced (values_of s.core.registers s.relations.pairs))
 
--- ---- by either
+-- ---- by those of version 4
 
--- what the caller goes on with that was in s, in a program, where the callee has these ranges, began with k items and left by the
--- exit x; none where nothing is meant
-unfoldable pub resumed : Program → Rules → ℕ → List Range → AbsState → AbsState → Option AbsState
-resumed program Simple k ranges s x = Some (resumed_alone ranges s x)
-resumed program Extended k ranges s x = reduced_state (rejoined program k ranges s x)
+abbrev pub are_registers_left : Program → List ℕ → AbsState → Registers Val → Bool
+are_registers_left program kept s x =
+    is_left program kept s x.a && is_left program kept s x.b && is_left program kept s x.c && is_left program kept s x.d
+    && is_left program kept s x.e && is_left program kept s x.h && is_left program kept s x.l
+
+-- a cell isn't given back, or something is left of its value
+abbrev pub is_cell_left : Program → List ℕ → List Range → AbsState → Cell → Bool
+is_cell_left program kept ranges s c = not (is_in_ranges ranges c) || is_left program kept s c.val
+
+-- of each of the exit's values that the caller gets something is left
+unfoldable pub are_all_left : Program → List ℕ → List Range → AbsState → AbsState → Bool
+are_all_left program kept ranges s x =
+    are_registers_left program kept s x.core.registers && is_left program kept s x.core.ie && list_all (is_left program kept s) x.items
+    && list_all (is_cell_left program kept ranges s) x.cells
+
+-- versions 1 to 3 ask for nothing
+abbrev pub is_something : Program → Bool → List ℕ → List Range → AbsState → AbsState → Bool
+is_something program false kept ranges s x = true
+is_something program true kept ranges s x = are_all_left program kept ranges s x
+
+-- ---- by all rules; those of version 4 know the whole program
+
+-- what the caller goes on with that was in s, in a program, where the callee has these ranges and kept addresses, began with k items
+-- and left by the exit x; none where nothing is meant
+unfoldable pub resumed : Program → Rules → Bool → ℕ → List Range → List ℕ → AbsState → AbsState → Option AbsState
+resumed program Simple whole k ranges kept s x = Some (resumed_alone ranges s x)
+resumed program Extended whole k ranges kept s x =
+    if is_something program whole kept ranges s x then reduced_state (rejoined program whole k ranges kept s x) else None
 
 -- with more items than any state has
 pub record IsTooDeep (s : Option AbsState) : Type 0 where

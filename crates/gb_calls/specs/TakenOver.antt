@@ -1,5 +1,5 @@
 -- Items that change hands: what a callee takes over of its caller's, and what is given back, in bytes (own rules: calls, version 3).
-use Rattle.std.specs.Prelude.{ℕ, ◌-◌, List, [], ◌∷◌, ◌++◌, length, map, take, drop}
+use Rattle.std.specs.Prelude.{ℕ, ◌-◌, List, [], ◌∷◌, ◌++◌, length, take, drop}
 use Rattle.gb_domain.specs.declared.types.Origin.TheVariants.{ReturnHigh, ReturnLow}
 use Rattle.gb_domain.specs.declared.types.Val.{Val}
 use Rattle.gb_product.specs.Below.gb_abs.Origins.{own, without_origin}
@@ -27,6 +27,6 @@ taken_over k items = returning (newest k items)
 abbrev pub base_below : ℕ → List Val → ℕ → ℕ
 base_below k items base = base - (length items - k)
 
--- what a caller goes on with whose callee left with items of its own
+-- what a caller goes on with whose callee left with items of its own, which are given back
 unfoldable pub given_back_items : ℕ → List Val → List Val → List Val
-given_back_items k items exit = waiting k items ++ map without_origin exit
+given_back_items k items given = waiting k items ++ given

@@ -6,6 +6,7 @@ ghost use Rattle.gb_calls.specs.Calls as Calls;
 
 use crate::covering::covers_states;
 use crate::entering::enter_in;
+use arrayvec::ArrayVec;
 use gb_cert::{Cert, ProcedureRef, StateRef};
 use gb_domain::types::{Abs, Rules, Setting};
 use gb_product::{Program, States};
@@ -35,37 +36,39 @@ fn fits(setting: Setting, base: u16, count: usize, held: usize) -> bool
     }
 }
 
-/// Whether a state at a procedure's entry stands for what one begins with that takes so many items over of these states. That
-/// is put in the place of other states.
+/// Whether a state at a procedure's entry stands for what one begins with that takes so many items over of these states, and names these
+/// addresses to be kept. That is put in the place of other states.
 fn covers_entered(
     program: &Program<'_>,
     rules: Rules,
     count: u8,
+    kept: &ArrayVec<u16, 16>,
     state: &Abs,
     entry: &StateRef<'_>,
     room: &mut Abs,
 ) -> bool
-    ensures { result ≡ covers program.now (Calls.entered_by rules count state.now) entry.now }
+    ensures { result ≡ covers program.now (Calls.entered_by program.now rules count kept.now.items state.now) entry.now }
 {
-    enter_in(rules, count, state, room);
+    enter_in(program, rules, count, kept, state, room);
     covers_states(program, &States::of(room), entry)
 }
 
-/// Whether a procedure with this base and this state at its entry may begin where it is called in these states.
+/// Whether a procedure with this base, these kept addresses and this state at its entry may begin where it is called in these states.
 #[tactic(auto, unfolding(crate::specs::Calls::may_begin))]
 fn may_begin(
     program: &Program<'_>,
     setting: Setting,
     state: &Abs,
     base: u16,
+    kept: &ArrayVec<u16, 16>,
     entry: &StateRef<'_>,
     room: &mut Abs,
 ) -> bool
-    ensures { result ≡ Calls.may_begin program.now setting state.now base entry.now }
+    ensures { result ≡ Calls.may_begin program.now setting state.now base kept.now.items entry.now }
 {
     let count = entry.item_count();
     fits(setting, base, usize::from(count), state.items().len())
-        && covers_entered(program, setting.rules, count, state, entry, room)
+        && covers_entered(program, setting.rules, count, kept, state, entry, room)
 }
 
 /// Whether a procedure begins at the address, in a state that stands for these. The state is decoded only where
@@ -93,6 +96,7 @@ fn is_entry(
             setting,
             state,
             procedure.base(),
+            &procedure.kept(),
             &node.lent(),
             room,
         )

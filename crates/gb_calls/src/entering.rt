@@ -1,15 +1,19 @@
 //! What a procedure begins with.
 
 ghost use Rattle.std.specs.Prelude.{◌≡◌, ◌≤◌, ◌+◌, ◌++◌, length, map};
+ghost use Rattle.gb_domain.specs.Limits.{cell_room};
 ghost use Rattle.gb_domain.specs.Summaries.{no_summary};
+ghost use Rattle.gb_product.specs.Below.gb_abs.Cells.{with_cell};
 ghost use Rattle.gb_product.specs.Below.gb_abs.Origins as Origins;
 ghost use Rattle.gb_calls.specs.Calls as Calls;
 ghost use Rattle.gb_calls.specs.Sound.{IsSoundEntering};
 ghost use Rattle.gb_calls.specs.TakenOver as TakenOver;
 
+use crate::told::byte_there;
+use arrayvec::ArrayVec;
 use gb_domain::types::{Abs, Cell, Core, Ctl, Flg, KeptBanks, Origin, Rules, Val};
 use gb_ops::registers::Registers;
-use gb_product::{cell_without_origin, own, without_origin};
+use gb_product::{Program, cell_without_origin, own, with_cell, without_origin};
 
 /// Each register is a copy of what it held at entry.
 fn own_registers(registers: &Registers<Val>) -> Registers<Val>
@@ -95,6 +99,36 @@ fn append_cells(cells: &[Cell], state: &mut Abs)
     }
 }
 
+/// The state gets a cell for the kept address with a number, whose byte another state knows: a copy of what it was at entry.
+fn put_kept_cell(
+    program: &Program<'_>,
+    rules: Rules,
+    state: &Abs,
+    number: u8,
+    address: u16,
+    entered: &mut Abs,
+)
+    ensures { entered.new ≡ record entered.old { cells = with_cell (cell_room rules) (Calls.kept_cell program.now state.now number address) entered.old.cells } }
+{
+    let val = own(Origin::Kept(number), byte_there(program, state, address));
+    *entered = with_cell(rules, entered, address, val);
+}
+
+/// The state gets a cell for each kept address, as far as there is room.
+fn put_kept(
+    program: &Program<'_>,
+    rules: Rules,
+    state: &Abs,
+    kept: &ArrayVec<u16, 16>,
+    entered: &mut Abs,
+)
+    ensures { entered.new ≡ record entered.old { cells = Calls.with_kept program.now rules state.now 0 kept.now.items entered.old.cells } }
+{
+    for (number, address) in kept.as_slice().iter().enumerate() {
+        put_kept_cell(program, rules, state, number as u8, *address, entered);
+    }
+}
+
 /// The state says of the whole program what another one does: by the rules of versions 1 and 2 that is nothing, as it does before.
 fn put_summary(rules: Rules, state: &Abs, entered: &mut Abs)
     requires { entered.old.summary ≡ no_summary }
@@ -108,34 +142,55 @@ fn put_summary(rules: Rules, state: &Abs, entered: &mut Abs)
 
 /// The state with which a procedure begins, in the place of another one.
 #[tactic(auto, unfolding(crate::specs::Calls::entered_by))]
-fn put_entered(rules: Rules, count: u8, state: &Abs, entered: &mut Abs)
-    ensures { entered.new ≡ Calls.entered_by rules count state.now }
+fn put_entered(
+    program: &Program<'_>,
+    rules: Rules,
+    count: u8,
+    kept: &ArrayVec<u16, 16>,
+    state: &Abs,
+    entered: &mut Abs,
+)
+    ensures { entered.new ≡ Calls.entered_by program.now rules count kept.now.items state.now }
 {
     entered.set_plain(entered_core(state.core()));
     entered.set_relations(*state.relations());
     append_entered(rules, count, state.items(), entered);
     append_cells(state.cells(), entered);
+    put_kept(program, rules, state, kept, entered);
     put_summary(rules, state, entered);
 }
 
 /// Does what `enter` does, in the place of other states.
 #[tactic(auto, using(crate::proofs::EnteringLaws::enter_sound))]
-pub fn enter_in(rules: Rules, count: u8, state: &Abs, entered: &mut Abs)
-    ensures exact { entered.new ≡ Calls.entered_by rules count state.now }
-    ensures sound { IsSoundEntering rules count state.now entered.new }
+pub fn enter_in(
+    program: &Program<'_>,
+    rules: Rules,
+    count: u8,
+    kept: &ArrayVec<u16, 16>,
+    state: &Abs,
+    entered: &mut Abs,
+)
+    ensures exact { entered.new ≡ Calls.entered_by program.now rules count kept.now.items state.now }
+    ensures sound { IsSoundEntering program.now rules count kept.now.items state.now entered.new }
 {
-    put_entered(rules, count, state, entered);
+    put_entered(program, rules, count, kept, state, entered);
 }
 
-/// What a procedure begins with that is called in these states, and whose entry node has so many items (abstract
-/// interpretation: calls; own). What it holds is its own. By the rules of versions 1 and 2 no byte is pushed, the return
-/// word stands at its base; by those of version 3 it takes over its caller's newest items, the return word the last two
-/// of them.
-pub fn enter(rules: Rules, count: u8, state: &Abs) -> Abs
-    ensures exact { result ≡ Calls.entered_by rules count state.now }
-    ensures sound { IsSoundEntering rules count state.now result }
+/// What a procedure begins with that is called in these states of a program, whose entry node has so many items, and which names these
+/// addresses to be kept (abstract interpretation: calls; own). What it holds is its own. By the rules of versions 1 and 2 no byte is
+/// pushed, the return word stands at its base; by those of version 3 it takes over its caller's newest items, the return word the last
+/// two of them.
+pub fn enter(
+    program: &Program<'_>,
+    rules: Rules,
+    count: u8,
+    kept: &ArrayVec<u16, 16>,
+    state: &Abs,
+) -> Abs
+    ensures exact { result ≡ Calls.entered_by program.now rules count kept.now.items state.now }
+    ensures sound { IsSoundEntering program.now rules count kept.now.items state.now result }
 {
     let mut entered = Abs::new(*state.core());
-    enter_in(rules, count, state, &mut entered);
+    enter_in(program, rules, count, kept, state, &mut entered);
     entered
 }

@@ -9,8 +9,11 @@
 //! item of the caller's. By those of version 3 it is two items; the callee takes over the caller's newest, as many as its
 //! entry node has, the others wait, and what its exit holds is the caller's again.
 //!
-//! Read `entering` and `callees`, then `ranges`, `cells`, `resuming` and `interrupts`. Of the definitions, `TakenOver`,
-//! `Calls`, `Resuming`, `Interrupts` and `Sound`.
+//! By those of version 4 a procedure names addresses whose bytes are to be kept. A callee begins with copies of them, and what its
+//! exit says is a copy is to the caller what the caller's own state says of what it is a copy of.
+//!
+//! Read `entering` and `callees`, then `ranges`, `told`, `cells`, `resuming` and `interrupts`. Of the definitions, `TakenOver`,
+//! `Calls`, `Told`, `Resuming`, `Interrupts` and `Sound`.
 #![tactic(auto)]
 
 pub mod callees;
@@ -21,6 +24,7 @@ mod in_bytes;
 pub mod interrupts;
 pub mod ranges;
 pub mod resuming;
+mod told;
 
 pub use resuming::{Resumed, Return};
 
@@ -28,6 +32,7 @@ pub use resuming::{Resumed, Return};
 pub use gb_cert::{
     AnyCert, Cert, CertFault, Found, NodeRef, ProcedureRef, StateRef, begins_fourth, test_alone,
 };
+pub use gb_domain::low_bits::are_congruent;
 pub use gb_domain::summary::{BankShadows, Shadows, Summary};
 pub use gb_product::covering::{covers_relations, covers_said};
-pub use gb_product::{States, byte_of};
+pub use gb_product::{States, byte_of, with_cell};

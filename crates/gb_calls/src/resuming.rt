@@ -1,14 +1,17 @@
 //! What a caller goes on with.
 
 ghost use Rattle.std.specs.Prelude.{◌≡◌, ◌+◌, ◌≤◌, ◌<◌, ◌++◌, true, false, length, map};
+ghost use Rattle.std.specs.List.{list_all};
 ghost use Rattle.gb_domain.specs.declared.rules.Rules.TheVariants.{Extended};
 ghost use Rattle.gb_domain.specs.Limits.{cell_room};
-ghost use Rattle.gb_product.specs.Below.gb_abs.Origins as Origins;
 ghost use Rattle.gb_calls.specs.Resuming as Resuming;
 ghost use Rattle.gb_calls.specs.Sound.{IsSoundResuming, ReducesSoundly};
 ghost use Rattle.gb_calls.specs.TakenOver as TakenOver;
+ghost use Rattle.gb_calls.specs.Told as Told;
 
-use crate::cells::{cells_back, has_room, is_address_in};
+use crate::cells::{cells_back, given_addresses, has_room, is_in_ranges};
+use crate::told::{Caller, is_left, place_back, val_back};
+use arrayvec::ArrayVec;
 use gb_abs_memory::windows::low_ends;
 use gb_domain::places::OneByte;
 use gb_domain::relations::Relations;
@@ -17,8 +20,8 @@ use gb_domain::types::{Abs, Cell, Core, Ctl, KeptBanks, Origin, Range, Rules, Va
 use gb_ops::machine::Kind;
 use gb_ops::registers::Registers;
 use gb_product::{
-    GivenBack, Kept, KnownRam, Program, Values, is_own, only_of_a, reduce, returned,
-    summary_returned, without_origin,
+    GivenBack, Kept, KnownRam, Program, Values, is_byte_kept, is_own, only_of_a, reduce, returned,
+    summary_returned,
 };
 
 /// The most items that a state holds by any rules.
@@ -45,28 +48,17 @@ pub enum Return {
     TooDeep,
 }
 
-/// What the callee gives back as it was is the caller's; else its exit says what it is, and that is no copy.
-fn given_back(origin: Origin, caller: Val, exit: Val) -> Val
-    ensures { result ≡ Resuming.given_back origin caller exit }
-{
-    if is_own(origin, exit) {
-        caller
-    } else {
-        without_origin(exit)
-    }
-}
-
-fn registers_back(caller: &Registers<Val>, exit: &Registers<Val>) -> Registers<Val>
-    ensures { result ≡ Resuming.registers_back caller.now exit.now }
+fn registers_back(caller: &Caller<'_>, exit: &Registers<Val>) -> Registers<Val>
+    ensures { result ≡ Resuming.registers_back caller.now.program.now caller.now.is_whole caller.now.kept.now.items caller.now.state.now exit.now }
 {
     Registers {
-        a: given_back(Origin::A, caller.a, exit.a),
-        b: given_back(Origin::B, caller.b, exit.b),
-        c: given_back(Origin::C, caller.c, exit.c),
-        d: given_back(Origin::D, caller.d, exit.d),
-        e: given_back(Origin::E, caller.e, exit.e),
-        h: given_back(Origin::H, caller.h, exit.h),
-        l: given_back(Origin::L, caller.l, exit.l),
+        a: place_back(caller, Origin::A, exit.a),
+        b: place_back(caller, Origin::B, exit.b),
+        c: place_back(caller, Origin::C, exit.c),
+        d: place_back(caller, Origin::D, exit.d),
+        e: place_back(caller, Origin::E, exit.e),
+        h: place_back(caller, Origin::H, exit.h),
+        l: place_back(caller, Origin::L, exit.l),
     }
 }
 
@@ -141,22 +133,30 @@ fn controller_back(kind: Kind, caller: &Ctl, exit: &Ctl) -> Ctl
     }
 }
 
-/// IME and the bound are the exit's, the stack is the caller's; the rest is the caller's where it is given back.
-fn core_back(kind: Kind, caller: &Core, exit: &Core) -> Core
-    ensures { result ≡ Resuming.core_back kind caller.now exit.now }
+/// The controller that states may speak of.
+fn known_kind(program: &Program<'_>) -> Kind
+    ensures { result ≡ program.now.kind }
 {
+    program.kind
+}
+
+/// IME and the bound are the exit's, the stack is the caller's; the rest is the caller's where it is given back.
+fn core_back(caller: &Caller<'_>, exit: &Core) -> Core
+    ensures { result ≡ Resuming.core_back caller.now.program.now caller.now.is_whole caller.now.kept.now.items caller.now.state.now exit.now }
+{
+    let called = caller.state.core();
     Core {
         ime: exit.ime,
         bound: exit.bound,
-        stack_set: caller.stack_set,
-        ctl: controller_back(kind, &caller.ctl, &exit.ctl),
+        stack_set: called.stack_set,
+        ctl: controller_back(known_kind(caller.program), &called.ctl, &exit.ctl),
         flags: if exit.flags.is_own {
-            caller.flags
+            called.flags
         } else {
             exit.flags
         },
-        ie: given_back(Origin::Ie, caller.ie, exit.ie),
-        registers: registers_back(&caller.registers, &exit.registers),
+        ie: place_back(caller, Origin::Ie, exit.ie),
+        registers: registers_back(caller, &exit.registers),
     }
 }
 
@@ -170,13 +170,13 @@ fn append_items(items: &[Val], state: &mut Abs)
     }
 }
 
-/// The state gets these items more, no copies. There must be room.
-fn append_without_origins(items: &[Val], state: &mut Abs)
+/// The state gets these items of an exit more, as they are given back. There must be room.
+fn append_vals_back(caller: &Caller<'_>, items: &[Val], state: &mut Abs)
     requires { length state.old.items + length items.now ≤ 255 }
-    ensures { state.new ≡ record state.old { items = state.old.items ++ map Origins.without_origin items.now } }
+    ensures { state.new ≡ record state.old { items = state.old.items ++ map (Told.val_back caller.now.program.now caller.now.is_whole caller.now.kept.now.items caller.now.state.now) items.now } }
 {
     for item in items {
-        state.push_item(without_origin(*item));
+        state.push_item(val_back(caller, *item));
     }
 }
 
@@ -199,26 +199,24 @@ fn byte_back(caller: &Abs, exit: &Abs) -> OneByte
 fn put_alone(ranges: &[Range], state: &Abs, exit: &Abs, resumed: &mut Abs)
     ensures { resumed.new ≡ Resuming.resumed_alone ranges.now state.now exit.now }
 {
-    resumed.set_plain(core_back(Kind::Rom, state.core(), exit.core()));
+    let program = Program::unknown();
+    let kept = ArrayVec::new();
+    let caller = Caller {
+        program: &program,
+        is_whole: false,
+        kept: &kept,
+        state,
+    };
+    resumed.set_plain(core_back(&caller, exit.core()));
     resumed.set_relations(Relations {
         byte: byte_back(state, exit),
         ..Relations::default()
     });
     append_items(state.items(), resumed);
-    resumed.set_cells(cells_back(Rules::Simple, ranges, state.cells(), exit.cells()));
+    resumed.set_cells(cells_back(Rules::Simple, &caller, ranges, exit.cells()));
 }
 
 // ---- by the rules of version 3
-
-/// Whether the address among the places of the caller's byte, if there is one, lies outside the callee's ranges.
-fn is_address_kept(ranges: &[Range], address: Option<u16>) -> bool
-    ensures { result ≡ Resuming.is_address_kept ranges.now address }
-{
-    match address {
-        None => true,
-        Some(address) => !is_address_in(ranges, address),
-    }
-}
 
 fn own_by_register(registers: &Registers<Val>) -> Registers<bool>
     ensures { result ≡ Resuming.own_by_register registers.now }
@@ -234,14 +232,14 @@ fn own_by_register(registers: &Registers<Val>) -> Registers<bool>
     }
 }
 
-/// What a callee gives back as it was, of what the caller's byte and its pairs read.
-fn kept_by(ranges: &[Range], byte: &OneByte, exit: &Core) -> Kept
-    ensures { result ≡ Resuming.kept_by ranges.now byte.now exit.now }
+/// What a callee gives back as it was, and the bytes at these addresses, of what the caller's byte and its pairs read.
+fn kept_by(ranges: &[Range], addresses: &[u16], byte: &OneByte, exit: &Core) -> Kept
+    ensures { result ≡ Resuming.kept_by ranges.now addresses.now byte.now exit.now }
 {
     Kept {
         registers: own_by_register(&exit.registers),
         flags: exit.flags.is_own,
-        address: is_address_kept(ranges, byte.address),
+        address: is_byte_kept(ranges, addresses, byte.address),
     }
 }
 
@@ -258,20 +256,22 @@ fn given_by(exit: &Core) -> GivenBack
 /// What is said of the whole program where the callee returns; the cells are those there.
 #[tactic(auto, unfolding(crate::specs::Resuming::summary_back))]
 fn said_back(
-    program: &Program<'_>,
+    caller: &Caller<'_>,
     ranges: &[Range],
-    state: &Abs,
+    addresses: &[u16],
     exit: &Abs,
     cells: &[Cell],
 ) -> Summary
-    requires { cells.now ≡ Resuming.cells_back (cell_room Extended) ranges.now state.now.cells exit.now.cells }
-    ensures { result ≡ Resuming.summary_back program.now ranges.now state.now exit.now }
+    requires addresses { addresses.now ≡ Resuming.given_addresses caller.now.kept.now.items exit.now.cells }
+    requires cells { cells.now ≡ Resuming.cells_back (cell_room Extended) (Told.cell_back caller.now.program.now caller.now.is_whole caller.now.kept.now.items caller.now.state.now) ranges.now caller.now.state.now.cells exit.now.cells }
+    ensures { result ≡ Resuming.summary_back caller.now.program.now caller.now.is_whole ranges.now caller.now.kept.now.items caller.now.state.now exit.now }
 {
+    let (program, state) = (caller.program, caller.state);
     let values = Values {
         registers: state.core().registers,
         pairs: state.relations().pairs,
     };
-    let caller = KnownRam {
+    let before = KnownRam {
         cells: state.cells(),
         summary: state.summary(),
     };
@@ -279,15 +279,15 @@ fn said_back(
         cells: exit.cells(),
         summary: exit.summary(),
     };
-    let has_room = has_room(ranges, caller.cells, last.cells);
+    let has_room = has_room(ranges, before.cells, last.cells);
     summary_returned(
         program.kind,
         program.facts,
         ranges,
         &given_by(exit.core()),
-        &[],
+        addresses,
         &values,
-        &caller,
+        &before,
         &last,
         has_room,
         cells,
@@ -297,32 +297,33 @@ fn said_back(
 /// The same, at once where nothing is said on either side.
 #[tactic(auto, using(crate::proofs::SummaryBackLaws::silent_back))]
 fn summary_back(
-    program: &Program<'_>,
+    caller: &Caller<'_>,
     ranges: &[Range],
-    state: &Abs,
+    addresses: &[u16],
     exit: &Abs,
     cells: &[Cell],
 ) -> Summary
-    requires { cells.now ≡ Resuming.cells_back (cell_room Extended) ranges.now state.now.cells exit.now.cells }
-    ensures { result ≡ Resuming.summary_back program.now ranges.now state.now exit.now }
+    requires addresses { addresses.now ≡ Resuming.given_addresses caller.now.kept.now.items exit.now.cells }
+    requires cells { cells.now ≡ Resuming.cells_back (cell_room Extended) (Told.cell_back caller.now.program.now caller.now.is_whole caller.now.kept.now.items caller.now.state.now) ranges.now caller.now.state.now.cells exit.now.cells }
+    ensures { result ≡ Resuming.summary_back caller.now.program.now caller.now.is_whole ranges.now caller.now.kept.now.items caller.now.state.now exit.now }
 {
-    if state.summary().is_silent() && exit.summary().is_silent() {
+    if caller.state.summary().is_silent() && exit.summary().is_silent() {
         Summary::none()
     } else {
-        said_back(program, ranges, state, exit, cells)
+        said_back(caller, ranges, addresses, exit, cells)
     }
 }
 
 /// The state gets a caller's waiting items more, the callee having taken over so many, and those of its exit behind them.
 /// There must be room for them.
 #[tactic(auto, unfolding(crate::specs::TakenOver::given_back_items))]
-fn append_given_back(count: u8, held: &[Val], exit: &[Val], state: &mut Abs)
+fn append_given_back(caller: &Caller<'_>, count: u8, held: &[Val], exit: &[Val], state: &mut Abs)
     requires { length state.old.items + length (TakenOver.given_back_items count held.now exit.now) ≤ 255 }
-    ensures { state.new ≡ record state.old { items = state.old.items ++ TakenOver.given_back_items count held.now exit.now } }
+    ensures { state.new ≡ record state.old { items = state.old.items ++ TakenOver.given_back_items count held.now (map (Told.val_back caller.now.program.now caller.now.is_whole caller.now.kept.now.items caller.now.state.now) exit.now) } }
 {
     let waiting = held.len().saturating_sub(usize::from(count));
     append_items(&held[..waiting], state);
-    append_without_origins(exit, state);
+    append_vals_back(caller, exit, state);
 }
 
 /// Whether a caller's waiting items, the callee having taken over so many, and those of its exit are more than a state holds.
@@ -336,29 +337,24 @@ fn are_too_many(count: u8, held: &[Val], exit: &[Val]) -> bool
     exit.len() > ITEMS - waiting
 }
 
-/// The controller that states may speak of.
-fn known_kind(program: &Program<'_>) -> Kind
-    ensures { result ≡ program.now.kind }
-{
-    program.kind
-}
-
 /// What a caller goes on with, in the place of other states: its waiting items and the exit's behind them, and what is known
 /// together on either side, cut to what registers and pairs leave each other.
 #[tactic(auto, unfolding(crate::specs::Resuming::rejoined, crate::specs::Resuming::reduced_state))]
 fn put_rejoined(
-    program: &Program<'_>,
+    caller: &Caller<'_>,
     count: u8,
     ranges: &[Range],
-    state: &Abs,
     exit: &Abs,
     resumed: &mut Abs,
 ) -> Return
-    ensures exact { Resuming.IsResumed (Resuming.resumed_to result resumed.new) (Resuming.reduced_state (Resuming.rejoined program.now count ranges.now state.now exit.now)) }
-    ensures reducing { ReducesSoundly (Resuming.rejoined program.now count ranges.now state.now exit.now) }
+    ensures exact { Resuming.IsResumed (Resuming.resumed_to result resumed.new) (Resuming.reduced_state (Resuming.rejoined caller.now.program.now caller.now.is_whole count ranges.now caller.now.kept.now.items caller.now.state.now exit.now)) }
+    ensures reducing { ReducesSoundly (Resuming.rejoined caller.now.program.now caller.now.is_whole count ranges.now caller.now.kept.now.items caller.now.state.now exit.now) }
 {
-    let kept = kept_by(ranges, &state.relations().byte, exit.core());
-    let mut core = core_back(known_kind(program), state.core(), exit.core());
+    let state = caller.state;
+    let given = given_addresses(caller.kept, exit.cells());
+    let addresses = given.as_slice();
+    let kept = kept_by(ranges, addresses, &state.relations().byte, exit.core());
+    let mut core = core_back(caller, exit.core());
     let mut relations = returned(&kept, state.relations(), exit.relations());
     if !reduce(&mut core.registers, &mut relations.pairs) {
         return Return::Nothing;
@@ -368,69 +364,156 @@ fn put_rejoined(
     }
     resumed.set_plain(core);
     resumed.set_relations(relations);
-    append_given_back(count, state.items(), exit.items(), resumed);
-    let cells = cells_back(Rules::Extended, ranges, state.cells(), exit.cells());
-    resumed.set_summary(summary_back(program, ranges, state, exit, cells.as_slice()));
+    append_given_back(caller, count, state.items(), exit.items(), resumed);
+    let cells = cells_back(Rules::Extended, caller, ranges, exit.cells());
+    resumed.set_summary(summary_back(caller, ranges, addresses, exit, cells.as_slice()));
     resumed.set_cells(cells);
     Return::States
 }
 
-/// Rejoins the caller's state with the callee's exit, and follows what the machine does.
-#[tactic(auto, using(crate::proofs::ResumingLaws::rejoined_sound))]
-fn rejoin(
-    program: &Program<'_>,
+// ---- by the rules of version 4
+
+fn are_registers_left(caller: &Caller<'_>, exit: &Registers<Val>) -> bool
+    ensures { result ≡ Resuming.are_registers_left caller.now.program.now caller.now.kept.now.items caller.now.state.now exit.now }
+{
+    is_left(caller, exit.a)
+        && is_left(caller, exit.b)
+        && is_left(caller, exit.c)
+        && is_left(caller, exit.d)
+        && is_left(caller, exit.e)
+        && is_left(caller, exit.h)
+        && is_left(caller, exit.l)
+}
+
+fn are_items_left(caller: &Caller<'_>, items: &[Val]) -> bool
+    ensures { result ≡ list_all (Told.is_left caller.now.program.now caller.now.kept.now.items caller.now.state.now) items.now }
+{
+    items.iter().all(|item| is_left(caller, *item))
+}
+
+/// Whether a cell isn't given back, or something is left of its value.
+fn is_cell_left(caller: &Caller<'_>, ranges: &[Range], cell: &Cell) -> bool
+    ensures { result ≡ Resuming.is_cell_left caller.now.program.now caller.now.kept.now.items ranges.now caller.now.state.now cell.now }
+{
+    !is_in_ranges(ranges, cell) || is_left(caller, cell.val)
+}
+
+fn are_cells_left(caller: &Caller<'_>, ranges: &[Range], cells: &[Cell]) -> bool
+    ensures { result ≡ list_all (Resuming.is_cell_left caller.now.program.now caller.now.kept.now.items ranges.now caller.now.state.now) cells.now }
+{
+    cells.iter().all(|cell| is_cell_left(caller, ranges, cell))
+}
+
+/// Whether something is left of each of the exit's values that the caller gets.
+#[inline(never)]
+#[tactic(auto, unfolding(crate::specs::Resuming::are_all_left))]
+fn are_all_left(caller: &Caller<'_>, ranges: &[Range], exit: &Abs) -> bool
+    ensures { result ≡ Resuming.are_all_left caller.now.program.now caller.now.kept.now.items ranges.now caller.now.state.now exit.now }
+{
+    are_registers_left(caller, &exit.core().registers)
+        && is_left(caller, exit.core().ie)
+        && are_items_left(caller, exit.items())
+        && are_cells_left(caller, ranges, exit.cells())
+}
+
+/// The same, which versions 1 to 3 don't ask for.
+fn is_something(caller: &Caller<'_>, ranges: &[Range], exit: &Abs) -> bool
+    ensures { result ≡ Resuming.is_something caller.now.program.now caller.now.is_whole caller.now.kept.now.items ranges.now caller.now.state.now exit.now }
+{
+    !caller.is_whole || are_all_left(caller, ranges, exit)
+}
+
+/// What a caller goes on with by the rules of versions 3 and 4, in the place of other states.
+#[tactic(auto, unfolding(crate::specs::Resuming::resumed))]
+fn put_something(
+    caller: &Caller<'_>,
     count: u8,
     ranges: &[Range],
-    state: &Abs,
     exit: &Abs,
     resumed: &mut Abs,
 ) -> Return
-    ensures exact { Resuming.IsResumed (Resuming.resumed_to result resumed.new) (Resuming.reduced_state (Resuming.rejoined program.now count ranges.now state.now exit.now)) }
-    ensures sound { IsSoundResuming program.now Extended count ranges.now state.now exit.now (Resuming.resumed_to result resumed.new) }
+    ensures exact { Resuming.IsResumed (Resuming.resumed_to result resumed.new) (Resuming.resumed caller.now.program.now Extended caller.now.is_whole count ranges.now caller.now.kept.now.items caller.now.state.now exit.now) }
+    ensures reducing { Resuming.is_something caller.now.program.now caller.now.is_whole caller.now.kept.now.items ranges.now caller.now.state.now exit.now ≡ true → ReducesSoundly (Resuming.rejoined caller.now.program.now caller.now.is_whole count ranges.now caller.now.kept.now.items caller.now.state.now exit.now) }
 {
-    put_rejoined(program, count, ranges, state, exit, resumed)
+    if is_something(caller, ranges, exit) {
+        put_rejoined(caller, count, ranges, exit, resumed)
+    } else {
+        Return::Nothing
+    }
 }
 
-// ---- by either
+/// Rejoins the caller's state with the callee's exit, and follows what the machine does.
+#[tactic(auto, using(crate::proofs::ResumingLaws::rejoined_sound))]
+fn rejoin(caller: &Caller<'_>, count: u8, ranges: &[Range], exit: &Abs, resumed: &mut Abs) -> Return
+    ensures exact { Resuming.IsResumed (Resuming.resumed_to result resumed.new) (Resuming.resumed caller.now.program.now Extended caller.now.is_whole count ranges.now caller.now.kept.now.items caller.now.state.now exit.now) }
+    ensures sound { IsSoundResuming caller.now.program.now Extended count ranges.now caller.now.kept.now.items caller.now.state.now exit.now (Resuming.resumed_to result resumed.new) }
+{
+    put_something(caller, count, ranges, exit, resumed)
+}
+
+// ---- by all rules
 
 /// Does what `resume` does, in the place of other states; `Return` says what they are.
 #[tactic(auto, using(crate::proofs::ResumingLaws::resumed_alone_sound), unfolding(crate::specs::Resuming::resumed))]
 pub fn resume_in(
     program: &Program<'_>,
     rules: Rules,
+    is_whole: bool,
     count: u8,
     ranges: &[Range],
+    kept: &ArrayVec<u16, 16>,
     state: &Abs,
     exit: &Abs,
     resumed: &mut Abs,
 ) -> Return
-    ensures exact { Resuming.IsResumed (Resuming.resumed_to result resumed.new) (Resuming.resumed program.now rules count ranges.now state.now exit.now) }
-    ensures sound { IsSoundResuming program.now rules count ranges.now state.now exit.now (Resuming.resumed_to result resumed.new) }
+    ensures exact { Resuming.IsResumed (Resuming.resumed_to result resumed.new) (Resuming.resumed program.now rules is_whole count ranges.now kept.now.items state.now exit.now) }
+    ensures sound { IsSoundResuming program.now rules count ranges.now kept.now.items state.now exit.now (Resuming.resumed_to result resumed.new) }
 {
     match rules {
         Rules::Simple => {
             put_alone(ranges, state, exit, resumed);
             Return::States
         }
-        Rules::Extended => rejoin(program, count, ranges, state, exit, resumed),
+        Rules::Extended => {
+            let caller = Caller {
+                program,
+                is_whole,
+                kept,
+                state,
+            };
+            rejoin(&caller, count, ranges, exit, resumed)
+        }
     }
 }
 
-/// What a caller goes on with in a program that was in these states, where its callee has these ranges, began with so many items and left
-/// by this exit (abstract interpretation: calls; own).
+/// What a caller goes on with in a program that was in these states, where its callee has these ranges and kept addresses, began with so
+/// many items and left by this exit (abstract interpretation: calls; own). Where the rules are of version 4, `is_whole`, what the exit
+/// says is a copy is what the caller's states say of what it is a copy of.
 pub fn resume(
     program: &Program<'_>,
     rules: Rules,
+    is_whole: bool,
     count: u8,
     ranges: &[Range],
+    kept: &ArrayVec<u16, 16>,
     state: &Abs,
     exit: &Abs,
 ) -> Resumed
-    ensures exact { Resuming.IsResumed result (Resuming.resumed program.now rules count ranges.now state.now exit.now) }
-    ensures sound { IsSoundResuming program.now rules count ranges.now state.now exit.now result }
+    ensures exact { Resuming.IsResumed result (Resuming.resumed program.now rules is_whole count ranges.now kept.now.items state.now exit.now) }
+    ensures sound { IsSoundResuming program.now rules count ranges.now kept.now.items state.now exit.now result }
 {
     let mut resumed = Abs::new(*state.core());
-    match resume_in(program, rules, count, ranges, state, exit, &mut resumed) {
+    match resume_in(
+        program,
+        rules,
+        is_whole,
+        count,
+        ranges,
+        kept,
+        state,
+        exit,
+        &mut resumed,
+    ) {
         Return::Nothing => Resumed::Nothing,
         Return::States => Resumed::States(resumed),
         Return::TooDeep => Resumed::TooDeep,

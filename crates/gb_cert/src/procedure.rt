@@ -138,6 +138,14 @@ impl<'a> ProcedureRef<'a> {
         }
     }
 
+    /// The addresses whose bytes are to be kept: none in versions 1 to 3.
+    pub fn kept(&self) -> ArrayVec<u16, 16>
+        ensures { result.items ≡ self.now.kept }
+    {
+        let _entry = self.entry;
+        ArrayVec::new()
+    }
+
     /// In what state it returns, if it does. It takes no memory.
     pub fn exit(&self) -> Option<Abs>
         ensures { result ≡ self.now.exit }

@@ -8,7 +8,7 @@
 pub mod code;
 
 // What lies below, for the crates above.
-pub use gb_abs_memory::load::{holds_bytes, loaded_by};
+pub use gb_abs_memory::load::{holds_bytes, home_of, is_table, loaded_by};
 pub use gb_abs_memory::refusals::{
     is_limited, is_store_limited, meets_closed_ram, store_meets_closed_ram,
 };
@@ -18,5 +18,5 @@ pub use gb_abs_memory::store::{
 };
 pub use gb_abs_memory::{
     Halves, Reason, Rom, Span, any, cell_at, covers_controller, covers_core, covers_ime,
-    covers_may, covers_origin, covers_val, is_ram, known, length_of, settle, with_value,
+    covers_may, covers_origin, covers_val, is_ram, item_at, known, length_of, settle, with_value,
 };

@@ -1,15 +1,16 @@
 -- Cutting keeps exactly the values that it should.
-use Rattle.std.proofs.Common.{◌≡◌, ℕ, ◌+◌, ◌-◌, ◌%◌, ◌^◌, ◌<◌, ◌≤◌, Bool, true, false, ◌==◌, nat_le, cond, Option, Some, None, refl, sym, ◌∙◌, subst, arith}
+use Rattle.std.proofs.Common.{◌≡◌, ℕ, ◌+◌, ◌-◌, ◌%◌, ◌^◌, ◌<◌, ◌≤◌, Bool, true, false, ◌==◌, nat_le, cond, Option, Some, None, refl, sym, ◌∙◌, ap, subst, arith}
 use Rattle.std.proofs.lemmas.Bool.{and_parts, eqb-true}
 use Rattle.std.proofs.lemmas.Bool.Decides.{nat_tests}
 use Rattle.std.specs.Prelude.{min, max, IfSome}
 use Rattle.gb_domain.specs.declared.low_bits.LowBits.{LowBits}
 use Rattle.gb_domain.specs.declared.interval.StridedInterval.{StridedInterval}
-use Rattle.gb_domain.specs.LowBits.{modulus, low_bits, all_of, are_congruent}
-use Rattle.gb_domain.specs.Interval.{low_bits_of, least, greatest, strided, with_low_bits, agree, more, cut, lies_in}
-use Rattle.gb_domain.specs.Meaning.{Has, In, InSome, IsWithin, IsStrided, Leaves, AreIn, AllHave, LiesIn}
+use Rattle.gb_domain.specs.LowBits.{modulus, low_bits, all_of, are_congruent, is_common, common}
+use Rattle.gb_domain.specs.Interval.{bounds, any_byte, low_bits_of, least, greatest, strided, with_low_bits, agree, more, cut, join, lies_in}
+use Rattle.gb_domain.specs.Meaning.{Has, In, InSome, IsWithin, IsStrided, IsOfBytes, Leaves, AreIn, AllHave, LiesIn}
 use Rattle.gb_domain.proofs.ModulusLaws.{each_modulus, Has-low_bits, low_bits-Has, Has-fewer, modulus-eight}
-use Rattle.gb_domain.proofs.LowBitsLaws.{Has-all_of, Has-covered, at_most}
+use Rattle.gb_domain.proofs.LowBitsLaws.{Has-all_of, Has-covered, at_most, common_first, common_second}
+use Rattle.gb_domain.proofs.PassingLaws.{passing_found}
 
 -- ---- the least and the greatest value
 
@@ -327,6 +328,122 @@ cut-strided v w byte = choose (agree (low_bits_of v) (low_bits_of w))
 
 pub cut_strided : (v w : StridedInterval) (o : Option StridedInterval) → o ≡ cut v w → v.hi < 256 → IfSome o IsStrided
 cut_strided v w o e byte = subst (λ r. IfSome r IsStrided) (sym e) (cut-strided v w byte)
+
+-- ---- the least that holds two
+
+Has-least : (v : StridedInterval) → Has (low_bits_of v) v.lo
+unfolding low_bits_of
+Has-least v = choose (v.lo == v.hi)
+  where
+    choose : (b : Bool) → Has (cond b (all_of v.lo) (low_bits v.count v.lo)) v.lo
+    choose true = Has-all_of v.lo
+    choose false = Has-low_bits v.count v.lo v.lo refl
+
+common-few : (j k : LowBits) → min (common j k).count 8 ≡ (common j k).count
+unfolding common low_bits
+common-few j k = omega arith
+
+either_least : (P : ℕ → Type 0) (a b : ℕ) → P a → P b → P (min a b)
+either_least P a b h g = choose (nat_le a b) refl
+  where
+    choose : (t : Bool) → nat_le a b ≡ t → P (min a b)
+    choose true e =
+        let same : a ≡ min a b = grind (arith, nat_tests) in
+        subst P same h
+    choose false e =
+        let same : b ≡ min a b = grind (arith, nat_tests) in
+        subst P same g
+
+either_greatest : (P : ℕ → Type 0) (a b : ℕ) → P a → P b → P (max a b)
+either_greatest P a b h g = choose (nat_le a b) refl
+  where
+    choose : (t : Bool) → nat_le a b ≡ t → P (max a b)
+    choose true e =
+        let same : b ≡ max a b = grind (arith, nat_tests) in
+        subst P same g
+    choose false e =
+        let same : a ≡ max a b = grind (arith, nat_tests) in
+        subst P same h
+
+Has-join : (v w : StridedInterval) → Has (common (low_bits_of v) (low_bits_of w)) (min v.lo w.lo)
+Has-join v w =
+    either_least (Has (common (low_bits_of v) (low_bits_of w))) v.lo w.lo
+    ((common_first (low_bits_of v) (low_bits_of w) _ refl).gives v.lo (Has-least v))
+    ((common_second (low_bits_of v) (low_bits_of w) _ refl).gives w.lo (Has-least w))
+
+In-joined :
+    (v w : StridedInterval) (x : ℕ) → min v.lo w.lo ≤ x → x ≤ max v.hi w.hi → Has (common (low_bits_of v) (low_bits_of w)) x → In (join v w) x
+unfolding join
+In-joined v w x low high h =
+    let k = common (low_bits_of v) (low_bits_of w) in
+    subst (λ n. In (strided (min v.lo w.lo) (max v.hi w.hi) n) x) (common-few (low_bits_of v) (low_bits_of w))
+    (In-strided (min v.lo w.lo) (max v.hi w.hi) k x low high (Has-join v w) h)
+
+pub In-join_first : (v w : StridedInterval) (x : ℕ) → In v x → In (join v w) x
+In-join_first v w x m =
+    let low = m.least in
+    let high = m.most in
+    In-joined v w x (omega arith) (omega arith) ((common_first (low_bits_of v) (low_bits_of w) _ refl).gives x (In-Has v x m))
+
+pub In-join_second : (v w : StridedInterval) (x : ℕ) → In w x → In (join v w) x
+In-join_second v w x m =
+    let low = m.least in
+    let high = m.most in
+    In-joined v w x (omega arith) (omega arith) ((common_second (low_bits_of v) (low_bits_of w) _ refl).gives x (In-Has w x m))
+
+pub join_first : (v w o : StridedInterval) → o ≡ join v w → LiesIn v o
+join_first v w o e = record { gives = λ x m. subst (λ r. In r x) (sym e) (In-join_first v w x m) }
+
+pub join_second : (v w o : StridedInterval) → o ≡ join v w → LiesIn w o
+join_second v w o e = record { gives = λ x m. subst (λ r. In r x) (sym e) (In-join_second v w x m) }
+
+pub IsOfBytes-join : (v w : StridedInterval) → IsOfBytes v → IsOfBytes w → IsOfBytes (join v w)
+unfolding join
+IsOfBytes-join v w h g =
+    let k = common (low_bits_of v) (low_bits_of w) in
+    let order : v.lo ≤ v.hi = h.strided.least.most in
+    let first : v.hi < 256 = h.most in
+    let second : w.hi < 256 = g.most in
+    record {
+      strided = subst (λ n. IsStrided (strided (min v.lo w.lo) (max v.hi w.hi) n)) (common-few (low_bits_of v) (low_bits_of w))
+          (IsStrided-from (min v.lo w.lo) (max v.hi w.hi) k (omega arith) (omega arith) (Has-join v w)
+          (either_greatest (Has k) v.hi w.hi
+          ((common_first (low_bits_of v) (low_bits_of w) _ refl).gives v.hi (In-Has v v.hi h.strided.greatest))
+          ((common_second (low_bits_of v) (low_bits_of w) _ refl).gives w.hi (In-Has w w.hi g.strided.greatest))));
+      most = omega arith;
+    }
+
+pub IsOfBytes-bounds : (lo hi : ℕ) → lo ≤ hi → hi < 256 → IsOfBytes (bounds lo hi)
+IsOfBytes-bounds lo hi order byte =
+    record {
+      strided = record {
+        least = record { least = omega arith; most = order; low = Has-zero lo lo };
+        greatest = record { least = order; most = omega arith; low = Has-zero hi lo };
+        count = omega arith;
+        one = λ e. refl;
+      };
+      most = byte;
+    }
+
+pub IsOfBytes-any : IsOfBytes any_byte
+IsOfBytes-any = IsOfBytes-bounds 0 255 (omega arith) (omega arith)
+
+-- nothing is added to any byte
+no_bit : (k : LowBits) → is_common (low_bits_of any_byte) k 0 ≡ false
+unfolding is_common low_bits_of low_bits
+no_bit k = refl
+
+none_common : (k : LowBits) → (common (low_bits_of any_byte) k).count ≡ 0
+unfolding common low_bits
+none_common k = ap (λ n. min n 8) (passing_found (is_common (low_bits_of any_byte) k) 8 0 (no_bit k))
+
+pub join_any : (w : StridedInterval) → w.hi < 256 → join any_byte w ≡ any_byte
+unfolding join
+join_any w byte =
+    let least : min 0 w.lo ≡ 0 = omega arith in
+    let most : max 255 w.hi ≡ 255 = omega arith in
+    ap (λ lo. strided lo (max 255 w.hi) (common (low_bits_of any_byte) (low_bits_of w)).count) least
+    ∙ (ap (λ hi. strided 0 hi (common (low_bits_of any_byte) (low_bits_of w)).count) most ∙ ap (strided 0 255) (none_common (low_bits_of w)))
 
 -- ---- lying in another one
 

@@ -2,7 +2,7 @@
 use Rattle.std.specs.Prelude.{ℕ, ◌+◌, ◌-◌, ◌%◌, Bool, ◌&&◌, ◌==◌, Option, Some, None, if◌then◌else◌, nat_le, min, max}
 use Rattle.gb_domain.specs.declared.low_bits.LowBits.{LowBits}
 use Rattle.gb_domain.specs.declared.interval.StridedInterval.{StridedInterval}
-use Rattle.gb_domain.specs.LowBits.{modulus, low_bits, all_of, are_congruent, covers}
+use Rattle.gb_domain.specs.LowBits.{modulus, low_bits, all_of, are_congruent, common, covers}
 
 -- all bytes from lo to hi
 abbrev pub bounds : ℕ → ℕ → StridedInterval
@@ -45,6 +45,10 @@ cut v w =
     if agree (low_bits_of v) (low_bits_of w)
     then with_low_bits (max v.lo w.lo) (min v.hi w.hi) (more (low_bits_of v) (low_bits_of w))
     else None
+
+-- the least interval that holds both, with the low bits that all their values have (the join)
+unfoldable pub join : StridedInterval → StridedInterval → StridedInterval
+join v w = strided (min v.lo w.lo) (max v.hi w.hi) (common (low_bits_of v) (low_bits_of w)).count
 
 -- w's bounds hold v's, and what w says of low bits v says too
 unfoldable pub lies_in : StridedInterval → StridedInterval → Bool

@@ -35,6 +35,11 @@ pub record IsStrided (v : StridedInterval) : Type 0 where
   pub count : v.count < 8
   pub one : v.lo ≡ v.hi → v.count ≡ 0
 
+-- they are bytes
+pub record IsOfBytes (v : StridedInterval) : Type 0 where
+  pub strided : IsStrided v
+  pub most : v.hi < 256
+
 abbrev pub InSome : Option StridedInterval → ℕ → Type 0
 InSome None x = ⊥
 InSome (Some v) x = In v x

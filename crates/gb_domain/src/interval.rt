@@ -4,7 +4,7 @@ ghost use Rattle.std.specs.Prelude.{◌≡◌, true, Option, IfSome};
 ghost use Rattle.gb_domain.specs.Interval as Interval;
 ghost use Rattle.gb_domain.specs.Meaning.{AreIn, IsWithin, IsStrided, AllHave, Leaves, LiesIn};
 
-use crate::low_bits::{LowBits, all_of, are_congruent, covers, low_bits, modulus};
+use crate::low_bits::{LowBits, all_of, are_congruent, common, covers, low_bits, modulus};
 
 /// The bytes `lo`, `lo` + 2^`count` and so on to `hi`. Of one byte the count is 0.
 #[derive(Clone, Copy, PartialEq, Eq)]
@@ -52,6 +52,14 @@ fn greatest(hi: u8, known: LowBits) -> u8
     hi.saturating_sub((above % modulus) as u8)
 }
 
+/// Of one byte the count is 0.
+fn strided(lo: u8, hi: u8, count: u8) -> StridedInterval
+    ensures { result ≡ Interval.strided lo hi count }
+{
+    let count = if lo == hi { 0 } else { count };
+    StridedInterval { lo, hi, count }
+}
+
 #[tactic(auto, unfolding(crate::specs::Interval::with_low_bits))]
 fn least_to_greatest(lo: u8, hi: u8, known: LowBits) -> Option<StridedInterval>
     ensures { result ≡ Interval.with_low_bits lo hi known }
@@ -61,9 +69,7 @@ fn least_to_greatest(lo: u8, hi: u8, known: LowBits) -> Option<StridedInterval>
         return None;
     }
     let lo = least as u8;
-    let hi = greatest(hi, known);
-    let count = if lo == hi { 0 } else { known.count.min(8) };
-    Some(StridedInterval { lo, hi, count })
+    Some(strided(lo, greatest(hi, known), known.count.min(8)))
 }
 
 /// The bytes from `lo` to `hi` that have the low bits: the least to the greatest. `None` where none has.
@@ -113,6 +119,18 @@ pub fn cut(interval: StridedInterval, other: StridedInterval) -> Option<StridedI
     let lo = interval.lo.max(other.lo);
     let hi = interval.hi.min(other.hi);
     with_low_bits(lo, hi, more(low, other_low))
+}
+
+/// The least interval that holds both, with the low bits that all their values have.
+#[tactic(auto, using(crate::proofs::IntervalLaws::join_first, crate::proofs::IntervalLaws::join_second), unfolding(crate::specs::Interval::join))]
+pub fn join(interval: StridedInterval, other: StridedInterval) -> StridedInterval
+    ensures exact { result ≡ Interval.join interval other }
+    ensures first { LiesIn interval result }
+    ensures second { LiesIn other result }
+{
+    let low = common(low_bits_of(interval), low_bits_of(other));
+    let lo = interval.lo.min(other.lo);
+    strided(lo, interval.hi.max(other.hi), low.count)
 }
 
 /// Whether the second one's bounds and low bits hold of all values of the first one.

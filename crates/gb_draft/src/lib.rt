@@ -20,13 +20,13 @@ pub use gb_cert::{
 pub use gb_fixpoint::cause::{Cause, Failure, RunEnd, StackMisuse, Wish};
 pub use gb_fixpoint::code_point::CodePoint;
 pub use gb_fixpoint::configuration::{Configuration, TargetPlace};
-pub use gb_fixpoint::register_set::REGISTERS;
+pub use gb_fixpoint::register_set::{REGISTERS, RegisterSet};
 pub use gb_fixpoint::types::{Run, Spot};
 pub use gb_fixpoint::{
-    Abs, AbsRead, AbsWrite, Cell, Cert, Core, Ctl, Flg, INTERRUPT_COUNT, May, NOTHING_KNOWN,
-    OneByte, Origin, PADDING, PairFacts, Pairs, Program, Range, Relations, Resumed, Rom, Rules,
-    Span, Stack, Successor, Successors, Target, Val, Verdict, any, callee_at, check, check_irqs,
-    check_node, covers, covers_core, enter, exit_of, handler, is_ram, known_bytes,
-    left_by_dispatch, limits, may_come, program_of, ranges_of, resume, stack_of, successors_of,
-    taken_by, vector_of,
+    Abs, AbsRead, AbsWrite, Cell, Cert, Core, Ctl, Flg, INTERRUPT_COUNT, KnownRegisters, May,
+    NOTHING_KNOWN, OneByte, Origin, PADDING, PairFacts, Pairs, Program, Range, Relations, Resumed,
+    Rom, Rules, Span, Stack, Successor, Successors, Target, Val, Verdict, any, callee_at, check,
+    check_irqs, check_node, covers, covers_core, enter, exit_of, handler, is_ram, kept_of,
+    known_bytes, left_by_dispatch, limits, may_come, program_of, ranges_of, resume, stack_of,
+    successors_of, taken_by, vector_of,
 };

@@ -7,7 +7,7 @@ use crate::covering::{NearGap, back_gaps, nearer, way_gap};
 use crate::gap::{After, Claim, Gap, GapKind, Gaps, GoesOn, Uncallable};
 use gb_verify::{
     Abs, Cert, Program, Rules, Setting, Successor, Target, are_ranges_inside, callee_at, enter,
-    ranges_of, setting_of, taken_by,
+    kept_of, ranges_of, setting_of, taken_by,
 };
 
 /// The node where a procedure begins, if that has the address.
@@ -86,7 +86,13 @@ fn near_entry(
     if setting.rules == Rules::Extended && held < count {
         return taking_too_many(procedure, address, count, held);
     }
-    let entered = enter(setting.rules, taken_by(cert, procedure), state);
+    let entered = enter(
+        program,
+        setting.rules,
+        taken_by(cert, procedure),
+        &kept_of(cert, procedure),
+        state,
+    );
     let differences = Differences::of(program, setting.rules, &entered, &claimed);
     let below = held.saturating_sub(count);
     match wrong_base(cert, setting, procedure, address, below) {

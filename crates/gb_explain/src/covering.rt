@@ -3,7 +3,8 @@
 use crate::Differences;
 use crate::gap::{Claim, Gap, GapKind, Gaps, GoesOn, Uncovered};
 use gb_verify::{
-    Abs, Cert, Program, Resumed, covered_at, exit_of, ranges_of, resume, setting_of, taken_by,
+    Abs, Cert, Program, Resumed, covered_at, exit_of, kept_of, ranges_of, resume, setting_of,
+    taken_by,
 };
 
 /// What comes near to what is wanted: of which procedure it is, in how many parts it differs, and what is missing.
@@ -88,11 +89,20 @@ pub(crate) fn back_gaps(
     way: GoesOn,
     state: &Abs,
 ) -> Option<Gaps> {
-    let rules = setting_of(cert, procedure).rules;
+    let setting = setting_of(cert, procedure);
     let exit = exit_of(cert, callee)?;
     let ranges = ranges_of(cert, callee);
     let taken = taken_by(cert, callee);
-    match resume(program, rules, taken, ranges.as_slice(), state, &exit) {
+    match resume(
+        program,
+        setting.rules,
+        setting.is_whole,
+        taken,
+        ranges.as_slice(),
+        &kept_of(cert, callee),
+        state,
+        &exit,
+    ) {
         Resumed::Nothing => None,
         Resumed::TooDeep => Some(Gaps::plain(GapKind::Uncovered(Uncovered::Overfull { way }))),
         Resumed::States(resumed) => way_gaps(program, cert, procedure, way, &resumed),

@@ -10,6 +10,7 @@ use crate::register_set::RegisterSet;
 use crate::stop::RunStop;
 use crate::tracking::keep_tracked;
 use crate::types::{CallSite, Run, RunProcedure};
+use arrayvec::ArrayVec;
 use gb_verify::{Abs, Core, Program, Range, Resumed, Rules, enter, resume};
 use std::collections::BTreeSet;
 use std::mem;
@@ -36,7 +37,13 @@ impl<'a> Run<'a> {
         }
         self.ask_callee(procedure, caller, point)?;
         let context = self.context(procedure, caller, point);
-        let mut entered = enter(self.rules(), context.taken, caller);
+        let mut entered = enter(
+            &Program::unknown(),
+            self.rules(),
+            context.taken,
+            &ArrayVec::new(),
+            caller,
+        );
         keep_tracked(&mut entered, self.tracked.as_slice());
         let cells = self.number_entry_cells(point, entered.cells())?;
         let key = self.procedure_key(entered.core(), point, is_handler, cells, context);
@@ -67,7 +74,16 @@ impl<'a> Run<'a> {
                 let taken = called.key.taken;
                 let ranges = called.ranges.as_slice();
                 let program = Program::unknown();
-                let resumed = resume(&program, self.rules(), taken, ranges, caller, exit);
+                let resumed = resume(
+                    &program,
+                    self.rules(),
+                    false,
+                    taken,
+                    ranges,
+                    &ArrayVec::new(),
+                    caller,
+                    exit,
+                );
                 self.go_on_with(number, back, resumed)
             }
             None => Ok(()),

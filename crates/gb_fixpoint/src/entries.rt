@@ -5,6 +5,7 @@ use crate::contexts::Context;
 use crate::instruction::decoded;
 use crate::tracking::keep_tracked;
 use crate::types::Run;
+use arrayvec::ArrayVec;
 use gb_spelling::INTERRUPT_COUNT;
 use gb_verify::{
     Abs, Program, Successor, Target, enter, left_by_dispatch, may_come, successors_of,
@@ -85,7 +86,13 @@ impl<'a> Run<'a> {
         caller: &Abs,
     ) -> Entered {
         let context = self.context(procedure, caller, target);
-        let mut state = enter(self.rules(), context.taken, caller);
+        let mut state = enter(
+            &Program::unknown(),
+            self.rules(),
+            context.taken,
+            &ArrayVec::new(),
+            caller,
+        );
         keep_tracked(&mut state, self.tracked.as_slice());
         Entered {
             target,

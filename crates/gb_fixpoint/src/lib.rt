@@ -7,10 +7,11 @@
 //! Code is named by its `code_point`, bank and address. States: `joining`, `steps` and `ranges` join and widen them, `configuration`, `keys` and `register_set` say how
 //! finely they are told apart, `cause` why a run stops. What is against an instruction in a state is `instruction` and
 //! `refusals`, by the checker's own tests; what is asked of the stack is stated again, told apart more finely. The
-//! run: read `types` and `run`, then `stepping`, `flow`, `calls` and `exits`; `entries` is for who orders procedures, and `probing`
-//! says whether another configuration would tell anything apart.
+//! run: read `types` and `run`, then `stepping`, `flow`, `calls` and `exits`; `entries` is for who orders procedures, `probing`
+//! says whether another configuration would tell anything apart, and `ahead` what lies behind an access that is refused.
 #![tactic(auto)]
 
+mod ahead;
 mod asking;
 mod bounds;
 mod calls;
@@ -64,6 +65,6 @@ pub use gb_verify::{
     Abs, AbsRead, AbsWrite, Cell, Cert, Core, Ctl, Flg, ImeSet, May, NOTHING_KNOWN, NodeRef,
     OneByte, Origin, PairFacts, Pairs, Program, Range, Relations, Resumed, Rom, Rules, Span, Stack,
     Successor, Successors, Target, Val, any, callee_at, cell_at, check_irqs, check_node, covers,
-    covers_core, enter, exit_of, handler, is_ram, known_bank, known_bytes, left_by_dispatch,
-    may_come, program_of, ranges_of, resume, stack_of, successors_of, taken_by,
+    covers_core, enter, exit_of, handler, is_ram, kept_of, known_bank, known_bytes,
+    left_by_dispatch, may_come, program_of, ranges_of, resume, stack_of, successors_of, taken_by,
 };

@@ -92,6 +92,15 @@ pub const EDITS: u32 = 12;
 /// The most edits for one place where the pointer is kept in RAM: it would be told apart through all memory.
 pub const EDITS_OF_KEPT: u32 = 6;
 
+/// The most edits for one point of code at which a failure stood with fewer nodes.
+pub const EDITS_AGAIN: u32 = 5;
+
+/// How many runs, one after another, meet a return or a jump into what is no code before the search ends with it.
+pub const WILD_RUNS: u32 = 4;
+
+/// How many times more nodes are allowed than a run took at first where no more would help that got too large again.
+pub const MULTIPLE: usize = 25;
+
 /// How many edits that tell nothing apart are made after one run, each found by asking where its nodes would go.
 pub const IDLE_EDITS: u32 = 32;
 

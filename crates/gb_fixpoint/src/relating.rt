@@ -90,7 +90,7 @@ fn join_zero(a: Option<WordPair>, b: Option<WordPair>) -> Option<WordPair> {
 }
 
 /// The bounds around both.
-fn hull(a: Bounds, b: Bounds) -> Bounds {
+pub(crate) fn hull(a: Bounds, b: Bounds) -> Bounds {
     Bounds {
         first: a.first.min(b.first),
         last: a.last.max(b.last),

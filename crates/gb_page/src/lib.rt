@@ -45,5 +45,5 @@ pub use gb_reports::{
     Finding, FindingPart, Format, InstructionFinding, Interrupt, Listing, Multiplied, Multiplier,
     Outline, PointerLoad, ReachedLimit, Rom, ShownFinding, ShownPart, Sketch, Spent, SymbolFault,
     SymbolFaultKind, SymbolOffset, Symbols, Verdict, color_note, explain, finding_json,
-    report_finding,
+    is_by_wild_return, report_finding,
 };

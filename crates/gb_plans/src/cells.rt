@@ -12,7 +12,7 @@ use gb_fixpoint::limits::SPOTS;
 use gb_fixpoint::register_set::{REGISTERS, RegisterSet};
 use gb_fixpoint::types::{Run, RunNode, Spot};
 use gb_fixpoint::{Span, known_bank};
-use gb_ops::op::{AluOp, Op, Operand, Pointer, Register, StackPair};
+use gb_ops::op::{AluOp, Indirect, Op, Operand, Pointer, Register, StackPair};
 use std::alloc::{AllocError, Global};
 use std::collections::{BTreeMap, BTreeSet};
 
@@ -82,6 +82,8 @@ struct CellSearch {
     banked: BTreeSet<Spot>,
     /// Where a byte is loaded from several addresses in RAM.
     ranged: BTreeSet<Spot>,
+    /// Where a byte is loaded by a pointer that is counted up or down by that load, from one address in RAM as far as is known.
+    counted: BTreeSet<Spot>,
     /// The bytes of RAM that were found and aren't tracked.
     untracked: BTreeSet<u16>,
     /// Whether a table in ROM is read.
@@ -176,6 +178,9 @@ impl CellSearch {
         wanted: &RegisterSet,
     ) -> Result<(), AllocError> {
         self.find(run, spot, cell)?;
+        if let Op::LoadA(Indirect::HlIncrement | Indirect::HlDecrement) = op {
+            self.counted.insert(spot)?;
+        }
         match loaded(op) {
             Some(target) => self.ask(spot, without(wanted, target)),
             None => self.ask(spot, *wanted),
@@ -486,6 +491,7 @@ fn searched(
         entries: BTreeSet::new(alloc),
         banked: BTreeSet::new(alloc),
         ranged: BTreeSet::new(alloc),
+        counted: BTreeSet::new(alloc),
         untracked: BTreeSet::new(alloc),
         is_by_table: false,
         seen: BTreeSet::new(alloc),
@@ -589,6 +595,8 @@ pub struct PointerSource {
     pub cells: BTreeSet<u16>,
     /// Where it is loaded from several addresses, as from a queue.
     pub loads: BTreeSet<Spot>,
+    /// Where it is loaded from one address so far, and the pointer to it is counted.
+    pub counted: BTreeSet<Spot>,
 }
 
 impl PointerSource {
@@ -597,6 +605,7 @@ impl PointerSource {
         PointerSource {
             cells: BTreeSet::new(alloc),
             loads: BTreeSet::new(alloc),
+            counted: BTreeSet::new(alloc),
         }
     }
 }
@@ -609,10 +618,16 @@ pub fn pointer_source(
     registers: &RegisterSet,
 ) -> Result<PointerSource, AllocError> {
     let high = high_registers(registers);
-    let CellSearch { cells, ranged, .. } = searched(alloc, run, spot, &high, Sources::Copies)?;
+    let CellSearch {
+        cells,
+        ranged,
+        counted,
+        ..
+    } = searched(alloc, run, spot, &high, Sources::Copies)?;
     Ok(PointerSource {
         cells,
         loads: ranged,
+        counted,
     })
 }
 

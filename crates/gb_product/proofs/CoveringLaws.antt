@@ -31,8 +31,9 @@ use Rattle.gb_summaries.proofs.Below.gb_pairs_laws.CoveringLaws.{covers_pairs_so
 use Rattle.gb_summaries.proofs.Below.gb_copies_laws.CoveringLaws.{covers_byte_sound}
 use Rattle.gb_summaries.proofs.Below.gb_ram_bounds_laws.CoveringLaws.{byte_at_sound}
 use Rattle.gb_summaries.proofs.CoveringLaws.{HoldsState-known, covers_summary_sound}
-use Rattle.gb_summaries.proofs.KnownLaws.{windows_within}
+use Rattle.gb_summaries.proofs.KnownLaws.{PointersIn-known, windows_within}
 use Rattle.gb_summaries.specs.Below.gb_pairs.declared.values.Values.{Values}
+use Rattle.gb_summaries.specs.Below.gb_pairs.Meaning.{Holds as HoldValues}
 use Rattle.gb_summaries.specs.Below.gb_ram_bounds.Cells.{cell_at as strided_at, has_cell}
 use Rattle.gb_summaries.specs.Below.gb_ram_bounds.Covering.{byte_at}
 use Rattle.gb_summaries.specs.Below.gb_ram_bounds.Meaning.{HoldCells, HoldsState}
@@ -42,7 +43,7 @@ use Rattle.gb_summaries.specs.Covering.{covers_summary}
 use Rattle.gb_summaries.specs.Known.{pointer_bounds, HoldsKnown}
 use Rattle.gb_summaries.specs.Meaning.{pointers_of}
 use Rattle.gb_product.specs.Covering.{covers_zero, covers_relations, uncopied, byte_in, covers_cells, values_in, covers}
-use Rattle.gb_product.specs.Meaning.{Means}
+use Rattle.gb_product.specs.Meaning.{IsSummarized, Means}
 use Rattle.gb_product.specs.Sound.{IsPartOf}
 
 zero_covered : (s t : Option WordPair) (x : Registers ℕ) (f : Flags) → covers_zero s t ≡ true → IsZero s x f → IsZero t x f
@@ -96,7 +97,7 @@ HoldCells-means cells entry x h = record { gives = λ a v. byte_of_one cells a v
 no_origin : {X : Type 0} {o : Origin} → None ≡ Some o → X
 no_origin h = cc
 
-Holds-uncopied : (v : StridedInterval) (entry : Activation) (x : ℕ) → InStrided v x → Holds (uncopied v) entry x
+pub Holds-uncopied : (v : StridedInterval) (entry : Activation) (x : ℕ) → InStrided v x → Holds (uncopied v) entry x
 Holds-uncopied v entry x m = record { least = m.least; most = m.most; low = same-Has v.count x v.lo m.low; origin = λ o e. no_origin e }
 
 -- what is known of a byte holds of it
@@ -152,6 +153,28 @@ HoldsKnown-means s entry base x m =
       cells_hold = HoldCells-means s.cells entry x m.parts.cells;
       summary = m.summary;
     }
+
+-- what a state knows of a byte holds of it, with values that its registers and pairs have
+pub Holds-byte_in_state :
+    (v : Values) (s : AbsState) (a : ℕ) (entry : Activation) (base : ℕ) (x : MState)
+    → MeansParts s entry base x → IsSummarized s entry x → HoldValues v x.processor.registers
+    → Holds (byte_in entry.program v s.cells s.summary a) entry (peek x.storage a)
+Holds-byte_in_state v s a entry base x m said values =
+    Holds-byte_in v s.cells s.summary a entry x m.memory m.cells
+    (record {
+      bytes = λ b. let small = m.memory.bytes b in omega arith;
+      cells_hold = HoldCells-means s.cells entry x m.cells;
+      facts_hold = said.facts;
+      fills_hold = said.fills;
+      pointers = PointersIn-known v x.processor values;
+    })
+
+-- what a state knows of a byte holds of each machine state that it means
+pub Holds-byte :
+    (s : AbsState) (a : ℕ) (entry : Activation) (base : ℕ) (x : MState) → Means s entry base x
+    → Holds (byte_in entry.program (values_in s) s.cells s.summary a) entry (peek x.storage a)
+Holds-byte s a entry base x m =
+    Holds-byte_in_state (values_in s) s a entry base x m.parts m.summary (HoldsKnown-means s entry base x m).values
 
 and_true : (b : Bool) → b ≡ true → (b && true) ≡ true
 and_true true h = refl

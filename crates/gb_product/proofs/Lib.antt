@@ -1,6 +1,7 @@
 pub mod MeaningLaws
 pub mod SummaryLaws
 pub mod CoveringLaws
+pub mod ByteLaws
 pub mod NothingLaws
 pub mod SilenceLaws
 pub mod CutLaws

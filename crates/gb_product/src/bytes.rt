@@ -14,7 +14,7 @@ use gb_domain::types::{Abs, Cell, Val};
 use gb_summaries::{Values, has_cell, known_byte};
 
 /// A value that is no copy.
-fn uncopied(value: StridedInterval) -> Val
+pub fn uncopied(value: StridedInterval) -> Val
     ensures { result ≡ Covering.uncopied value }
 {
     Val {

@@ -14,7 +14,7 @@ pub mod reduced;
 pub mod sides;
 pub mod states;
 
-pub use bytes::{byte_in, byte_of, covers_lists};
+pub use bytes::{byte_in, byte_of, covers_lists, uncopied};
 pub use parts::{Branch, Branches, Product};
 pub use program::Program;
 pub use states::States;
@@ -27,13 +27,14 @@ pub use gb_abs_effects::targets::{Target, target_of};
 pub use gb_abs_effects::transfer::{Inputs, transfer_in};
 pub use gb_abs_effects::writes::{AbsEffect, AbsWrite, quiet};
 pub use gb_abs_effects::{
-    Span, any, append_bytes, cell_without_origin, cells_without_origins, core_without_origins,
-    covers_controller, covers_ime, covers_origin, end, is_own, known, may_enable, may_have_bit,
-    own, pass, push, resize, settle, single, sp_bounds, sp_halves, with_cell, without_origin,
+    Span, any, append_bytes, cell_at, cell_without_origin, cells_without_origins,
+    core_without_origins, covers_controller, covers_ime, covers_origin, end, flags_val, is_own,
+    known, may_enable, may_have_bit, own, pass, push, resize, settle, single, sp_bounds, sp_halves,
+    with_cell, without_origin,
 };
 pub use gb_summaries::instruction::{InstructionStore, summary_after};
-pub use gb_summaries::returning::{GivenBack, KnownRam, summary_returned};
+pub use gb_summaries::returning::{GivenBack, KnownRam, is_byte_kept, summary_returned};
 pub use gb_summaries::{
-    AddressSet, Kept, Values, known_carry, only_of_a, pointer_bounds, reduce, relations_after,
-    returned,
+    AddressSet, Kept, Values, is_in, known_carry, only_of_a, pointer_bounds, reduce,
+    relations_after, returned,
 };

@@ -8,7 +8,7 @@ use crate::parts::{
 };
 use gb_draft::{
     Abs, AbsRead, AbsWrite, Cell, REGISTERS, Resumed, Rules, Span, Successor, Successors, covers,
-    enter,
+    enter, kept_of, taken_by,
 };
 
 /// What has to stand for what comes out on a way.
@@ -16,8 +16,8 @@ use gb_draft::{
 pub(crate) enum Aim {
     /// A node's state, or an exit.
     Covered(Abs),
-    /// The entry of a procedure that takes so many bytes over.
-    Entered { count: u8, entry: Abs },
+    /// The entry of a procedure.
+    Entered { callee: u8, entry: Abs },
     /// What stands for the state after a procedure with this exit.
     Resumed { callee: u8, exit: Abs, back: Abs },
 }
@@ -67,13 +67,24 @@ fn are_alike(a: &Option<Successor<'_>>, b: &Option<Successor<'_>>) -> bool {
 fn meets(site: &NodeSite<'_, '_>, after: &Abs, aim: &Aim) -> bool {
     match aim {
         Aim::Covered(state) => covers(&site.program(), after, state),
-        Aim::Entered { count, entry } => covers(
+        Aim::Entered { callee, entry } => covers(
             &site.program(),
-            &enter(Rules::Extended, *count, after),
+            &entered_in(site, *callee, after),
             entry,
         ),
         Aim::Resumed { callee, exit, back } => is_resumed_in(site, *callee, after, exit, back),
     }
+}
+
+/// What a procedure begins with that is called in a state.
+fn entered_in(site: &NodeSite<'_, '_>, callee: u8, after: &Abs) -> Abs {
+    enter(
+        &site.program(),
+        Rules::Extended,
+        taken_by(site.cert, callee),
+        &kept_of(site.cert, callee),
+        after,
+    )
 }
 
 /// Whether a state stands for what is gone on with after a procedure with an exit.

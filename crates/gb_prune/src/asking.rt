@@ -69,10 +69,11 @@ impl Asking {
         Ok(())
     }
 
-    /// An entry that takes so many bytes over has to stand for what enters it.
+    /// The entry of a callee that takes so many bytes over has to stand for what enters it.
     pub(crate) fn enter(
         &mut self,
         passage: &Passage<'_>,
+        callee: u8,
         count: u8,
         entry: Abs,
         wanted: Wanted,
@@ -94,7 +95,7 @@ impl Asking {
         }
         self.aims.push(WayAim {
             way: passage.way,
-            aim: Aim::Entered { count, entry },
+            aim: Aim::Entered { callee, entry },
         })?;
         Ok(())
     }

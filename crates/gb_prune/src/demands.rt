@@ -3,8 +3,9 @@
 
 use crate::aims::{Aim, Asked, ReturnAsked, WayAim};
 use crate::asking::{Asking, Passage};
-use crate::onward::{LeadsTo, NodeSite, Onward, Standby, state_of, weakened_node};
+use crate::onward::{LeadsTo, NodeSite, Onward, state_of, weakened_node};
 use crate::parts::{ORIGINS, Wanted, weakened};
+use crate::standing::{Standby, Standing};
 use gb_draft::{Abs, AbsWrite, Cert, Rom, Successors, exit_of, ranges_of, taken_by};
 use std::alloc::{AllocError, Global};
 use std::collections::BTreeSet;
@@ -62,9 +63,9 @@ impl<'c, 'a> Demands<'c, 'a> {
 
     /// Finds where each node leads.
     fn find_ways(&mut self) -> Result<(), AllocError> {
-        let mut last = vec![in self.alloc; 0u32; self.cert.nodes() as usize]?;
+        let mut standing = Standing::of(self.alloc, self.cert)?;
         for number in 0..self.cert.nodes() {
-            let ways = self.ways_from(number, &mut last)?;
+            let ways = self.ways_from(number, &mut standing)?;
             self.onward.push(ways)?;
             self.before.push(Vec::new(self.alloc))?;
             self.queue.insert(number)?;
@@ -75,11 +76,11 @@ impl<'c, 'a> Demands<'c, 'a> {
         Ok(())
     }
 
-    fn ways_from(&self, number: u32, last: &mut [u32]) -> Result<Vec<LeadsTo>, AllocError> {
+    fn ways_from(&self, number: u32, standing: &mut Standing) -> Result<Vec<LeadsTo>, AllocError> {
         if let Some(state) = state_of(self.cert, number)
             && let Some(site) = NodeSite::of(self.rom, self.cert, number, &state)
         {
-            return site.leads_to(self.alloc, &state, last);
+            return site.leads_to(self.alloc, &state, standing);
         }
         Ok(Vec::new(self.alloc))
     }
@@ -350,7 +351,10 @@ impl<'c, 'a> Demands<'c, 'a> {
         let number = entry_of(self.cert, callee);
         let wanted = self.wanted_of(number);
         match weakened_node(self.cert, number, wanted) {
-            Some(entry) => asking.enter(passage, taken_by(self.cert, callee), entry, wanted),
+            Some(entry) => {
+                let count = taken_by(self.cert, callee);
+                asking.enter(passage, callee, count, entry, wanted)
+            }
             None => Ok(()),
         }
     }

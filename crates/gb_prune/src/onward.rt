@@ -1,10 +1,11 @@
 //! Where a node of an accepted certificate leads to: the nodes, exits and procedures that stand for what it leaves.
 
 use crate::parts::{Wanted, weakened};
+use crate::standing::{Standby, Standing};
 use gb_draft::{
     Abs, Cert, INTERRUPT_COUNT, Program, Resumed, Rom, Rules, Stack, Successor, Successors, Target,
-    callee_at, covers, covers_core, exit_of, handler, known_bytes, left_by_dispatch, may_come,
-    program_of, ranges_of, resume, stack_of, successors_of, taken_by, vector_of,
+    callee_at, exit_of, handler, kept_of, known_bytes, left_by_dispatch, may_come, program_of,
+    ranges_of, resume, stack_of, successors_of, taken_by, vector_of,
 };
 use gb_ops::decode::decode;
 use gb_ops::op::Row;
@@ -12,25 +13,6 @@ use std::alloc::{AllocError, Global};
 
 /// The number of the first interrupt among the ways from a node: after an instruction's three.
 const FIRST_INTERRUPT: u8 = 3;
-
-/// Which nodes of an address stand for a state.
-#[derive(Clone, Copy, PartialEq, Eq)]
-pub(crate) enum Standby {
-    /// This one.
-    One(u32),
-    /// Those from a first one to before another one, each for some values of a register.
-    Several { first: u32, after: u32 },
-}
-
-impl Standby {
-    /// The number of the first node, and the one after the last.
-    pub(crate) fn numbers(self) -> (u32, u32) {
-        match self {
-            Standby::One(number) => (number, number.saturating_add(1)),
-            Standby::Several { first, after } => (first, after),
-        }
-    }
-}
 
 /// What a way from a node leads to.
 #[derive(Clone, Copy, PartialEq, Eq)]
@@ -64,62 +46,6 @@ pub(crate) struct NodeSite<'c, 'a> {
 pub(crate) fn state_of(cert: &Cert<'_>, number: u32) -> Option<Abs> {
     if number < cert.nodes() {
         Some(cert.node(number).state())
-    } else {
-        None
-    }
-}
-
-/// The number of the first node that stands for a state, among those from one number to before another one.
-fn first_standing(
-    program: &Program<'_>,
-    cert: &Cert<'_>,
-    from: u32,
-    after: u32,
-    state: &Abs,
-) -> Option<u32> {
-    for number in from..after {
-        if number < cert.nodes() {
-            let node = cert.node(number);
-            if covers_core(program.kind, state.core(), &node.core())
-                && covers(program, state, &node.state())
-            {
-                return Some(number);
-            }
-        }
-    }
-    None
-}
-
-/// The nodes of a procedure at an address that stand for a state. The search begins after the one that was found there last:
-/// nodes lead to others in their order.
-fn standing_for(
-    program: &Program<'_>,
-    cert: &Cert<'_>,
-    procedure: u8,
-    address: u16,
-    state: &Abs,
-    last: &mut [u32],
-) -> Option<Standby> {
-    let found = cert.find(procedure, address).found;
-    let near = match last.get(found.first as usize) {
-        Some(near) => (*near).max(found.first).min(found.after),
-        None => found.first,
-    };
-    let one = match first_standing(program, cert, near, found.after, state) {
-        Some(number) => Some(number),
-        None => first_standing(program, cert, found.first, near, state),
-    };
-    if let Some(number) = one {
-        if let Some(near) = last.get_mut(found.first as usize) {
-            *near = number;
-        }
-        return Some(Standby::One(number));
-    }
-    if found.first < found.after {
-        Some(Standby::Several {
-            first: found.first,
-            after: found.after,
-        })
     } else {
         None
     }
@@ -194,24 +120,25 @@ impl<'c, 'a> NodeSite<'c, 'a> {
         resume(
             &program,
             Rules::Extended,
+            self.stack.setting.is_whole,
             taken,
             ranges.as_slice(),
+            &kept_of(self.cert, callee),
             state,
             exit,
         )
     }
 
     /// A procedure is entered in a state, and goes on at an address.
-    fn enters(&self, callee: u8, back: u16, state: &Abs, last: &mut [u32]) -> Onward {
+    fn enters(&self, callee: u8, back: u16, state: &Abs, standing: &mut Standing) -> Onward {
         let back = match exit_of(self.cert, callee) {
             Some(exit) => match self.resumed(callee, state, &exit) {
-                Resumed::States(after) => standing_for(
+                Resumed::States(after) => standing.standing_for(
                     &self.program(),
                     self.cert,
                     self.procedure,
                     back,
                     &after,
-                    last,
                 ),
                 Resumed::Nothing | Resumed::TooDeep => None,
             },
@@ -221,22 +148,21 @@ impl<'c, 'a> NodeSite<'c, 'a> {
     }
 
     /// What a successor leads to.
-    fn onward(&self, successor: &Successor<'_>, last: &mut [u32]) -> Option<Onward> {
+    fn onward(&self, successor: &Successor<'_>, standing: &mut Standing) -> Option<Onward> {
         let state = successor.state();
         match successor.target {
             Target::At(address) => {
-                let nodes = standing_for(
+                let nodes = standing.standing_for(
                     &self.program(),
                     self.cert,
                     self.procedure,
                     address,
                     &state,
-                    last,
                 )?;
                 Some(Onward::Nodes(nodes))
             }
             Target::Main(address) => {
-                let nodes = standing_for(&self.program(), self.cert, 0, address, &state, last)?;
+                let nodes = standing.standing_for(&self.program(), self.cert, 0, address, &state)?;
                 Some(Onward::Nodes(nodes))
             }
             Target::Call(address) => match callee_at(
@@ -245,15 +171,14 @@ impl<'c, 'a> NodeSite<'c, 'a> {
                 self.stack.setting,
                 successor,
             ) {
-                Some(callee) => Some(self.enters(callee, successor.next, &state, last)),
+                Some(callee) => Some(self.enters(callee, successor.next, &state, standing)),
                 None => {
-                    let nodes = standing_for(
+                    let nodes = standing.standing_for(
                         &self.program(),
                         self.cert,
                         self.procedure,
                         address,
                         &state,
-                        last,
                     )?;
                     Some(Onward::Nodes(nodes))
                 }
@@ -268,11 +193,11 @@ impl<'c, 'a> NodeSite<'c, 'a> {
         &self,
         way: u8,
         successor: &Option<Successor<'_>>,
-        last: &mut [u32],
+        standing: &mut Standing,
         all: &mut Vec<LeadsTo>,
     ) -> Result<(), AllocError> {
         if let Some(successor) = successor
-            && let Some(onward) = self.onward(successor, last)
+            && let Some(onward) = self.onward(successor, standing)
         {
             all.push(LeadsTo { way, onward })?;
         }
@@ -280,7 +205,7 @@ impl<'c, 'a> NodeSite<'c, 'a> {
     }
 
     /// What an interrupt leads to, 0 to 4, where it may come.
-    fn interrupted(&self, interrupt: u8, state: &Abs, last: &mut [u32]) -> Option<Onward> {
+    fn interrupted(&self, interrupt: u8, state: &Abs, standing: &mut Standing) -> Option<Onward> {
         if interrupt >= INTERRUPT_COUNT || !may_come(interrupt, state.core()) {
             return None;
         }
@@ -294,36 +219,35 @@ impl<'c, 'a> NodeSite<'c, 'a> {
             self.address,
             state,
         ) {
-            Some(callee) => Some(self.enters(callee, self.address, &left, last)),
+            Some(callee) => Some(self.enters(callee, self.address, &left, standing)),
             None => {
                 let vector = vector_of(interrupt);
-                let nodes = standing_for(
+                let nodes = standing.standing_for(
                     &self.program(),
                     self.cert,
                     self.procedure,
                     vector,
                     &left,
-                    last,
                 )?;
                 Some(Onward::Nodes(nodes))
             }
         }
     }
 
-    /// All that a state at the node leads to. For the first node of each address the one is kept that was found there last.
+    /// All that a state at the node leads to.
     pub(crate) fn leads_to(
         &self,
         alloc: Global,
         state: &Abs,
-        last: &mut [u32],
+        standing: &mut Standing,
     ) -> Result<Vec<LeadsTo>, AllocError> {
         let mut all = Vec::new(alloc);
         let ways = self.step(state);
-        self.add_way(0, &ways.taken, last, &mut all)?;
-        self.add_way(1, &ways.not_taken, last, &mut all)?;
-        self.add_way(2, &ways.stays, last, &mut all)?;
+        self.add_way(0, &ways.taken, standing, &mut all)?;
+        self.add_way(1, &ways.not_taken, standing, &mut all)?;
+        self.add_way(2, &ways.stays, standing, &mut all)?;
         for interrupt in 0..INTERRUPT_COUNT {
-            if let Some(onward) = self.interrupted(interrupt, state, last) {
+            if let Some(onward) = self.interrupted(interrupt, state, standing) {
                 all.push(LeadsTo {
                     way: FIRST_INTERRUPT + interrupt,
                     onward,

@@ -3,12 +3,13 @@
 
 use crate::changed::Changed;
 use crate::demands::{Demands, entry_of};
-use crate::onward::{LeadsTo, NodeSite, Onward, Standby, state_of};
+use crate::onward::{LeadsTo, NodeSite, Onward, state_of};
 use crate::parts::weakened;
+use crate::standing::{Standby, Standing};
 use gb_draft::limits::COMPARED;
 use gb_draft::{
     Abs, Cert, Precedence, Program, Rom, Rules, WriteFault, add_in_order, check_irqs, check_node,
-    covers, enter, taken_by,
+    covers, enter, kept_of, taken_by,
 };
 use std::alloc::{AllocError, Global};
 use std::collections::BTreeSet;
@@ -230,7 +231,13 @@ fn add_entered(
             && let Some(entry) = changed.entry_state(other)
             && covers(
                 &Program::unknown(),
-                &enter(Rules::Extended, taken_by(cert, other), after),
+                &enter(
+                    &Program::unknown(),
+                    Rules::Extended,
+                    taken_by(cert, other),
+                    &kept_of(cert, other),
+                    after,
+                ),
                 entry,
             )
         {
@@ -308,7 +315,7 @@ impl<'a> Reachable<'a> {
 
     /// All ways from what is reached are followed.
     fn go_on(&mut self, rom: &Rom<'_>) -> Result<(), AllocError> {
-        let mut last = vec![in self.alloc; 0u32; self.cert.nodes() as usize]?;
+        let mut standing = Standing::of(self.alloc, self.cert)?;
         for _ in 0..self.cert.nodes() {
             let Some(number) = self.queue.pop() else {
                 break
@@ -319,7 +326,7 @@ impl<'a> Reachable<'a> {
             let Some(site) = NodeSite::of(rom, self.cert, number, &state) else {
                 continue
             };
-            for leads in &site.leads_to(self.alloc, &state, &mut last)? {
+            for leads in &site.leads_to(self.alloc, &state, &mut standing)? {
                 self.follow(leads.onward)?;
             }
         }

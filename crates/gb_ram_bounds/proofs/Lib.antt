@@ -1,6 +1,7 @@
 pub mod AddressLaws
 pub mod CoveringLaws
 pub mod FactLaws
+pub mod JoinedLaws
 pub mod FillLaws
 pub mod ReturnedLaws
 pub mod ThroughoutLaws

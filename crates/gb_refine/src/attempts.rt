@@ -6,7 +6,7 @@
 use crate::rounds::{Made, Refinement, SearchLimits, SearchProgress};
 use crate::shrink::shrink;
 use gb_page::Finding;
-use gb_prune::limits::FEW_NODES;
+use gb_prune::limits::{FEW_NODES, NODES};
 use gb_prune::{Rom, Rules};
 use std::alloc::{AllocError, Global};
 
@@ -35,6 +35,13 @@ impl<'a> Attempts<'a> {
         }
     }
 
+    /// Whether the rules of versions 1 and 2 are tried with so many nodes: more than few only where the limit stopped those of version 3
+    /// too. Else a failure stands that has nothing to do with it, and they know no more of it.
+    fn may_be_simple(&self, nodes: usize, before: Limited) -> bool {
+        let is_alone = !self.are_wanted(Rules::Extended);
+        self.are_wanted(Rules::Simple) && (nodes <= FEW_NODES || before.by_extended || is_alone)
+    }
+
     /// A certificate by some rules with so many nodes; whether more nodes might lead further where there is none.
     fn attempt<P: SearchProgress>(
         &mut self,
@@ -52,7 +59,10 @@ impl<'a> Attempts<'a> {
                 if self.findings.is_empty() || !refinement.stands_again() {
                     self.keep(rules, findings);
                 }
-                let is_limited = refinement.is_limited && !refinement.is_hopeless;
+                let is_over = refinement.is_hopeless
+                    || refinement.is_wild()
+                    || refinement.is_multiplied && self.limits.nodes <= NODES;
+                let is_limited = refinement.is_limited && !is_over;
                 self.keep_learnt(rules, refinement);
                 Ok(Attempted::Nothing { is_limited })
             }
@@ -109,7 +119,7 @@ impl<'a> Attempts<'a> {
                 Attempted::Nothing { is_limited } => limited.by_extended = is_limited,
             }
         }
-        if before.by_simple && self.are_wanted(Rules::Simple) && progress.goes_on() {
+        if before.by_simple && self.may_be_simple(nodes, before) && progress.goes_on() {
             match self.attempt(Rules::Simple, nodes, progress)? {
                 Attempted::Certificate(bytes) => return Ok(Both::Certificate(bytes)),
                 Attempted::Nothing { is_limited } => limited.by_simple = is_limited,

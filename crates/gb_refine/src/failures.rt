@@ -3,7 +3,7 @@
 use gb_ops::op::Register;
 use gb_page::{Finding, InstructionFinding, PointerLoad, report_finding};
 use gb_plans::{PointerSource, loaded_span, pointer_source, untracked_behind};
-use gb_prune::{Cause, Failure, PADDING, Run, Spot, TargetPlace};
+use gb_prune::{Cause, Failure, PADDING, Rules, Run, Span, Spot};
 use std::alloc::{AllocError, Global};
 use std::collections::BTreeSet;
 
@@ -58,9 +58,10 @@ fn told_with(
     failure: &Failure,
     source: &PointerSource,
 ) -> Result<Option<InstructionFinding>, AllocError> {
-    let load = match source.loads.iter().next() {
-        Some(spot) if is_told_at_load(failure.cause) => load_at(run, failure, *spot),
-        _ => None,
+    let load = if is_told_at_load(failure.cause) {
+        load_of(run, failure, source)?
+    } else {
+        None
     };
     let at = match load {
         Some((node, _)) => Failure { node, ..*failure },
@@ -107,6 +108,40 @@ fn is_open(run: &Run<'_>, failure: &Failure, source: &PointerSource) -> bool {
     (is_any || is_wide) && !source.cells.is_empty()
 }
 
+/// Where the pointer of a failure is loaded from several addresses: from so many that none of them will ever be known, if the run has
+/// seen the first of these loads alone.
+fn load_of(
+    run: &Run<'_>,
+    failure: &Failure,
+    source: &PointerSource,
+) -> Result<Option<(usize, PointerLoad)>, AllocError> {
+    if let Some(spot) = source.loads.iter().next() {
+        return Ok(load_at(run, failure, *spot));
+    }
+    let Some(node) = run.nodes.get(failure.node) else {
+        return Ok(None);
+    };
+    for spot in &source.counted {
+        if let Some((number, first)) = load_at(run, failure, *spot)
+            && let Some(ahead) = run.span_ahead(node, spot.point.address)?
+        {
+            let from = Span {
+                first: first.from.first.min(ahead.first),
+                last: first.from.last.max(ahead.last),
+            };
+            if is_from_many(from) {
+                return Ok(Some((number, PointerLoad { from, ..first })));
+            }
+        }
+    }
+    Ok(None)
+}
+
+/// Whether there are more bytes in a span than are ever known.
+pub(crate) fn is_from_many(span: Span) -> bool {
+    usize::from(span.last.saturating_sub(span.first)) >= Rules::Extended.cell_room()
+}
+
 /// The first node of a spot at which the pointer of a failure is loaded, and from where it may be loaded there.
 fn load_at(run: &Run<'_>, failure: &Failure, spot: Spot) -> Option<(usize, PointerLoad)> {
     let number = *run.nodes_at(spot).first()?;
@@ -120,39 +155,6 @@ fn load_at(run: &Run<'_>, failure: &Failure, spot: Spot) -> Option<(usize, Point
 fn add_cells(cells: &BTreeSet<u16>, kept_in: &mut Vec<u16>) -> Result<(), AllocError> {
     for cell in cells {
         kept_in.push(*cell)?;
-    }
-    Ok(())
-}
-
-/// The failures of a run at a place.
-pub(crate) fn add_failures(
-    alloc: Global,
-    run: &Run<'_>,
-    place: TargetPlace,
-    is_too_large: bool,
-    left_out: &BTreeSet<u16>,
-    findings: &mut Vec<Finding>,
-) -> Result<(), AllocError> {
-    for failure in &run.failures {
-        if run.place_of(failure.node) == Some(place) {
-            add_failure(alloc, run, failure, is_too_large, left_out, findings)?;
-        }
-    }
-    Ok(())
-}
-
-/// A failure, with what there is to tell of it.
-pub(crate) fn add_failure(
-    alloc: Global,
-    run: &Run<'_>,
-    failure: &Failure,
-    is_too_large: bool,
-    left_out: &BTreeSet<u16>,
-    findings: &mut Vec<Finding>,
-) -> Result<(), AllocError> {
-    if let Some(mut standing) = told(alloc, run, failure, left_out)? {
-        standing.is_too_large = is_too_large;
-        findings.push(Finding::Instruction(standing))?;
     }
     Ok(())
 }

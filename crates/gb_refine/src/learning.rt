@@ -1,6 +1,6 @@
 //! What a run teaches, and what is to be done otherwise in the next round.
 
-use crate::failures::{add_failure, add_failures, told};
+use crate::failures::{is_from_many, told};
 use crate::rounds::{
     Change, Lesson, Mending, News, Refinement, Tried, WORD, alone, is_in_ram, region_below,
 };
@@ -8,7 +8,7 @@ use crate::written::{is_accepted, written};
 use gb_ops::machine::Region;
 use gb_page::{Crowd, Finding, InstructionFinding};
 use gb_plans::{Plan, array_behind, inline_plan, last_plan, plan_for, targets_to_follow};
-use gb_prune::limits::{DEAR_STEPS, EDITS, EDITS_OF_KEPT, OBSTACLES, STEPS_BACK};
+use gb_prune::limits::{DEAR_STEPS, EDITS, EDITS_AGAIN, EDITS_OF_KEPT, OBSTACLES, STEPS_BACK};
 use gb_prune::{
     Cause, CodePoint, Failure, PADDING, Rules, Run, RunEnd, TargetPlace, Wish, find_needs,
 };
@@ -60,6 +60,26 @@ impl<'a> Refinement<'a> {
         }
     }
 
+    /// Whether a place may be refined once more for a reason. Where a failure stood with fewer nodes, it may be more seldom, also if it
+    /// is followed in other callers now: each of these rounds is dear.
+    fn may_edit(&self, place: TargetPlace, reason: u8, is_kept: bool) -> bool {
+        let most = if is_kept { EDITS_OF_KEPT } else { EDITS };
+        let has_stood = self.stood.iter().any(|stood| stood.point == place.point);
+        self.edits_at(place, reason) < most
+            && (!has_stood || self.edits_around(place.point, reason) < EDITS_AGAIN)
+    }
+
+    /// How often a point of code was refined for a reason, in all procedures.
+    fn edits_around(&self, point: CodePoint, reason: u8) -> u32 {
+        let mut count: u32 = 0;
+        for (tried, edits) in self.tried.iter() {
+            if tried.place.point == point && tried.reason == reason {
+                count = count.saturating_add(*edits);
+            }
+        }
+        count
+    }
+
     /// The failures of a run at places that were given up, in the order in which they were met, and one more.
     pub(crate) fn standing(
         &self,
@@ -80,22 +100,34 @@ impl<'a> Refinement<'a> {
     ) -> Result<(), AllocError> {
         for place in &self.given_up {
             let is_too_large = self.too_large.contains(place);
-            let left_out = &self.cells.left_out;
-            add_failures(self.alloc, run, *place, is_too_large, left_out, findings)?;
+            for failure in &run.failures {
+                if run.place_of(failure.node) == Some(*place) {
+                    self.add_failure(run, failure, is_too_large, findings)?;
+                }
+            }
         }
         match last {
-            Some(failure) => {
-                add_failure(
-                    self.alloc,
-                    run,
-                    failure,
-                    false,
-                    &self.cells.left_out,
-                    findings,
-                )
-            }
+            Some(failure) => self.add_failure(run, failure, false, findings),
             None => Ok(()),
         }
+    }
+
+    /// A failure, with what there is to tell of it. Where a jump led into what is no code, it is told as that jump.
+    pub(crate) fn add_failure(
+        &self,
+        run: &Run<'_>,
+        failure: &Failure,
+        is_too_large: bool,
+        findings: &mut Vec<Finding>,
+    ) -> Result<(), AllocError> {
+        if let Some(mut standing) = told(self.alloc, run, failure, &self.cells.left_out)? {
+            standing.is_too_large = is_too_large;
+            if let Some(jump) = self.jump_behind(run, failure) {
+                standing.place = jump;
+            }
+            findings.push(Finding::Instruction(standing))?;
+        }
+        Ok(())
     }
 
     /// Nothing more helps against a failure.
@@ -236,11 +268,10 @@ impl<'a> Refinement<'a> {
         place: TargetPlace,
         is_kept: bool,
     ) -> Result<Option<Plan>, AllocError> {
-        let most = if is_kept { EDITS_OF_KEPT } else { EDITS };
-        if self.edits_at(place, failure.cause.reason().number()) >= most {
-            Ok(None)
-        } else {
+        if self.may_edit(place, failure.cause.reason().number(), is_kept) {
             plan_for(self.alloc, run, failure, is_kept)
+        } else {
+            Ok(None)
         }
     }
 
@@ -465,10 +496,7 @@ impl<'a> Refinement<'a> {
 /// otherwise than all.
 fn comes_from_many(finding: &InstructionFinding) -> bool {
     match finding.load {
-        Some(load) => {
-            let more = usize::from(load.from.last.saturating_sub(load.from.first));
-            more >= Rules::Extended.cell_room()
-        }
+        Some(load) => is_from_many(load.from),
         None => false,
     }
 }

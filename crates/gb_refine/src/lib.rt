@@ -2,7 +2,7 @@
 //! the one before failed.
 //!
 //! `make` gives a certificate, or the findings. Nothing here is trusted: who uses it has the certificate checked. Read
-//! `attempts`, by which rules it is tried, then `rounds`, `learning`, `idle` and `standing`, over gb_plans, which says what to refine after a
+//! `attempts`, by which rules it is tried, then `rounds`, `learning`, `idle`, `wild` and `standing`, over gb_plans, which says what to refine after a
 //! failure; `tracking` chooses the memory cells that are kept, and `shrink` takes back what a certificate doesn't need.
 #![tactic(auto)]
 
@@ -15,6 +15,7 @@ mod rounds;
 mod shrink;
 mod standing;
 mod tracking;
+mod wild;
 mod written;
 
 use attempts::made_certificate;

@@ -2,6 +2,7 @@
 
 use crate::attempts::MORE_NODES;
 use crate::failures::tell;
+use crate::learning::is_no_code;
 use crate::tracking::Cells;
 use gb_ops::machine::Region;
 use gb_page::{Crowd, Finding, InstructionFinding, Spent};
@@ -168,6 +169,13 @@ pub(crate) struct Refinement<'a> {
     pub(crate) stands_since: u64,
     /// How many plans were taken back.
     taken_back: u32,
+    /// How many runs, one after another, have met a return or a jump into what is no code, and the findings of the last one.
+    pub(crate) wild_runs: u32,
+    pub(crate) wild_findings: Vec<Finding>,
+    /// The nodes of the first run with so many nodes allowed.
+    pub(crate) first_nodes: Option<usize>,
+    /// Whether the search has ended with a place that got too large again, by many times the nodes of the first run.
+    pub(crate) is_multiplied: bool,
     /// Whether one failure alone is to be mended, since it was too much to mend several.
     pub(crate) is_single: bool,
     /// Where a finer configuration made the run too large.
@@ -246,6 +254,10 @@ impl<'a> Refinement<'a> {
             is_hopeless: false,
             stands_since: 0,
             taken_back: 0,
+            wild_runs: 0,
+            wild_findings: Vec::new(alloc),
+            first_nodes: None,
+            is_multiplied: false,
             is_single: false,
             too_large: BTreeSet::new(alloc),
             open: BTreeSet::new(alloc),
@@ -288,6 +300,7 @@ impl<'a> Refinement<'a> {
         self.cells.learn(self.alloc, run)?;
         self.count_same(run);
         self.nodes = run.nodes.len();
+        self.first_nodes.get_or_insert(self.nodes);
         self.steps = run.steps;
         self.pairs = pairs_of(run);
         self.spent = self.spent.saturating_add(run.steps);
@@ -297,6 +310,7 @@ impl<'a> Refinement<'a> {
         }
         let first = self.learn(run, outcome)?;
         let lesson = self.past_idle(run, outcome, first)?;
+        let lesson = self.unless_wild(run, lesson)?;
         self.unless_standing(run, lesson)
     }
 
@@ -492,11 +506,12 @@ impl<'a> Refinement<'a> {
         }
     }
 
-    /// An finding as it was first met, where its pointer is kept in RAM: later ones are told apart value by value.
+    /// A finding as it was first met, where its pointer is kept in RAM, or where a jump leads into what is no code: later ones are
+    /// told apart value by value.
     fn as_first_met(&mut self, finding: Finding) -> Finding {
         match finding {
             Finding::Instruction(last) => match self.first.remove(&last.place) {
-                Some(mut first) if first.load.is_some() || !first.kept_in.is_empty() => {
+                Some(mut first) if is_told_as_first(&first, &last) => {
                     first.is_too_large = last.is_too_large;
                     Finding::Instruction(first)
                 }
@@ -650,6 +665,10 @@ impl<'a> Refinement<'a> {
         self.tried = BTreeMap::new(self.alloc);
         self.before = None;
         self.taken_back = 0;
+        self.wild_runs = 0;
+        self.wild_findings = Vec::new(self.alloc);
+        self.first_nodes = None;
+        self.is_multiplied = false;
         self.is_single = false;
         self.is_limited = false;
         Ok(())
@@ -730,6 +749,12 @@ fn walks(finding: &InstructionFinding) -> bool {
         Cause::Store { .. } | Cause::Stack(StackMisuse::SetByHl)
     );
     is_followed && finding.is_any_address
+}
+
+/// Whether a finding is told as it was first met.
+fn is_told_as_first(first: &InstructionFinding, last: &InstructionFinding) -> bool {
+    let is_jump = first.cause == Cause::JumpHl && is_no_code(last.cause);
+    is_jump || first.load.is_some() || !first.kept_in.is_empty()
 }
 
 /// The region of one word below an address.

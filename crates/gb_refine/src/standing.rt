@@ -4,7 +4,7 @@ use crate::failures::tell;
 use crate::learning::is_no_code;
 use crate::rounds::{Change, Lesson, Made, Refinement};
 use gb_page::Finding;
-use gb_prune::limits::{FEW_NODES, STEPS_STANDING};
+use gb_prune::limits::{FEW_NODES, MULTIPLE, STEPS_STANDING};
 use gb_prune::{Rules, Run, RunEnd, TargetPlace};
 use std::alloc::{AllocError, Global};
 use std::collections::{BTreeSet, HashSet};
@@ -83,7 +83,16 @@ impl<'a> Refinement<'a> {
         let is_standing = self.configuration.given_up.contains(&place);
         let ends = self.limits.nodes > FEW_NODES && is_standing && is_last;
         self.is_hopeless = ends && self.open.contains(&place);
+        self.is_multiplied = ends && self.has_multiplied();
         ends
+    }
+
+    /// Whether many times the nodes are allowed that the first run took.
+    fn has_multiplied(&self) -> bool {
+        match self.first_nodes {
+            Some(nodes) => nodes.saturating_mul(MULTIPLE) < self.limits.nodes,
+            None => false,
+        }
     }
 
     /// What a run comes to besides a failure that stands from now on: None where another run has to show it.
@@ -127,7 +136,7 @@ impl<'a> Refinement<'a> {
 }
 
 /// Whether a change is about the stack: what a run wants of it may help against what stands.
-fn is_of_stack(change: &Change) -> bool {
+pub(crate) fn is_of_stack(change: &Change) -> bool {
     matches!(
         change,
         Change::Region(_) | Change::Deepen(_) | Change::Grant(..)

@@ -35,7 +35,7 @@ pub use listing::Listing;
 pub use lost_bank::{BankLoser, LostBank, Mapping};
 pub use object::JsonObject;
 pub use path::{Path, Segment, Start};
-pub use pushed_return::PushedReturn;
+pub use pushed_return::{PushedReturn, is_by_wild_return};
 pub use shown::{FindingPart, ShownFinding, ShownPart};
 pub use state::{ShownCell, ShownFlags, ShownRegisters, fmt_core};
 pub use steps_back::MappedBanks;

@@ -1,5 +1,5 @@
 -- Where states are covered at an address, some node of the procedure there means each of their machine states.
-use Rattle.std.proofs.Common.{◌≡◌, ℕ, zero, suc, ◌+◌, ◌≤◌, ◌<◌, Bool, true, false, ◌&&◌, ◌||◌, ◌⊎◌, inl, inr, List, [], ◌∷◌, length, refl, sym, ◌∙◌, ap, subst, arith}
+use Rattle.std.proofs.Common.{◌≡◌, ℕ, zero, suc, ◌+◌, ◌≤◌, ◌<◌, Bool, true, false, ◌&&◌, ◌||◌, ◌==◌, ◌⊎◌, inl, inr, List, [], ◌∷◌, length, refl, sym, ◌∙◌, ap, subst, arith}
 use Rattle.std.proofs.lemmas.Bool.{and_parts, eqb-true}
 use Rattle.std.specs.List.{Contains, list_any}
 use Rattle.std.proofs.lemmas.List.Folds.{Any-from_list_any}
@@ -7,27 +7,37 @@ use Rattle.gb_ops.specs.declared.op.Register.{Register}
 use Rattle.gb_ops.specs.Registers.{get}
 use Rattle.gb_ops.specs.Play.{MState}
 use Rattle.gb_successors.specs.Below.gb_domain.declared.rules.Rules.{Rules}
-use Rattle.gb_successors.specs.Below.gb_domain.declared.rules.Rules.TheVariants.{Simple}
+use Rattle.gb_successors.specs.Below.gb_domain.declared.relations.Relations.{Relations}
+use Rattle.gb_successors.specs.Below.gb_domain.declared.rules.Rules.TheVariants.{Simple, Extended}
+use Rattle.gb_successors.specs.Below.gb_domain.declared.types.Cell.{Cell}
+use Rattle.gb_successors.specs.Below.gb_domain.declared.types.Core.{Core}
+use Rattle.gb_successors.specs.Below.gb_domain.Limits.{cell_room}
+use Rattle.gb_successors.specs.Below.gb_domain.Values.{has_low_bits}
 use Rattle.gb_successors.specs.Below.gb_domain.declared.types.Val.{Val}
 use Rattle.gb_successors.specs.Below.gb_domain.Summaries.{Program}
 use Rattle.gb_successors.specs.Below.gb_domain.Types.{AbsState, Node}
 use Rattle.gb_successors.specs.Below.gb_domain.Certificate.{Certificate}
-use Rattle.std.specs.Prelude.{Option, Some, None, option_map, IfSome}
+use Rattle.std.specs.Prelude.{not, Option, Some, None, option_map, IfSome}
 use Rattle.gb_successors.specs.Below.gb_domain.Pairs.{ArePairs}
 use Rattle.gb_successors.specs.Below.gb_abs.Covering.{covers_items}
-use Rattle.gb_successors.specs.Below.gb_abs.Operations.{core_with_value, with_core}
+use Rattle.gb_successors.specs.Below.gb_abs.Operations.{with_core}
+use Rattle.gb_successors.specs.Below.gb_abs.Storage.{peek}
 use Rattle.gb_successors.proofs.Below.gb_abs_laws.StackLaws.{MeansParts-with_core}
 use Rattle.gb_successors.specs.Below.gb_pairs.Meaning.{AreBytes}
 use Rattle.gb_successors.specs.Below.gb_product.declared.parts.Product.{Product}
 use Rattle.gb_successors.specs.Below.gb_product.Sound.{IsReduced, MeansProduct, IsMeantProduct}
 use Rattle.gb_successors.proofs.Below.gb_product_laws.ReducedLaws.{reduced_cuts, reduced_sound}
-use Rattle.gb_successors.specs.Below.gb_product.Covering.{covers}
+use Rattle.gb_successors.specs.Below.gb_product.Covering.{covers, byte_in, values_in}
 use Rattle.gb_successors.specs.Below.gb_product.Meaning.{AreRelated, IsSummarized, Means}
 use Rattle.gb_successors.specs.Below.gb_product.Reduced.{reduced}
-use Rattle.gb_successors.specs.Below.gb_abs.Meaning.{Activation, Holds, MeansParts}
-use Rattle.gb_successors.proofs.Below.gb_product_laws.CoveringLaws.{Means-covered}
+use Rattle.gb_successors.specs.Below.gb_abs.Meaning.{Activation, Holds, MeansCore, MeansParts}
+use Rattle.gb_successors.proofs.Below.gb_product_laws.CoveringLaws.{Holds-byte, Means-covered}
+use Rattle.gb_successors.proofs.Below.gb_product_laws.SummaryLaws.{has_cells_with_cell, HoldSummary-with_cells}
+use Rattle.gb_successors.proofs.ToldLaws.{AllByRecursion-with_cell}
 use Rattle.gb_successors.proofs.Below.gb_abs_laws.OperationLaws.{MeansParts-with_value}
-use Rattle.gb_rules.specs.Covered.{is_cover, is_covered_by_one, is_covered_if, with_product, is_value_covered, is_covered_by_values, reduced_state, with_value, all_from, count_of, registers, covered_at}
+use Rattle.gb_rules.specs.declared.by_values.Parted.{Parted}
+use Rattle.gb_rules.specs.declared.by_values.Parted.TheVariants as parted
+use Rattle.gb_rules.specs.Covered.{all_from, count_of, covered_at, is_cover, is_covered_by_byte, is_covered_by_bytes, is_covered_by_cell, is_covered_by_one, is_covered_by_register, is_covered_by_values, is_covered_if, is_node_at, is_value_covered, known_of, reduced_state, registers, with_byte, with_one, with_product, with_value}
 
 items_counted : (s t : List Val) → covers_items s t ≡ true → length t ≡ length s
 items_counted [] [] h = refl
@@ -78,34 +88,20 @@ one_of_them test first (suc n) v h le lt =
     split : (first n v : ℕ) → v < first + suc n → (v < first + n) ⊎ (v ≡ first + n)
     split first n v h = grind arith
 
-found_by_values : (cert : Certificate) (procedure a : ℕ) (s : AbsState) (r : Register) (entry : Activation) (base : ℕ) (y : MState) → is_covered_by_values entry.program Simple cert.nodes procedure a s r ≡ true → Means s entry base y
-    → IsFoundAt cert procedure a (length s.items) entry base y
-unfolding is_covered_by_values is_value_covered reduced_state reduced with_value
-found_by_values cert procedure a s r entry base y h m =
-    let val = get r s.core.registers in
-    let v = get r y.processor.registers in
-    let holds : Holds val entry v = m.parts.core.registers r in
-    let least = holds.least in
-    let most = holds.most in
-    let one = one_of_them (λ v. is_covered_by_one entry.program cert.nodes procedure a (with_value r s v)) val.lo (count_of val) v h least (omega arith) in
-    found_by_one cert procedure a (with_value r s v) entry base y one (record { parts = MeansParts-with_value r s entry base y m.parts; related = m.related; summary = m.summary })
+-- ---- reducing
 
--- states that are covered at an address, by the rules of versions 1 and 2: a node there means each of their machine states
-pub found_at : (cert : Certificate) (procedure a : ℕ) (s : AbsState) (entry : Activation) (base : ℕ) (y : MState) → covered_at entry.program Simple cert.nodes procedure a s ≡ true → Means s entry base y
-    → IsFoundAt cert procedure a (length s.items) entry base y
-unfolding covered_at
-found_at cert procedure a s entry base y h m = by (is_covered_by_one entry.program cert.nodes procedure a s) refl h
-  where
-    values : list_any (is_covered_by_values entry.program Simple cert.nodes procedure a s) registers ≡ true → IsFoundAt cert procedure a (length s.items) entry base y
-    values e =
-        let p = Any-from_list_any (is_covered_by_values entry.program Simple cert.nodes procedure a s) registers e in
-        found_by_values cert procedure a s p.1 entry base y p.4 m
+-- what reducing asks of states and a machine state: by the rules of versions 1 and 2 nothing
+abbrev IsReducible : Rules → AbsState → MState → Type 0
+IsReducible Simple s y = Unit {0}
+IsReducible Extended s y = ArePairs s.relations.pairs × AreBytes y.processor.registers
 
-    by : (b : Bool) → is_covered_by_one entry.program cert.nodes procedure a s ≡ b → (b || list_any (is_covered_by_values entry.program Simple cert.nodes procedure a s) registers) ≡ true → IsFoundAt cert procedure a (length s.items) entry base y
-    by true e t = found_by_one cert procedure a s entry base y e m
-    by false e t = values t
-
--- ---- value by value, reduced
+left_is_meant :
+    (rules : Rules) (s : AbsState) (core : Core) (entry : Activation) (y : MState) → IsReducible rules s y → MeansCore core entry y → AreRelated s.relations y
+    → IsMeantProduct (reduced rules core s.relations) entry y
+unfolding reduced
+left_is_meant Simple s core entry y can m related = record { core = m; related = related }
+left_is_meant Extended s core entry y can m related =
+    (reduced_sound Extended core s.relations (reduced Extended core s.relations) refl can.0).gives entry y can.1 m related
 
 MeansParts-with_product : (s : AbsState) (p : Product) (entry : Activation) (base : ℕ) (y : MState) → IsReduced s.core s.relations p → MeansProduct p entry y → MeansParts s entry base y
     → MeansParts (with_core s p.core) entry base y
@@ -126,38 +122,122 @@ found_left cert procedure a s None entry base y q cut h m summary = absurd q
 found_left cert procedure a s (Some p) entry base y q cut h m summary =
     found_by_one cert procedure a (with_product s p) entry base y h (product_means s p entry base y (MeansParts-with_product s p entry base y cut q m) q.related summary)
 
--- a node stands for those with the machine's own value of a register, as far as they are left
-found_by_value : (rules : Rules) (cert : Certificate) (procedure a : ℕ) (s : AbsState) (r : Register) (entry : Activation) (base : ℕ) (y : MState) → ArePairs s.relations.pairs → AreBytes y.processor.registers
-    → is_value_covered entry.program rules cert.nodes procedure a s r (get r y.processor.registers) ≡ true → Means s entry base y → IsFoundAt cert procedure a (length s.items) entry base y
-unfolding is_value_covered reduced_state with_value
-found_by_value rules cert procedure a s r entry base y pairs bytes h m =
-    let core = core_with_value r (get r y.processor.registers) s.core in
-    let parts : MeansParts (with_core s core) entry base y = MeansParts-with_value r s entry base y m.parts in
-    let left = (reduced_sound rules core s.relations (reduced rules core s.relations) refl pairs).gives entry y bytes parts.core m.related in
-    found_left cert procedure a (with_core s core) (reduced rules core s.relations) entry base y left (reduced_cuts rules core s.relations _ refl) h parts m.summary
+-- a node stands for what reducing leaves of states that mean y
+found_reduced :
+    (rules : Rules) (cert : Certificate) (procedure a : ℕ) (s : AbsState) (entry : Activation) (base : ℕ) (y : MState) → IsReducible rules s y
+    → is_covered_if entry.program cert.nodes procedure a (reduced_state rules s) ≡ true → Means s entry base y → IsFoundAt cert procedure a (length s.items) entry base y
+unfolding reduced_state
+found_reduced rules cert procedure a s entry base y can h m =
+    found_left cert procedure a s (reduced rules s.core s.relations) entry base y (left_is_meant rules s s.core entry y can m.parts.core m.related)
+    (reduced_cuts rules s.core s.relations _ refl) h m.parts m.summary
 
-found_by_reduced : (rules : Rules) (cert : Certificate) (procedure a : ℕ) (s : AbsState) (r : Register) (entry : Activation) (base : ℕ) (y : MState) → ArePairs s.relations.pairs → AreBytes y.processor.registers
-    → is_covered_by_values entry.program rules cert.nodes procedure a s r ≡ true → Means s entry base y → IsFoundAt cert procedure a (length s.items) entry base y
-unfolding is_covered_by_values
-found_by_reduced rules cert procedure a s r entry base y pairs bytes h m =
-    let val = get r s.core.registers in
-    let holds : Holds val entry (get r y.processor.registers) = m.parts.core.registers r in
+-- ---- value by value
+
+-- the machine's own value
+abbrev value_at : Parted → MState → ℕ
+value_at (parted.Register r) y = get r y.processor.registers
+value_at (parted.Byte at v) y = peek y.storage at
+
+-- the states with it mean the machine's state
+with_one_means :
+    (by : Parted) (s : AbsState) (entry : Activation) (base : ℕ) (y : MState) → Holds (known_of by s) entry (value_at by y) → Means s entry base y → Means (with_one by s (value_at by y)) entry base y
+unfolding with_value with_byte
+with_one_means (parted.Register r) s entry base y h m = record { parts = MeansParts-with_value r s entry base y m.parts; related = m.related; summary = m.summary }
+with_one_means (parted.Byte at v) s entry base y h m =
+    let n = peek y.storage at in
+    let c : Cell = record { address = at; val = record v { lo = n; hi = n; low_bits = 0 } } in
+    let one : Holds c.val entry n = record { least = omega arith; most = omega arith; low = refl; origin = h.origin } in
+    record {
+      parts = record {
+        core = m.parts.core;
+        memory = m.parts.memory;
+        sp = m.parts.sp;
+        stack = m.parts.stack;
+        items = m.parts.items;
+        cells = AllByRecursion-with_cell (λ d. Holds d.val entry (peek y.storage d.address)) (cell_room Extended) c s.cells one m.parts.cells;
+      };
+      related = m.related;
+      summary = HoldSummary-with_cells entry.program s.cells _ s.summary y.processor (peek y.storage) y.storage.banks (has_cells_with_cell (cell_room Extended) c s.cells) m.summary;
+    }
+
+same_relations : (by : Parted) (s : AbsState) (n : ℕ) → (with_one by s n).relations ≡ s.relations
+unfolding with_value with_byte
+same_relations (parted.Register r) s n = refl
+same_relations (parted.Byte at v) s n = refl
+
+same_items : (by : Parted) (s : AbsState) (n : ℕ) → (with_one by s n).items ≡ s.items
+unfolding with_value with_byte
+same_items (parted.Register r) s n = refl
+same_items (parted.Byte at v) s n = refl
+
+reducible_one : (rules : Rules) (by : Parted) (s : AbsState) (n : ℕ) (y : MState) → IsReducible rules s y → IsReducible rules (with_one by s n) y
+reducible_one Simple by s n y can = tt
+reducible_one Extended by s n y can = (subst (λ (r : Relations). ArePairs r.pairs) (sym (same_relations by s n)) can.0, can.1)
+
+asked : (b c : Bool) → b ≡ true → (not b || c) ≡ true → c ≡ true
+asked true c e h = h
+asked false c e h = cc
+
+-- a node stands for those with the machine's own value, as far as they are left
+found_by_values :
+    (rules : Rules) (cert : Certificate) (procedure a : ℕ) (s : AbsState) (by : Parted) (entry : Activation) (base : ℕ) (y : MState)
+    → IsReducible rules s y → Holds (known_of by s) entry (value_at by y) → is_covered_by_values entry.program rules cert.nodes procedure a s by ≡ true → Means s entry base y
+    → IsFoundAt cert procedure a (length s.items) entry base y
+unfolding is_covered_by_values is_value_covered
+found_by_values rules cert procedure a s by entry base y can holds h m =
+    let n = value_at by y in
     let least = holds.least in
     let most = holds.most in
-    let one = one_of_them (is_value_covered entry.program rules cert.nodes procedure a s r) val.lo (count_of val) (get r y.processor.registers) h least (omega arith) in
-    found_by_value rules cert procedure a s r entry base y pairs bytes one m
+    let one = one_of_them (λ v. not (has_low_bits (known_of by s) v) || is_covered_if entry.program cert.nodes procedure a (reduced_state rules (with_one by s v)))
+    (known_of by s).lo (count_of (known_of by s)) n h least (omega arith) in
+    subst (λ items. IsFoundAt cert procedure a (length items) entry base y) (same_items by s n)
+    (found_reduced rules cert procedure a (with_one by s n) entry base y (reducible_one rules by s n y can) (asked _ _ holds.low one) (with_one_means by s entry base y holds m))
 
--- states that are covered at an address, by either rules: a node there means each of their machine states
-pub found_by : (rules : Rules) (cert : Certificate) (procedure a : ℕ) (s : AbsState) (entry : Activation) (base : ℕ) (y : MState) → ArePairs s.relations.pairs → AreBytes y.processor.registers
-    → covered_at entry.program rules cert.nodes procedure a s ≡ true → Means s entry base y → IsFoundAt cert procedure a (length s.items) entry base y
+found_by_byte :
+    (rules : Rules) (cert : Certificate) (procedure a : ℕ) (s : AbsState) (at : ℕ) (entry : Activation) (base : ℕ) (y : MState)
+    → IsReducible rules s y → is_covered_by_byte entry.program rules cert.nodes procedure a s at ≡ true → Means s entry base y
+    → IsFoundAt cert procedure a (length s.items) entry base y
+unfolding is_covered_by_byte
+found_by_byte rules cert procedure a s at entry base y can h m =
+    found_by_values rules cert procedure a s (parted.Byte at (byte_in entry.program (values_in s) s.cells s.summary at)) entry base y can
+    (Holds-byte s at entry base y m) (and_parts _ _ h).1 m
+
+found_by_bytes :
+    (rules : Rules) (cert : Certificate) (procedure a : ℕ) (s : AbsState) (entry : Activation) (base : ℕ) (y : MState)
+    → IsReducible rules s y → is_covered_by_bytes entry.program rules cert.nodes procedure a s ≡ true → Means s entry base y
+    → IsFoundAt cert procedure a (length s.items) entry base y
+unfolding is_covered_by_bytes
+found_by_bytes rules cert procedure a s entry base y can h m =
+    let node = Any-from_list_any (λ n. is_node_at procedure a n && list_any (is_covered_by_cell entry.program rules cert.nodes procedure a s) n.state.cells) cert.nodes h in
+    let cell = Any-from_list_any (is_covered_by_cell entry.program rules cert.nodes procedure a s) node.1.state.cells (and_parts _ _ node.4).1 in
+    found_by_byte rules cert procedure a s cell.1.address entry base y can cell.4 m
+
+-- states that are covered at an address: a node there means each of their machine states
+found_where :
+    (rules : Rules) (cert : Certificate) (procedure a : ℕ) (s : AbsState) (entry : Activation) (base : ℕ) (y : MState)
+    → IsReducible rules s y → covered_at entry.program rules cert procedure a s ≡ true → Means s entry base y → IsFoundAt cert procedure a (length s.items) entry base y
 unfolding covered_at
-found_by rules cert procedure a s entry base y pairs bytes h m = by (is_covered_by_one entry.program cert.nodes procedure a s) refl h
+found_where rules cert procedure a s entry base y can h m = by (is_covered_by_one entry.program cert.nodes procedure a s) (list_any (is_covered_by_register entry.program rules cert.nodes procedure a s) registers) refl refl h
   where
-    values : list_any (is_covered_by_values entry.program rules cert.nodes procedure a s) registers ≡ true → IsFoundAt cert procedure a (length s.items) entry base y
-    values e =
-        let p = Any-from_list_any (is_covered_by_values entry.program rules cert.nodes procedure a s) registers e in
-        found_by_reduced rules cert procedure a s p.1 entry base y pairs bytes p.4 m
+    register : list_any (is_covered_by_register entry.program rules cert.nodes procedure a s) registers ≡ true → IsFoundAt cert procedure a (length s.items) entry base y
+    register e =
+        let p = Any-from_list_any (is_covered_by_register entry.program rules cert.nodes procedure a s) registers e in
+        found_by_values rules cert procedure a s (parted.Register p.1) entry base y can (m.parts.core.registers p.1) p.4 m
 
-    by : (b : Bool) → is_covered_by_one entry.program cert.nodes procedure a s ≡ b → (b || list_any (is_covered_by_values entry.program rules cert.nodes procedure a s) registers) ≡ true → IsFoundAt cert procedure a (length s.items) entry base y
-    by true e t = found_by_one cert procedure a s entry base y e m
-    by false e t = values t
+    by :
+        (b c : Bool) → is_covered_by_one entry.program cert.nodes procedure a s ≡ b → list_any (is_covered_by_register entry.program rules cert.nodes procedure a s) registers ≡ c
+        → ((b || c) || (cert.version == 4) && is_covered_by_bytes entry.program rules cert.nodes procedure a s) ≡ true → IsFoundAt cert procedure a (length s.items) entry base y
+    by true c e f t = found_by_one cert procedure a s entry base y e m
+    by false true e f t = register f
+    by false false e f t = found_by_bytes rules cert procedure a s entry base y can (and_parts _ _ t).1 m
+
+-- by the rules of versions 1 and 2
+pub found_at : (cert : Certificate) (procedure a : ℕ) (s : AbsState) (entry : Activation) (base : ℕ) (y : MState) → covered_at entry.program Simple cert procedure a s ≡ true → Means s entry base y
+    → IsFoundAt cert procedure a (length s.items) entry base y
+found_at cert procedure a s entry base y h m = found_where Simple cert procedure a s entry base y tt h m
+
+-- by any rules
+pub found_by : (rules : Rules) (cert : Certificate) (procedure a : ℕ) (s : AbsState) (entry : Activation) (base : ℕ) (y : MState) → ArePairs s.relations.pairs → AreBytes y.processor.registers
+    → covered_at entry.program rules cert procedure a s ≡ true → Means s entry base y → IsFoundAt cert procedure a (length s.items) entry base y
+found_by Simple cert procedure a s entry base y pairs bytes h m = found_where Simple cert procedure a s entry base y tt h m
+found_by Extended cert procedure a s entry base y pairs bytes h m = found_where Extended cert procedure a s entry base y (pairs, bytes) h m

@@ -48,7 +48,7 @@ use Rattle.gb_successors.proofs.Below.gb_abs_laws.OperationLaws.{Holds-single}
 use Rattle.gb_successors.proofs.Below.gb_abs_laws.StackLaws.{IsRegionOpen-bound, MeansParts-pushed, MeansParts-with_core}
 use Rattle.gb_successors.specs.Below.gb_code.Below.gb_abs_memory.Kept.{IsKept}
 use Rattle.gb_successors.specs.Below.gb_code.Below.gb_abs_memory.Sound.{view}
-use Rattle.gb_calls.specs.Calls.{callee_of, are_ranges_inside}
+use Rattle.gb_calls.specs.Calls.{entered_by, callee_of, are_ranges_inside}
 use Rattle.gb_calls.specs.Resuming.{resumed}
 use Rattle.gb_calls.specs.Interrupts.{only_off, dispatched, left_by_dispatch, may_come, handler_of}
 use Rattle.gb_calls.proofs.CalleeLaws.{IsCallee-found, IsEntryNode-entry}
@@ -58,7 +58,9 @@ use Rattle.gb_successors.specs.Below.gb_abs_effects.Pairs.{known_word}
 use Rattle.gb_successors.proofs.StackWayLaws.{not_pushed}
 use Rattle.gb_successors.proofs.SuccessorLaws.{MeansParts-ended, passed_peek}
 use Rattle.gb_rules.specs.Covered.{covered_at}
-use Rattle.gb_rules.specs.Procedures.{ranges_of, need_of, setting_of, exit_of, taken_by}
+use Rattle.gb_rules.specs.Procedures.{ranges_of, kept_of, need_of, setting_of, exit_of, taken_by}
+use Rattle.gb_rules.proofs.ProcedureLaws.{kept_is}
+use Rattle.gb_successors.specs.Below.gb_product.Covering.{covers}
 use Rattle.gb_rules.specs.Safety.{IsAt, Calls, IsSafeEvent}
 use Rattle.gb_rules.proofs.SearchLaws.{Contains-slice_get}
 use Rattle.gb_rules.proofs.NodeLaws.{IsNodeState-node, simple_at}
@@ -254,7 +256,7 @@ left_is a s = refl
 abbrev pub GoesOn : Program → Certificate → Node → ℕ → Type 0
 GoesOn program cert n q =
     (exit : AbsState) → exit_of cert q ≡ Some exit
-    → IfSome (resumed program Simple (taken_by cert q) (ranges_of cert q) (left_by_dispatch Simple n.address n.state) exit) (λ after. covered_at program Simple cert.nodes n.procedure n.address after ≡ true)
+    → IfSome (resumed program Simple (setting_of cert n.procedure).is_whole (taken_by cert q) (ranges_of cert q) (kept_of cert q) (left_by_dispatch Simple n.address n.state) exit) (λ after. covered_at program Simple cert n.procedure n.address after ≡ true)
 
 handled : (rom : List ℕ) (cert : Certificate) (n : Node) (entry : Activation) (base : ℕ) (x : MState) (i q : ℕ) → IsAt rom cert n entry base x → Contains cert.nodes n → IsCertificate cert
     → IsDispatched rom cert n entry base x i → x.processor.halt_mark ≡ false → n.state.core.stack_set ≡ true → handler_of entry.program cert (simple_at cert n) i n.address n.state ≡ Some q
@@ -279,14 +281,15 @@ handled rom cert n entry base x i q at is_node certificate d mark set handler in
       is_node = Contains-slice_get cert.nodes callee.procedure.entry begin.node begin.is_node;
       not_main = subst (λ m. 0 < m) (sym number) callee.not_main;
       address = sym begin.address;
-      begins = begin.covering;
+      begins = subst (λ ks. covers entry.program (entered_by entry.program Simple (length begin.node.state.items) ks (dispatched n.state)) begin.node.state ≡ true)
+          (sym (ap (kept_of cert) number ∙ kept_is cert q callee.procedure callee.is_procedure)) begin.covering;
       mark = mark;
       depth = subst (λ items. length items + 2 + need_of cert begin.node.procedure ≤ need_of cert n.procedure) (sym (dispatched_items n.state))
           (subst (λ m. length n.state.items + 2 + need_of cert m ≤ need_of cert n.procedure) (sym number) depth);
       inside = subst (λ m. are_ranges_inside (ranges_of cert m) (ranges_of cert n.procedure) ≡ true) (sym number) inside;
       resumes = λ exit is.
-          subst (λ m. IfSome (resumed entry.program Simple (taken_by cert m) (ranges_of cert m) (dispatched n.state) exit) (λ after. covered_at entry.program Simple cert.nodes n.procedure n.address after ≡ true)) (sym number)
-          (subst (λ (s : AbsState). IfSome (resumed entry.program Simple (taken_by cert q) (ranges_of cert q) s exit) (λ after. covered_at entry.program Simple cert.nodes n.procedure n.address after ≡ true)) (left_is n.address n.state)
+          subst (λ m. IfSome (resumed entry.program Simple (setting_of cert n.procedure).is_whole (taken_by cert m) (ranges_of cert m) (kept_of cert m) (dispatched n.state) exit) (λ after. covered_at entry.program Simple cert n.procedure n.address after ≡ true)) (sym number)
+          (subst (λ (s : AbsState). IfSome (resumed entry.program Simple (setting_of cert n.procedure).is_whole (taken_by cert q) (ranges_of cert q) (kept_of cert q) s exit) (λ after. covered_at entry.program Simple cert n.procedure n.address after ≡ true)) (left_is n.address n.state)
           (resumes exit (subst (λ m. exit_of cert m ≡ Some exit) number is)));
     }
 

@@ -29,7 +29,7 @@ use Rattle.gb_successors.specs.Below.gb_abs_effects.Pairs.{known_word}
 use Rattle.gb_ops.specs.declared.machine.Kind.TheVariants as kind
 use Rattle.gb_rules.proofs.ProgramLaws.{no_controller}
 use Rattle.gb_rules.specs.Covered.{covered_at}
-use Rattle.gb_rules.specs.Procedures.{ranges_of, need_of, setting_of, program_of, exit_of}
+use Rattle.gb_rules.specs.Procedures.{ranges_of, kept_of, need_of, setting_of, program_of, exit_of}
 use Rattle.gb_rules.specs.Safety.{begun, IsAt, IsMeant, Calls, Returns}
 use Rattle.gb_rules.specs.Frames.{Keeps, Frame, IsWaiting, AreWaiting, Stands}
 use Rattle.gb_rules.proofs.CoveringLaws.{IsFoundAt, covered_items, found_at}
@@ -86,25 +86,26 @@ caller_means cert procedure entry base t c p = Means-without_word (known_word c.
 -- ---- a frame is put on
 
 -- by the rules of versions 1 and 2 the callee begins with nothing
-no_items : (program : Program) (k : ℕ) (s : AbsState) (n : Node) → covers program (entered_by Simple k s) n.state ≡ true → length n.state.items ≡ 0
+no_items : (program : Program) (k : ℕ) (kept : List ℕ) (s : AbsState) (n : Node) → covers program (entered_by program Simple k kept s) n.state ≡ true → length n.state.items ≡ 0
 unfolding entered_by
-no_items program k s n h = covered_items program (entered_by Simple k s) n.state h
+no_items program k kept s n h = covered_items program (entered_by program Simple k kept s) n.state h
 
 -- the callee stands at its entry, and was entered just now
 IsAt-called : (rom : List ℕ) (cert : Certificate) (procedure : ℕ) (entry : Activation) (base : ℕ) (t : MState) → IsCertificate cert → rules_of cert.version ≡ Simple → entry.program ≡ program_of rom cert
-    → (c : Calls cert procedure entry base t) → IsPlacedCall cert procedure entry base t c → IsAt rom cert c.node (begun rom cert t) t.processor.sp t
+    → (c : Calls cert procedure entry base t) → IsPlacedCall cert procedure entry base t c → IsAt rom cert c.node (begun rom cert c.node.procedure t) t.processor.sp t
 IsAt-called rom cert procedure entry base t certificate simple program c p =
     let small : t.processor.sp < 65536 = (let h = p.small in omega arith) in
-    let none = no_items entry.program (length c.node.state.items) c.state c.node c.begins in
+    let none = no_items entry.program (length c.node.state.items) (kept_of cert c.node.procedure) c.state c.node c.begins in
     let some = c.not_main in
     let first = p.callee_room.first in
     let last = p.callee_room.last in
     record {
       address = c.address;
       program = refl;
-      means = Means-covered (entered_by Simple (length c.node.state.items) c.state) c.node.state (begun rom cert t) t.processor.sp t
-          (subst (λ q. covers q (entered_by Simple (length c.node.state.items) c.state) c.node.state ≡ true) program c.begins)
-          (Means-entered (length c.node.state.items) c.state entry base (begun rom cert t) (sym program) (caller_means cert procedure entry base t c p) small);
+      names = refl;
+      means = Means-covered (entered_by (program_of rom cert) Simple (length c.node.state.items) (kept_of cert c.node.procedure) c.state) c.node.state (begun rom cert c.node.procedure t) t.processor.sp t
+          (subst (λ q. covers q (entered_by q Simple (length c.node.state.items) (kept_of cert c.node.procedure) c.state) c.node.state ≡ true) program c.begins)
+          (Means-entered (program_of rom cert) (length c.node.state.items) (kept_of cert c.node.procedure) c.state entry base (begun rom cert c.node.procedure t) program refl refl (caller_means cert procedure entry base t c p) small);
       mark = inl c.mark;
       main = λ e. absurd (omega arith);
       based = based_setting cert c.node.procedure t.processor.sp certificate simple (λ e. absurd (omega arith));
@@ -125,7 +126,7 @@ waiting_in cert rules frames procedure entry base is w = subst (λ r. AreWaiting
 -- the machine has called: the procedure waits, and the callee was entered just now
 pub Stands-called : (rom : List ℕ) (cert : Certificate) (frames : List Frame) (procedure : ℕ) (entry : Activation) (base : ℕ) (s t : MState) → IsCertificate cert → rules_of cert.version ≡ Simple
     → Stands rom cert frames procedure entry base s → (c : Calls cert procedure entry base t) → Keeps cert procedure base s t
-    → Stands rom cert (record { procedure = procedure; entry = entry; base = base } ∷ frames) c.node.procedure (begun rom cert t) t.processor.sp t
+    → Stands rom cert (record { procedure = procedure; entry = entry; base = base } ∷ frames) c.node.procedure (begun rom cert c.node.procedure t) t.processor.sp t
 Stands-called rom cert frames procedure entry base s t certificate simple stands c keeps =
     let at = stands.meant.at in
     let same = stands.meant.procedure_is in
@@ -133,10 +134,11 @@ Stands-called rom cert frames procedure entry base s t certificate simple stands
     let p = placed_call cert procedure entry base t certificate room c in
     record {
       meant = record { node = c.node; is_node = c.is_node; procedure_is = refl; at = IsAt-called rom cert procedure entry base t certificate simple at.program c p };
-      waiting = waiting_in cert Simple (record { procedure = procedure; entry = entry; base = base } ∷ frames) c.node.procedure (begun rom cert t) t.processor.sp simple (
+      waiting = waiting_in cert Simple (record { procedure = procedure; entry = entry; base = base } ∷ frames) c.node.procedure (begun rom cert c.node.procedure t) t.processor.sp simple (
         record {
           calls = c;
           program = at.program;
+          names = at.names ∙ ap (kept_of cert) same;
           callee = refl;
           base_is = refl;
           main = λ e. at.main (same ∙ e);
@@ -222,10 +224,10 @@ comes_back rom cert f procedure entry base s t certificate simple program w befo
 
 -- the state that the caller goes on with is covered at the address behind the call
 is_resumed : (cert : Certificate) (f : Frame) (procedure : ℕ) (entry : Activation) (base : ℕ) (exit : AbsState) → (w : IsWaiting cert f procedure entry base) → exit_of cert procedure ≡ Some exit
-    → covered_at f.entry.program Simple cert.nodes f.procedure w.calls.back (resumed_alone (ranges_of cert procedure) w.calls.state exit) ≡ true
+    → covered_at f.entry.program Simple cert f.procedure w.calls.back (resumed_alone (ranges_of cert procedure) w.calls.state exit) ≡ true
 unfolding resumed
 is_resumed cert f procedure entry base exit w is =
-    subst (λ n. covered_at f.entry.program Simple cert.nodes f.procedure w.calls.back (resumed_alone (ranges_of cert n) w.calls.state exit) ≡ true) w.callee
+    subst (λ n. covered_at f.entry.program Simple cert f.procedure w.calls.back (resumed_alone (ranges_of cert n) w.calls.state exit) ≡ true) w.callee
     (w.calls.resumes exit (ap (exit_of cert) w.callee ∙ is))
 
 -- the caller's state behind the call is meant by a node
@@ -255,6 +257,7 @@ IsMeant-returned rom cert f procedure entry base s t certificate simple program 
       at = record {
         address = r.address ∙ (back_is cert f procedure entry base s certificate simple w before ∙ sym g.address);
         program = w.program ∙ program;
+        names = w.names ∙ ap (kept_of cert) (sym same);
         means = g.means;
         mark = inl r.mark;
         main = λ e. w.main (sym same ∙ e);

@@ -7,7 +7,6 @@ use Rattle.gb_ops.specs.Play.{MState}
 use Rattle.gb_successors.specs.Below.gb_abs.Meaning.{Activation}
 use Rattle.gb_successors.specs.Below.gb_domain.declared.rules.Rules.{Rules}
 use Rattle.gb_successors.specs.Below.gb_domain.declared.rules.Rules.TheVariants.{Extended}
-use Rattle.gb_successors.specs.Below.gb_domain.declared.types.Val.{Val}
 use Rattle.gb_successors.specs.Below.gb_domain.Summaries.{Program}
 use Rattle.gb_successors.specs.Below.gb_domain.Types.{AbsState}
 use Rattle.gb_successors.specs.Below.gb_domain.Certificate.{Certificate}
@@ -30,7 +29,7 @@ use Rattle.gb_calls.proofs.RangeLaws.{IsKept-inside}
 use Rattle.gb_calls.proofs.ResumingLaws.{Means-resumed}
 use Rattle.gb_calls.proofs.TakenOverLaws.{taken_over-pointer, given_back-pointer}
 use Rattle.gb_rules.specs.Covered.{covered_at}
-use Rattle.gb_rules.specs.Procedures.{ranges_of, need_of, setting_of, program_of, exit_of, taken_by}
+use Rattle.gb_rules.specs.Procedures.{ranges_of, kept_of, need_of, setting_of, program_of, exit_of, taken_by}
 use Rattle.gb_rules.specs.Safety.{begun, IsAt, IsMeant, HandsOver, GoesBack}
 use Rattle.gb_rules.specs.Frames.{Keeps, Frame, IsWaitingAbove, Stands}
 use Rattle.gb_rules.proofs.CoveringLaws.{IsFoundAt, covered_items, found_by}
@@ -60,10 +59,10 @@ who_keeps cert procedure extended h = other procedure (subst (λ (r : Rules). ke
 -- ---- a frame is put on
 
 -- how many items a callee begins with
-items_begun : (program : Program) (k : ℕ) (s t : AbsState) → k ≤ length s.items → covers program (entered_by Extended k s) t ≡ true → length t.items ≡ k
+items_begun : (program : Program) (k : ℕ) (kept : List ℕ) (s t : AbsState) → k ≤ length s.items → covers program (entered_by program Extended k kept s) t ≡ true → length t.items ≡ k
 unfolding entered_by
-items_begun program k s t few h =
-    let same = covered_items program (entered_by Extended k s) t h in
+items_begun program k kept s t few h =
+    let same = covered_items program (entered_by program Extended k kept s) t h in
     let pointer = taken_over-pointer k s.items 0 (length s.items) few (none (length s.items)) in
     let least = few in
     omega arith
@@ -84,7 +83,7 @@ placed_above : (cert : Certificate) (procedure : ℕ) (entry : Activation) (base
     → IsPlacedAbove cert procedure entry base t h
 placed_above cert procedure entry base t room h =
     let p = in_region cert.region.first cert.region.last base (need_of cert procedure) (taken_by cert h.node.procedure) (length h.state.items) (need_of cert h.node.procedure) (length h.node.state.items)
-    room.first room.last h.held.first h.few h.depth (items_begun entry.program (taken_by cert h.node.procedure) h.state h.node.state h.few h.begins) in
+    room.first room.last h.held.first h.few h.depth (items_begun entry.program (taken_by cert h.node.procedure) (kept_of cert h.node.procedure) h.state h.node.state h.few h.begins) in
     record { room = record { first = p.0; last = p.1.1 }; held = record { first = p.1.0; last = p.1.1 } }
 
 is_called : (cert : Certificate) (procedure : ℕ) (entry : Activation) (base : ℕ) (t : MState) (h : HandsOver cert procedure entry base t) → IsCalled (taken_by cert h.node.procedure) h.state entry base t
@@ -92,16 +91,18 @@ is_called cert procedure entry base t h = record { few = h.few; stack_set = h.st
 
 -- the callee stands at its entry, and was entered just now
 IsAt-handed : (rom : List ℕ) (cert : Certificate) (procedure : ℕ) (entry : Activation) (base : ℕ) (t : MState) → rules_of cert.version ≡ Extended → entry.program ≡ program_of rom cert
-    → (h : HandsOver cert procedure entry base t) → IsPlacedAbove cert procedure entry base t h → IsAt rom cert h.node (begun rom cert t) (base_below (taken_by cert h.node.procedure) h.state.items base) t
+    → (h : HandsOver cert procedure entry base t) → IsPlacedAbove cert procedure entry base t h → IsAt rom cert h.node (begun rom cert h.node.procedure t) (base_below (taken_by cert h.node.procedure) h.state.items base) t
 IsAt-handed rom cert procedure entry base t extended program h p =
     let k = taken_by cert h.node.procedure in
+    let kept = kept_of cert h.node.procedure in
     let some = h.not_main in
     record {
       address = h.address;
       program = refl;
-      means = Means-covered (entered_by Extended k h.state) h.node.state (begun rom cert t) (base_below k h.state.items base) t
-          (subst (λ q. covers q (entered_by Extended k h.state) h.node.state ≡ true) program h.begins)
-          (Means-taken_over k h.state entry base (begun rom cert t) (sym program) (is_called cert procedure entry base t h));
+      names = refl;
+      means = Means-covered (entered_by (program_of rom cert) Extended k kept h.state) h.node.state (begun rom cert h.node.procedure t) (base_below k h.state.items base) t
+          (subst (λ q. covers q (entered_by q Extended k kept h.state) h.node.state ≡ true) program h.begins)
+          (Means-taken_over (program_of rom cert) k kept h.state entry base (begun rom cert h.node.procedure t) program refl refl (is_called cert procedure entry base t h));
       mark = inl h.mark;
       main = λ e. absurd (omega arith);
       based = h.based;
@@ -113,7 +114,7 @@ IsAt-handed rom cert procedure entry base t extended program h p =
 -- the machine has called: the procedure waits above the items that it keeps, and the callee was entered just now
 pub Stands-handed : (rom : List ℕ) (cert : Certificate) (frames : List Frame) (procedure : ℕ) (entry : Activation) (base : ℕ) (s t : MState) → rules_of cert.version ≡ Extended
     → Stands rom cert frames procedure entry base s → (h : HandsOver cert procedure entry base t) → Keeps cert procedure base s t
-    → Stands rom cert (record { procedure = procedure; entry = entry; base = base } ∷ frames) h.node.procedure (begun rom cert t) (base_below (taken_by cert h.node.procedure) h.state.items base) t
+    → Stands rom cert (record { procedure = procedure; entry = entry; base = base } ∷ frames) h.node.procedure (begun rom cert h.node.procedure t) (base_below (taken_by cert h.node.procedure) h.state.items base) t
 Stands-handed rom cert frames procedure entry base s t extended stands h keeps =
     let at = stands.meant.at in
     let same = stands.meant.procedure_is in
@@ -121,10 +122,11 @@ Stands-handed rom cert frames procedure entry base s t extended stands h keeps =
     let under = base_below (taken_by cert h.node.procedure) h.state.items base in
     record {
       meant = record { node = h.node; is_node = h.is_node; procedure_is = refl; at = IsAt-handed rom cert procedure entry base t extended at.program h (placed_above cert procedure entry base t room h) };
-      waiting = waiting_in cert Extended (record { procedure = procedure; entry = entry; base = base } ∷ frames) h.node.procedure (begun rom cert t) under extended (
+      waiting = waiting_in cert Extended (record { procedure = procedure; entry = entry; base = base } ∷ frames) h.node.procedure (begun rom cert h.node.procedure t) under extended (
         record {
           calls = h;
           program = at.program;
+          names = at.names ∙ ap (kept_of cert) same;
           callee = refl;
           base_is = refl;
           main = λ e. at.main (same ∙ e);
@@ -154,9 +156,10 @@ Keeps-below cert f procedure above base s t extended w keeps =
 
 -- the callee has come back
 hands_back : (rom : List ℕ) (cert : Certificate) (f : Frame) (procedure : ℕ) (entry : Activation) (base : ℕ) (s t : MState) → IsCertificate cert → rules_of cert.version ≡ Extended
-    → entry.program ≡ program_of rom cert → (w : IsWaitingAbove cert f procedure entry base) → Keeps cert procedure base entry.entered s → (r : GoesBack cert procedure entry base t) → Keeps cert procedure base s t
-    → HandsBack f.entry.program (taken_by cert procedure) cert.region (ranges_of cert procedure) w.calls.state r.exit f.entry f.base entry t
-hands_back rom cert f procedure entry base s t certificate extended program w before r keeps =
+    → entry.program ≡ program_of rom cert → entry.kept ≡ kept_of cert procedure → (w : IsWaitingAbove cert f procedure entry base) → Keeps cert procedure base entry.entered s
+    → (r : GoesBack cert procedure entry base t) → Keeps cert procedure base s t
+    → HandsBack f.entry.program (taken_by cert procedure) cert.region (ranges_of cert procedure) (kept_of cert procedure) w.calls.state r.exit f.entry f.base entry t
+hands_back rom cert f procedure entry base s t certificate extended program names w before r keeps =
     let c = w.calls in
     let exit = exit_state cert procedure r.exit certificate r.is_exit in
     let all = Keeps-then cert procedure base entry.entered s t before keeps in
@@ -174,6 +177,7 @@ hands_back rom cert f procedure entry base s t certificate extended program w be
       exits = subst (λ n. Means r.exit entry n t) w.base_is r.means;
       caller_program = refl;
       callee_program = sym w.program;
+      names = names;
       facts = subst (λ p. AreFreeFacts cert.region p.facts) (sym (w.program ∙ program)) (is_program rom cert certificate).facts;
       exit_free = free_quiet cert.region r.exit.summary (nothing_said (rules_of cert.version) r.exit exit.sayable);
       kept = λ b k. all.byte b (subst (λ n. IsKept (setting_of cert procedure) cert.region (ranges_of cert procedure) n b) (sym w.base_is) k);
@@ -181,29 +185,32 @@ hands_back rom cert f procedure entry base s t certificate extended program w be
 
 -- where something is left, it is covered, and means the machine's state, a node stands for it
 found_if : (cert : Certificate) (procedure a : ℕ) (k : ℕ) (s x : AbsState) (entry called : Activation) (base : ℕ) (y : MState) (o : Option AbsState) → IsState Extended role.Exit cert.region x → Means x called base y
-    → (top : ℕ) → MeansIf o entry top y → IfSome o (λ after. covered_at entry.program Extended cert.nodes procedure a after ≡ true) → IfSome o (IsGivenBack k s x)
+    → (top : ℕ) → MeansIf o entry top y → IfSome o (λ after. covered_at entry.program Extended cert procedure a after ≡ true) → IfSome o (IsGivenBack k s x)
     → IsFoundAt cert procedure a (length (given_back_items k s.items x.items)) entry top y
 found_if cert procedure a k s x entry called base y None is exits top m covered given = absurd m
 found_if cert procedure a k s x entry called base y (Some after) is exits top m covered given =
-    subst (λ (items : List Val). IsFoundAt cert procedure a (length items) entry top y) given.items
+    subst (λ n. IsFoundAt cert procedure a n entry top y) given.count
     (found_by Extended cert procedure a after entry top y given.pairs (AreBytes-core x.core called y is.core exits.parts.core) covered m)
 
 -- the caller's state behind the call is meant by a node
 goes_on : (rom : List ℕ) (cert : Certificate) (f : Frame) (procedure : ℕ) (entry : Activation) (base : ℕ) (s t : MState) → IsCertificate cert → rules_of cert.version ≡ Extended
-    → entry.program ≡ program_of rom cert → (w : IsWaitingAbove cert f procedure entry base) → Keeps cert procedure base entry.entered s → (r : GoesBack cert procedure entry base t) → Keeps cert procedure base s t
+    → entry.program ≡ program_of rom cert → entry.kept ≡ kept_of cert procedure → (w : IsWaitingAbove cert f procedure entry base) → Keeps cert procedure base entry.entered s
+    → (r : GoesBack cert procedure entry base t) → Keeps cert procedure base s t
     → IsFoundAt cert f.procedure w.calls.back (length (given_back_items (taken_by cert procedure) w.calls.state.items r.exit.items)) f.entry f.base t
-goes_on rom cert f procedure entry base s t certificate extended program w before r keeps =
+goes_on rom cert f procedure entry base s t certificate extended program names w before r keeps =
     let c = w.calls in
     let k = taken_by cert procedure in
     let exit : IsState Extended role.Exit cert.region r.exit = subst (λ q. IsState q role.Exit cert.region r.exit) extended (exit_state cert procedure r.exit certificate r.is_exit) in
     let pairs = exit.relations.pairs in
-    let back = hands_back rom cert f procedure entry base s t certificate extended program w before r keeps in
-    let resumes : IfSome (resumed f.entry.program Extended k (ranges_of cert procedure) c.state r.exit) (λ after. covered_at f.entry.program Extended cert.nodes f.procedure c.back after ≡ true) =
-    subst (λ n. IfSome (resumed f.entry.program Extended (taken_by cert n) (ranges_of cert n) c.state r.exit) (λ after. covered_at f.entry.program Extended cert.nodes f.procedure c.back after ≡ true)) w.callee
+    let back = hands_back rom cert f procedure entry base s t certificate extended program names w before r keeps in
+    let z = setting_of cert f.procedure in
+    let kept = kept_of cert procedure in
+    let resumes : IfSome (resumed f.entry.program Extended z.is_whole k (ranges_of cert procedure) kept c.state r.exit) (λ after. covered_at f.entry.program Extended cert f.procedure c.back after ≡ true) =
+    subst (λ n. IfSome (resumed f.entry.program Extended (setting_of cert f.procedure).is_whole (taken_by cert n) (ranges_of cert n) (kept_of cert n) c.state r.exit) (λ after. covered_at f.entry.program Extended cert f.procedure c.back after ≡ true)) w.callee
     (c.resumes r.exit (ap (exit_of cert) w.callee ∙ r.is_exit)) in
-    found_if cert f.procedure c.back k c.state r.exit f.entry entry base t (resumed f.entry.program Extended k (ranges_of cert procedure) c.state r.exit) exit r.means f.base
-    (Means-resumed f.entry.program Extended k cert.region (ranges_of cert procedure) c.state r.exit f.entry f.base entry t c.pairs pairs back) resumes
-    (IsGivenBack-resumed f.entry.program k (ranges_of cert procedure) c.state r.exit c.pairs pairs)
+    found_if cert f.procedure c.back k c.state r.exit f.entry entry base t (resumed f.entry.program Extended z.is_whole k (ranges_of cert procedure) kept c.state r.exit) exit r.means f.base
+    (Means-resumed f.entry.program Extended z.is_whole k cert.region (ranges_of cert procedure) kept c.state r.exit f.entry f.base entry t c.pairs pairs back) resumes
+    (IsGivenBack-resumed f.entry.program z.is_whole k (ranges_of cert procedure) kept c.state r.exit c.pairs pairs)
 
 -- what it holds lies in the region
 given_back_room : (cert : Certificate) (f : Frame) (procedure : ℕ) (entry : Activation) (base : ℕ) (t : MState) → IsCertificate cert → (w : IsWaitingAbove cert f procedure entry base)
@@ -221,10 +228,10 @@ given_back_room cert f procedure entry base t certificate w r =
     record { first = omega arith; last = c.held.last }
 
 IsMeant-given_back : (rom : List ℕ) (cert : Certificate) (f : Frame) (procedure : ℕ) (entry : Activation) (base : ℕ) (s t : MState) → IsCertificate cert → rules_of cert.version ≡ Extended
-    → entry.program ≡ program_of rom cert → IsWaitingAbove cert f procedure entry base → Keeps cert procedure base entry.entered s → GoesBack cert procedure entry base t → Keeps cert procedure base s t
-    → IsMeant rom cert f.procedure f.entry f.base t
-IsMeant-given_back rom cert f procedure entry base s t certificate extended program w before r keeps =
-    let g = goes_on rom cert f procedure entry base s t certificate extended program w before r keeps in
+    → entry.program ≡ program_of rom cert → entry.kept ≡ kept_of cert procedure → IsWaitingAbove cert f procedure entry base → Keeps cert procedure base entry.entered s
+    → GoesBack cert procedure entry base t → Keeps cert procedure base s t → IsMeant rom cert f.procedure f.entry f.base t
+IsMeant-given_back rom cert f procedure entry base s t certificate extended program names w before r keeps =
+    let g = goes_on rom cert f procedure entry base s t certificate extended program names w before r keeps in
     let same = g.procedure_is in
     record {
       node = g.node;
@@ -233,6 +240,7 @@ IsMeant-given_back rom cert f procedure entry base s t certificate extended prog
       at = record {
         address = r.address ∙ (w.calls.return_word ∙ sym g.address);
         program = w.program ∙ program;
+        names = w.names ∙ ap (kept_of cert) (sym same);
         means = g.means;
         mark = inl r.mark;
         main = λ e. w.main (sym same ∙ e);
@@ -251,8 +259,9 @@ Stands-given_back rom cert f rest procedure entry base s t certificate extended 
     let waiting = waiting_by cert Extended (f ∷ rest) procedure entry base extended stands.waiting in
     let w = waiting.0 in
     let all = Keeps-then cert procedure base entry.entered s t stands.keeps keeps in
+    let names = stands.meant.at.names ∙ ap (kept_of cert) stands.meant.procedure_is in
     record {
-      meant = IsMeant-given_back rom cert f procedure entry base s t certificate extended stands.meant.at.program w stands.keeps r keeps;
+      meant = IsMeant-given_back rom cert f procedure entry base s t certificate extended stands.meant.at.program names w stands.keeps r keeps;
       waiting = waiting_in cert Extended rest f.procedure f.entry f.base extended waiting.1;
       keeps = Keeps-then cert f.procedure f.base f.entry.entered entry.entered t w.keeps (Keeps-below cert f procedure entry base entry.entered t extended w all);
     }

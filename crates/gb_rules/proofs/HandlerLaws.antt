@@ -171,7 +171,7 @@ unfolding handler_of
 dispatch_leads rom cert n entry base x i o extended certificate at s is ready d mark =
     let left = left_is n ready.few in
     let same = sym (widely cert n extended) in
-    LeadsBy-called rom cert n.procedure (vector i) n.address (left_at n) entry base x (left_by rom x i n.address) o extended certificate at.program (is_calling rom cert n entry base x i o at s ready d mark)
+    LeadsBy-called rom cert n.procedure (vector i) n.address (left_at n) entry base x (left_by rom x i n.address) o extended certificate at.program at.names (is_calling rom cert n entry base x i o at s ready d mark)
     (subst (λ z. callee_of entry.program cert z (vector i) (left_at n) ≡ o) same (subst (λ (p : AbsState). callee_of entry.program cert (wide_at cert n) (vector i) p ≡ o) left is))
     (subst (λ z. is_outside_of z cert n.procedure o ≡ false) same ready.inside)
     (subst (λ m. is_over Extended cert (need_of cert n.procedure) m o ≡ false) (sym (left_count n)) ready.depth)

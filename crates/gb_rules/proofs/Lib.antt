@@ -1,4 +1,5 @@
 pub mod SearchLaws
+pub mod ByteLaws
 pub mod CoveredLaws
 pub mod CoveringLaws
 pub mod ProcedureLaws

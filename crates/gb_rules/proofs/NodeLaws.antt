@@ -60,7 +60,7 @@ use Rattle.gb_rules.proofs.RegionLaws.{fewer_bytes}
 use Rattle.gb_rules.proofs.TargetLaws.{way_followed}
 use Rattle.gb_rules.specs.Safety.{HasReturnWord}
 use Rattle.std.specs.Option.{IfSome, is_some}
-use Rattle.gb_rules.specs.Procedures.{ranges_of, need_of, setting_of, stack_of, program_of, exit_of, taken_by}
+use Rattle.gb_rules.specs.Procedures.{ranges_of, kept_of, need_of, setting_of, stack_of, program_of, exit_of, taken_by}
 use Rattle.gb_rules.specs.Rules.{is_stop, may_read_twice, breaks_simple_stack, breaks_stack_by, breaks_stack, pushes_too_deep, moves_too_deep, is_code_limited, callee_by, callee_at, is_over, calls_too_deep, is_resumed_uncovered, is_uncovered_if, is_uncovered, is_outside_of, is_uncallable_at, is_uncallable, is_exit_missed, is_unreturnable_at, is_unreturnable, interrupts, any_interrupt, is_dispatch_deep, handles_too_deep, is_dispatch_limited, is_unhandled, lacks_handler, test_row, test_instruction, is_undefined, node_bytes, ways_of, any_of, is_possible, grows_too_deep, stores_outside, meets_ram, meets_transfer, leads_anywhere, leads_uncovered, calls_wrongly, returns_wrongly, applies_to_row, applies, reasons, reason_of}
 
 -- ---- a node of a certificate is one of its grammar
@@ -558,10 +558,10 @@ pub record IsProvided (program : Program) (cert : Certificate) (n : Node) (i : �
   pub depth : length n.state.items + 2 + need_of cert handler ≤ need_of cert n.procedure
   pub resumes :
       (exit : AbsState) → exit_of cert handler ≡ Some exit
-      → IfSome (resumed program Simple (taken_by cert handler) (ranges_of cert handler) (left_by_dispatch Simple n.address n.state) exit)
-      (λ after. covered_at program Simple cert.nodes n.procedure n.address after ≡ true)
+      → IfSome (resumed program Simple (setting_of cert n.procedure).is_whole (taken_by cert handler) (ranges_of cert handler) (kept_of cert handler) (left_by_dispatch Simple n.address n.state) exit)
+      (λ after. covered_at program Simple cert n.procedure n.address after ≡ true)
 
-pub covered_if : (program : Program) (cert : Certificate) (procedure a : ℕ) (o : Option AbsState) → is_uncovered_if program Simple cert procedure a o ≡ false → IfSome o (λ s. covered_at program Simple cert.nodes procedure a s ≡ true)
+pub covered_if : (program : Program) (cert : Certificate) (procedure a : ℕ) (o : Option AbsState) → is_uncovered_if program Simple cert procedure a o ≡ false → IfSome o (λ s. covered_at program Simple cert procedure a s ≡ true)
 covered_if program cert procedure a None h = tt
 covered_if program cert procedure a (Some s) h = not-false _ (or_parts _ _ h).1
 

@@ -1,5 +1,5 @@
 -- What a certificate promises of its procedures.
-use Rattle.std.proofs.Common.{◌≡◌, ℕ, zero, suc, ◌+◌, ◌≤◌, Bool, true, false, if◌then◌else◌, ◌==◌, ◌||◌, List, [], ◌∷◌, length, slice_get, Option, Some, None, refl, sym, ◌∙◌, subst, ◌<◌, arith}
+use Rattle.std.proofs.Common.{◌≡◌, ℕ, zero, suc, ◌+◌, ◌≤◌, Bool, true, false, if◌then◌else◌, ◌==◌, ◌||◌, List, [], ◌∷◌, length, slice_get, Option, Some, None, refl, sym, ◌∙◌, ap, subst, ◌<◌, arith}
 use Rattle.std.proofs.lemmas.Bool.{eqb-true, leb-true}
 use Rattle.std.proofs.lemmas.Bool.Decides.{nat_tests}
 use Rattle.std.proofs.lemmas.Option.{same_Some}
@@ -22,9 +22,14 @@ use Rattle.gb_successors.specs.Below.gb_abs.Span.{one}
 use Rattle.gb_successors.specs.Below.gb_abs.Stack.{AreInRegion}
 use Rattle.gb_successors.specs.Below.gb_code.Below.gb_abs_memory.Access.{is_range}
 use Rattle.gb_rules.specs.Safety.{HasReturnWord}
-use Rattle.gb_rules.specs.Procedures.{ranges_in, need_in, base_in, exit_in, ranges_of, need_of, setting_of, exit_of}
+use Rattle.gb_rules.specs.Procedures.{ranges_in, kept_in, need_in, base_in, exit_in, ranges_of, kept_of, need_of, setting_of, exit_of}
 
 -- ---- the procedure with a number
+
+-- the addresses that it names to be kept
+pub kept_is : (cert : Certificate) (q : ℕ) (p : ProcedureParts) → slice_get cert.procedures q ≡ Some p → kept_of cert q ≡ p.kept
+unfolding kept_of
+kept_is cert q p at = ap kept_in at
 
 -- one of a certificate's procedures, main or not
 record IsOneProcedure (rules : Rules) (region : Region) (nodes : ℕ) (p : ProcedureParts) : Type 0 where

@@ -1,22 +1,21 @@
 -- What the states of a certificate of versions 1 to 3 may speak of beside themselves: nothing, and they say nothing of it.
-use Rattle.std.proofs.Common.{◌≡◌, ℕ, ◌==◌, Bool, true, false, ◌&&◌, ◌||◌, cond, List, [], inl, inr, refl, sym, ap, subst, arith}
-use Rattle.std.proofs.lemmas.Bool.{and_parts, eqb-true}
+use Rattle.std.proofs.Common.{◌≡◌, ℕ, ◌==◌, Bool, true, false, ◌&&◌, List, inl, sym, ap, subst, arith}
+use Rattle.std.proofs.lemmas.Bool.{and_parts}
 use Rattle.std.proofs.lemmas.Bool.Decides.{nat_tests}
 use Rattle.std.specs.List.{list_all}
-use Rattle.gb_ops.specs.declared.machine.Kind.{Kind}
 use Rattle.gb_ops.specs.declared.machine.Kind.TheVariants as kind
 use Rattle.gb_ops.specs.declared.machine.Region.{Region}
 use Rattle.gb_ops.specs.Cartridge.{kind_of}
 use Rattle.gb_successors.specs.Below.gb_domain.declared.rules.Rules.{Rules}
-use Rattle.gb_successors.specs.Below.gb_domain.Limits.{rules_of}
-use Rattle.gb_successors.specs.Below.gb_domain.Summaries.{SummaryParts, Program, no_summary}
+use Rattle.gb_successors.specs.Below.gb_domain.Summaries.{SummaryParts, no_summary}
 use Rattle.gb_successors.specs.Below.gb_domain.Types.{AbsState}
 use Rattle.gb_successors.specs.Below.gb_domain.Certificate.{Certificate}
 use Rattle.gb_calls.specs.Below.gb_states.Rules.{IsCertificate, is_version, is_silent, is_sayable, is_core_sayable, is_cell_sayable, is_state_sayable}
 use Rattle.gb_calls.proofs.Below.gb_states_laws.SummaryLaws.{silent-is}
 use Rattle.gb_successors.specs.Below.gb_product.Below.gb_summaries.Elsewhere.{AreFreeFacts, IsFree}
 use Rattle.gb_successors.specs.Sound.{IsProgram}
-use Rattle.gb_rules.specs.Procedures.{kind_in, program_of}
+use Rattle.gb_successors.specs.Below.gb_code.Below.gb_abs_memory.Windows.{known_kind}
+use Rattle.gb_rules.specs.Procedures.{program_of}
 
 -- ---- the program
 
@@ -25,7 +24,7 @@ not_whole v h = grind (arith, nat_tests)
 
 pub no_controller : (rom : List ℕ) (cert : Certificate) → IsCertificate cert → (program_of rom cert).kind ≡ kind.Rom
 unfolding program_of
-no_controller rom cert c = ap (λ b. cond b (kind_of rom) kind.Rom) (not_whole cert.version c.version)
+no_controller rom cert c = ap (λ b. known_kind b (kind_of rom)) (not_whole cert.version c.version)
 
 pub is_program : (rom : List ℕ) (cert : Certificate) → IsCertificate cert → IsProgram rom cert.region (program_of rom cert)
 unfolding program_of

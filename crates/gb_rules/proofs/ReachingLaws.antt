@@ -28,12 +28,12 @@ use Rattle.gb_calls.specs.Calls.{entered_by, fits, callee_of, are_ranges_inside}
 use Rattle.gb_calls.specs.Resuming.{resumed}
 use Rattle.gb_calls.proofs.CalleeLaws.{IsCallee-found, IsEntryNode-entry, fits-few, fits-base}
 use Rattle.gb_rules.specs.Covered.{covered_at}
-use Rattle.gb_rules.specs.Procedures.{ranges_of, need_of, setting_of, program_of, exit_of, items_in, entry_in, taken_by, base_in}
+use Rattle.gb_rules.specs.Procedures.{ranges_of, kept_of, need_of, setting_of, program_of, exit_of, items_in, entry_in, taken_by, base_in}
 use Rattle.gb_rules.specs.Rules.{is_extended, is_over, is_resumed_uncovered, is_back_uncovered, is_call_uncovered, is_uncovered_if, is_outside_of, is_exit_missed}
 use Rattle.gb_rules.specs.Safety.{begun, IsMeant, HandsOver, GoesBack, LeadsBy}
 use Rattle.gb_rules.proofs.SearchLaws.{Contains-slice_get}
 use Rattle.gb_rules.proofs.CoveringLaws.{covered_items, found_by}
-use Rattle.gb_rules.proofs.ProcedureLaws.{HasReturnWord-widely, main_room, main_based}
+use Rattle.gb_rules.proofs.ProcedureLaws.{kept_is, HasReturnWord-widely, main_room, main_based}
 use Rattle.gb_rules.proofs.WayLaws.{is_own, same_number}
 
 -- the machine is in some states of a procedure, at an address
@@ -51,8 +51,9 @@ pub record IsReached (cert : Certificate) (procedure a : ℕ) (state : AbsState)
 
 -- it stays: behind an instruction, behind a jump to a known word, or where what is called has no callee
 pub IsMeant-reached : (rom : List ℕ) (cert : Certificate) (procedure a : ℕ) (state : AbsState) (entry : Activation) (base : ℕ) (y : MState) → rules_of cert.version ≡ Extended
-    → entry.program ≡ program_of rom cert → IsReached cert procedure a state entry base y → IsMarkHarmless rom y → covered_at entry.program Extended cert.nodes procedure a state ≡ true → IsMeant rom cert procedure entry base y
-IsMeant-reached rom cert procedure a state entry base y extended program k mark covered =
+    → entry.program ≡ program_of rom cert → entry.kept ≡ kept_of cert procedure → IsReached cert procedure a state entry base y → IsMarkHarmless rom y
+    → covered_at entry.program Extended cert procedure a state ≡ true → IsMeant rom cert procedure entry base y
+IsMeant-reached rom cert procedure a state entry base y extended program names k mark covered =
     let f = found_by Extended cert procedure a state entry base y k.pairs k.bytes covered k.means in
     let same = f.procedure_is in
     record {
@@ -62,6 +63,7 @@ IsMeant-reached rom cert procedure a state entry base y extended program k mark 
       at = record {
         address = k.address ∙ sym f.address;
         program = program;
+        names = names ∙ ap (kept_of cert) (sym same);
         means = f.means;
         mark = mark;
         main = λ e. k.main (sym same ∙ e);
@@ -73,11 +75,11 @@ IsMeant-reached rom cert procedure a state entry base y extended program k mark 
     }
 
 -- main begins anew, as if it were entered now
-pub IsMeant-anew : (rom : List ℕ) (cert : Certificate) (a : ℕ) (state : AbsState) (y : MState) → rules_of cert.version ≡ Extended → IsCertificate cert → Means state (begun rom cert y) (cert.region.last + 1) y
+pub IsMeant-anew : (rom : List ℕ) (cert : Certificate) (a : ℕ) (state : AbsState) (y : MState) → rules_of cert.version ≡ Extended → IsCertificate cert → Means state (begun rom cert 0 y) (cert.region.last + 1) y
     → y.processor.pc ≡ a → AreBytes y.processor.registers → ArePairs state.relations.pairs → AreInRegion cert.region (cert.region.last + 1) (length state.items) → IsMarkHarmless rom y
-    → covered_at (program_of rom cert) Extended cert.nodes 0 a state ≡ true → IsMeant rom cert 0 (begun rom cert y) (cert.region.last + 1) y
+    → covered_at (program_of rom cert) Extended cert 0 a state ≡ true → IsMeant rom cert 0 (begun rom cert 0 y) (cert.region.last + 1) y
 IsMeant-anew rom cert a state y extended certificate means address bytes pairs held mark covered =
-    IsMeant-reached rom cert 0 a state (begun rom cert y) (cert.region.last + 1) y extended refl
+    IsMeant-reached rom cert 0 a state (begun rom cert 0 y) (cert.region.last + 1) y extended refl refl
     (record {
       means = means;
       address = address;
@@ -123,7 +125,7 @@ ranges_inside e true inside is h = cc
 not_over : (need bytes : ℕ) → nat_lt need bytes ≡ false → bytes ≤ need
 not_over need bytes h = grind (arith, nat_tests)
 
-covered_if : (program : Program) (cert : Certificate) (procedure a : ℕ) (o : Option AbsState) → is_uncovered_if program Extended cert procedure a o ≡ false → IfSome o (λ s. covered_at program Extended cert.nodes procedure a s ≡ true)
+covered_if : (program : Program) (cert : Certificate) (procedure a : ℕ) (o : Option AbsState) → is_uncovered_if program Extended cert procedure a o ≡ false → IfSome o (λ s. covered_at program Extended cert procedure a s ≡ true)
 covered_if program cert procedure a None h = tt
 covered_if program cert procedure a (Some s) h = not-false _ (or_parts _ _ h).1
 
@@ -172,25 +174,27 @@ HandsOver-called cert procedure a back state entry base y q extended certificate
       address = k.reached.address ∙ sym begin.address;
       few = fits-few z (setting_of cert begin.node.procedure).base (taken_by cert begin.node.procedure) (length state.items) rules fitting;
       based = fits-base z (setting_of cert begin.node.procedure) (taken_by cert begin.node.procedure) state.items base rules fitting k.reached.based;
-      begins = subst (λ n. covers entry.program (entered_by Extended n state) begin.node.state ≡ true) (sym count)
-          (subst (λ (r : Rules). covers entry.program (entered_by r (length begin.node.state.items) state) begin.node.state ≡ true) rules begin.covering);
+      begins = subst (λ n. covers entry.program (entered_by entry.program Extended n (kept_of cert begin.node.procedure) state) begin.node.state ≡ true) (sym count)
+          (subst (λ ks. covers entry.program (entered_by entry.program Extended (length begin.node.state.items) ks state) begin.node.state ≡ true)
+          (sym (ap (kept_of cert) number ∙ kept_is cert q p callee.is_procedure))
+          (subst (λ (r : Rules). covers entry.program (entered_by entry.program r (length begin.node.state.items) p.kept state) begin.node.state ≡ true) rules begin.covering));
       mark = k.mark;
       depth = subst (λ n. (length state.items - taken_by cert n) + need_of cert n ≤ need_of cert procedure) (sym number) (not_over (need_of cert procedure) (length state.items - taken_by cert q + need_of cert q) may.depth);
       inside = λ some.
           subst (λ n. are_ranges_inside (ranges_of cert n) (ranges_of cert procedure) ≡ true) (sym number)
           (ranges_inside (is_extended z.rules) z.is_main (are_ranges_inside (ranges_of cert q) (ranges_of cert procedure)) (is_other cert procedure some) may.inside);
       resumes = λ exit at.
-          subst (λ n. IfSome (resumed entry.program Extended (taken_by cert n) (ranges_of cert n) state exit) (λ after. covered_at entry.program Extended cert.nodes procedure back after ≡ true)) (sym number)
+          subst (λ n. IfSome (resumed entry.program Extended (setting_of cert procedure).is_whole (taken_by cert n) (ranges_of cert n) (kept_of cert n) state exit) (λ after. covered_at entry.program Extended cert procedure back after ≡ true)) (sym number)
           (covered_if entry.program cert procedure back _ (subst (λ o. is_resumed_uncovered entry.program Extended cert procedure back state q o ≡ false) (subst (λ n. exit_of cert n ≡ Some exit) number at) may.resumes));
     }
 
 -- whatever is called: its callee takes over, or without one the procedure goes on there
 pub LeadsBy-called : (rom : List ℕ) (cert : Certificate) (procedure a back : ℕ) (state : AbsState) (entry : Activation) (base : ℕ) (x y : MState) (o : Option ℕ) → rules_of cert.version ≡ Extended → IsCertificate cert
-    → entry.program ≡ program_of rom cert → IsCalling cert procedure a back state entry base y → callee_of entry.program cert (setting_of cert procedure) a state ≡ o → is_outside_of (setting_of cert procedure) cert procedure o ≡ false
+    → entry.program ≡ program_of rom cert → entry.kept ≡ kept_of cert procedure → IsCalling cert procedure a back state entry base y → callee_of entry.program cert (setting_of cert procedure) a state ≡ o → is_outside_of (setting_of cert procedure) cert procedure o ≡ false
     → is_over Extended cert (need_of cert procedure) (length state.items) o ≡ false → is_call_uncovered entry.program Extended cert procedure a back state o ≡ false → LeadsBy Extended rom cert procedure entry base x y
-LeadsBy-called rom cert procedure a back state entry base x y None extended certificate program k is inside depth covered =
-    inl (IsMeant-reached rom cert procedure a state entry base y extended program k.reached (inl k.mark) (not-false _ covered))
-LeadsBy-called rom cert procedure a back state entry base x y (Some q) extended certificate program k is inside depth covered =
+LeadsBy-called rom cert procedure a back state entry base x y None extended certificate program names k is inside depth covered =
+    inl (IsMeant-reached rom cert procedure a state entry base y extended program names k.reached (inl k.mark) (not-false _ covered))
+LeadsBy-called rom cert procedure a back state entry base x y (Some q) extended certificate program names k is inside depth covered =
     inr (inl (HandsOver-called cert procedure a back state entry base y q extended certificate k is (record { inside = inside; depth = depth; resumes = covered })))
 
 -- ---- the procedure returns

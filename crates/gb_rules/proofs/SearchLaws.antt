@@ -8,13 +8,14 @@ use Rattle.std.specs.List.{Contains, list_any}
 use Rattle.gb_calls.specs.Below.gb_rows.Rows.{IsFound}
 use Rattle.gb_successors.specs.Below.gb_domain.declared.rules.Rules.{Rules}
 use Rattle.gb_successors.specs.Below.gb_domain.Summaries.{Program}
+use Rattle.gb_successors.specs.Below.gb_domain.Certificate.{Certificate}
 use Rattle.gb_successors.specs.Below.gb_domain.Types.{AbsState, Node}
 use Rattle.gb_calls.specs.Below.gb_states.Rules.{key}
 use Rattle.gb_successors.specs.Below.gb_product.Covering.{covers}
 use Rattle.gb_rules.specs.Covered.{is_cover, is_covered_by_one, covered_at}
 
 -- one that passes
-found_at : {X : Type 0} (test : X → Bool) (xs : List X) (i : ℕ) (x : X) → slice_get xs i ≡ Some x → test x ≡ true → list_any test xs ≡ true
+pub found_at : {X : Type 0} (test : X → Bool) (xs : List X) (i : ℕ) (x : X) → slice_get xs i ≡ Some x → test x ≡ true → list_any test xs ≡ true
 found_at test [] i x at passes = cc
 found_at test (y ∷ ys) zero x at passes = let e : y ≡ x = cc in rw (e, passes) refl
 found_at test (y ∷ ys) (suc i) x at passes = rw (found_at test ys i x at passes) (or_right (test y) true refl)
@@ -40,7 +41,7 @@ has_key program procedure a s n h =
     let f : n.address ≡ a = eqb-true _ _ q.1 in
     ap (λ m. (m, n.address)) e ∙ ap (λ m. (procedure, m)) f
 
-keyed : (nodes : List Node) (i : ℕ) (n : Node) (k : ℕ × ℕ) → slice_get nodes i ≡ Some n → key n ≡ k → slice_get (map key nodes) i ≡ Some k
+pub keyed : (nodes : List Node) (i : ℕ) (n : Node) (k : ℕ × ℕ) → slice_get nodes i ≡ Some n → key n ≡ k → slice_get (map key nodes) i ≡ Some k
 keyed nodes i n k at e = slice_get-map key nodes i ∙ (ap (option_map key) at ∙ ap Some e)
 
 -- before the nodes with the key none covers
@@ -130,13 +131,13 @@ found_around program nodes procedure a s first near after (Some i) found le behi
     found_covers program nodes procedure a s first after i found inside.0 (omega arith) covering
 
 -- the node with a number covers
-pub covered_by : (program : Program) (rules : Rules) (nodes : List Node) (procedure a : ℕ) (s : AbsState) (i : ℕ) (n : Node) (has covering : Bool) → IfSome (slice_get nodes i) (λ m. has ≡ ((m.procedure == procedure) && (m.address == a)))
-    → slice_get nodes i ≡ Some n → covering ≡ covers program s n.state → has ≡ true → covering ≡ true → true ≡ covered_at program rules nodes procedure a s
+pub covered_by : (program : Program) (rules : Rules) (cert : Certificate) (procedure a : ℕ) (s : AbsState) (i : ℕ) (n : Node) (has covering : Bool) → IfSome (slice_get cert.nodes i) (λ m. has ≡ ((m.procedure == procedure) && (m.address == a)))
+    → slice_get cert.nodes i ≡ Some n → covering ≡ covers program s n.state → has ≡ true → covering ≡ true → true ≡ covered_at program rules cert procedure a s
 unfolding covered_at is_covered_by_one
-covered_by program rules nodes procedure a s i n has covering key at is keyed covers =
+covered_by program rules cert procedure a s i n has covering key at is keyed covers =
     let told : has ≡ ((n.procedure == procedure) && (n.address == a)) = subst (λ (o : Option Node). IfSome o (λ m. has ≡ ((m.procedure == procedure) && (m.address == a)))) at key in
     let both : is_cover program procedure a s n ≡ true = both_true _ _ (sym told ∙ keyed) (sym is ∙ covers) in
-    sym (or_left _ _ (found_at (is_cover program procedure a s) nodes i n at both))
+    sym (or_left _ _ (or_left _ _ (found_at (is_cover program procedure a s) cert.nodes i n at both)))
   where
     both_true : (b c : Bool) → b ≡ true → c ≡ true → (b && c) ≡ true
     both_true true c e f = f

@@ -22,7 +22,9 @@ use Rattle.gb_successors.specs.Sound.{IsOneOf, Stands, IsRuled, AreSoundSuccesso
 use Rattle.gb_successors.proofs.FormedLaws.{IsFormed, IsFormed-successor}
 use Rattle.gb_successors.proofs.WayLaws.{successors_of_sound}
 use Rattle.gb_calls.specs.Below.gb_states.Rules.{IsCertificate}
-use Rattle.gb_rules.specs.Procedures.{ranges_of, need_of, setting_of, stack_of, program_of}
+use Rattle.gb_ops.specs.Cartridge.{kind_of}
+use Rattle.gb_successors.specs.Below.gb_code.Below.gb_abs_memory.Windows.{known_kind}
+use Rattle.gb_rules.specs.Procedures.{ranges_of, kept_of, need_of, setting_of, stack_of, program_of}
 use Rattle.gb_rules.specs.Rules.{ways_of}
 use Rattle.gb_rules.specs.Safety.{HasReturnWord}
 use Rattle.gb_rules.proofs.NodeLaws.{IsNodeState, Passes, IsHoused, ruled, known_by}
@@ -36,6 +38,7 @@ pub record OnNode (rom : List ℕ) (cert : Certificate) (n : Node) (entry : Acti
   pub passes : Passes rom cert n
   pub address : x.processor.pc ≡ n.address
   pub program : entry.program ≡ program_of rom cert
+  pub names : entry.kept ≡ kept_of cert n.procedure
   pub means : Means n.state entry base x
   pub main : n.procedure ≡ 0 → base ≡ cert.region.last + 1
   pub return_word : HasReturnWord (rules_of cert.version) cert.region n.procedure base
@@ -43,8 +46,12 @@ pub record OnNode (rom : List ℕ) (cert : Certificate) (n : Node) (entry : Acti
   pub based : IsBase (setting_of cert n.procedure) base
   pub held : AreInRegion cert.region base (length n.state.items)
 
+-- the controller of which states may speak
+controller_known : (rom : List ℕ) (cert : Certificate) (procedure : ℕ) → (program_of rom cert).kind ≡ known_kind (setting_of cert procedure).is_whole (kind_of rom)
+unfolding setting_of program_of
+controller_known rom cert procedure = refl
+
 pub stands : (rom : List ℕ) (cert : Certificate) (n : Node) (entry : Activation) (base : ℕ) (x : MState) (k : OnNode rom cert n entry base x) → Stands (setting_of cert n.procedure) rom cert.region k.passes.row n.address n.state entry base x
-unfolding setting_of
 stands rom cert n entry base x k = record {
   cartridge = k.cartridge;
   is_region = k.state.is_region;
@@ -57,7 +64,7 @@ stands rom cert n entry base x k = record {
   unset = k.state.unset;
   room = k.held;
   program = subst (λ p. IsProgram rom cert.region p) (sym k.program) (is_program rom cert k.certificate);
-  controlled = ap (λ p. p.kind) k.program ∙ no_controller rom cert k.certificate;
+  controlled = ap (λ p. p.kind) k.program ∙ controller_known rom cert n.procedure;
   apart = k.state.apart;
   means = k.means;
   based = k.based;
@@ -110,6 +117,7 @@ on_unmarked rom cert n entry base x k = record {
   passes = k.passes;
   address = k.address;
   program = k.program;
+  names = k.names;
   means = record {
     related = k.means.related;
     summary = HoldSummary-same entry.program n.state.cells n.state.summary x.processor (unmarked x).processor (peek x.storage) (peek x.storage) x.storage.banks x.storage.banks refl refl refl refl (λ b. refl) k.means.summary;

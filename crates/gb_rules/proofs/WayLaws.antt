@@ -1,6 +1,6 @@
 -- What a successor of a node that passes leads to by the rules of versions 1 and 2: a node of the procedure, a callee, or the
 -- procedure's exit.
-use Rattle.std.proofs.Common.{◌≡◌, ℕ, zero, suc, ◌+◌, ◌≤◌, ◌<◌, true, false, ◌||◌, ◌==◌, nat_lt, inl, inr, List, [], ◌∷◌, length, slice_get, Option, Some, None, refl, sym, ◌∙◌, subst, arith}
+use Rattle.std.proofs.Common.{◌≡◌, ℕ, zero, suc, ◌+◌, ◌≤◌, ◌<◌, true, false, ◌||◌, ◌==◌, nat_lt, inl, inr, List, [], ◌∷◌, length, slice_get, Option, Some, None, refl, sym, ◌∙◌, subst, arith, ap}
 use Rattle.std.specs.Prelude.{IfSome}
 use Rattle.std.proofs.lemmas.Bool.{not-false, and_parts, or_parts, eqb-true}
 use Rattle.std.proofs.lemmas.Bool.Decides.{nat_tests}
@@ -22,13 +22,15 @@ use Rattle.gb_successors.specs.Below.gb_abs_effects.Pairs.{known_word}
 use Rattle.gb_successors.proofs.Below.gb_product_laws.CoveringLaws.{Means-covered}
 use Rattle.gb_successors.specs.Below.gb_abs_effects.declared.targets.Target.{Target}
 use Rattle.gb_successors.specs.Below.gb_abs_effects.declared.targets.Target.TheVariants as target
-use Rattle.gb_calls.specs.Calls.{callee_of, are_ranges_inside}
+use Rattle.gb_calls.specs.Calls.{entered_by, callee_of, are_ranges_inside}
 use Rattle.gb_calls.specs.Resuming.{resumed}
 use Rattle.gb_calls.proofs.CalleeLaws.{IsCallee-found, IsEntryNode-entry}
 use Rattle.gb_successors.specs.Way.{Successor}
 use Rattle.gb_successors.specs.Sound.{is_followed, IsOneOf, StaysAt, CallsAt, ReturnsTo, LeadsSimply}
 use Rattle.gb_rules.specs.Covered.{covered_at}
-use Rattle.gb_rules.specs.Procedures.{ranges_of, need_of, setting_of, exit_of, taken_by}
+use Rattle.gb_rules.specs.Procedures.{ranges_of, kept_of, need_of, setting_of, exit_of, taken_by}
+use Rattle.gb_rules.proofs.ProcedureLaws.{kept_is}
+use Rattle.gb_successors.specs.Below.gb_product.Covering.{covers}
 use Rattle.gb_rules.specs.Rules.{ways_of, callee_by, callee_at, is_over, calls_too_deep, is_resumed_uncovered, is_back_uncovered, is_call_uncovered, is_uncovered, is_uncovered_at, is_outside_of, is_uncallable, is_uncallable_at, is_exit_missed, is_unreturnable, is_unreturnable_at}
 use Rattle.gb_rules.specs.Safety.{HasReturnWord, IsMeant, Calls, Returns, LeadsBy, Leads}
 use Rattle.gb_rules.proofs.SearchLaws.{Contains-slice_get}
@@ -67,7 +69,7 @@ not_over cert need held q h = by (held + 2 + need_of cert q) h
     by m h = grind (arith, nat_tests)
 
 resumed_covered : (program : Program) (cert : Certificate) (procedure back : ℕ) (s : AbsState) (q : ℕ) → is_back_uncovered program Simple cert procedure back s q ≡ false → (exit : AbsState) → exit_of cert q ≡ Some exit
-    → IfSome (resumed program Simple (taken_by cert q) (ranges_of cert q) s exit) (λ after. covered_at program Simple cert.nodes procedure back after ≡ true)
+    → IfSome (resumed program Simple (setting_of cert procedure).is_whole (taken_by cert q) (ranges_of cert q) (kept_of cert q) s exit) (λ after. covered_at program Simple cert procedure back after ≡ true)
 resumed_covered program cert procedure back s q h exit is = covered_if program cert procedure back _ (subst (λ o. is_resumed_uncovered program Simple cert procedure back s q o ≡ false) is h)
 
 means_pushed : (w : Halves) (s : AbsState) (entry : Activation) (base : ℕ) (x : MState) → MeansParts (pushed w s) entry base x → AreRelated s.relations x → IsSummarized s entry x → Means (pushed w s) entry base x
@@ -98,12 +100,13 @@ calls_at rom cert n t a entry base y certificate c related said quiet mark outsi
           is_node = Contains-slice_get cert.nodes callee.procedure.entry begin.node begin.is_node;
           not_main = subst (λ m. 0 < m) (sym number) callee.not_main;
           address = c.goes ∙ sym begin.address;
-          begins = begin.covering;
+          begins = subst (λ ks. covers entry.program (entered_by entry.program Simple (length begin.node.state.items) ks t.state) begin.node.state ≡ true)
+              (sym (ap (kept_of cert) number ∙ kept_is cert q callee.procedure callee.is_procedure)) begin.covering;
           mark = mark;
           depth = subst (λ m. length t.state.items + 2 + need_of cert m ≤ need_of cert n.procedure) (sym number) (not_over cert (need_of cert n.procedure) (length t.state.items) q deep);
           inside = subst (λ m. are_ranges_inside (ranges_of cert m) (ranges_of cert n.procedure) ≡ true) (sym number) (not-false _ out);
           resumes = λ exit is.
-              subst (λ m. IfSome (resumed entry.program Simple (taken_by cert m) (ranges_of cert m) t.state exit) (λ after. covered_at entry.program Simple cert.nodes n.procedure t.next after ≡ true)) (sym number)
+              subst (λ m. IfSome (resumed entry.program Simple (setting_of cert n.procedure).is_whole (taken_by cert m) (ranges_of cert m) (kept_of cert m) t.state exit) (λ after. covered_at entry.program Simple cert n.procedure t.next after ≡ true)) (sym number)
               (resumed_covered entry.program cert n.procedure t.next t.state q back exit (subst (λ m. exit_of cert m ≡ Some exit) number is));
         }
 
@@ -142,7 +145,7 @@ pub record IsMarked (rom : List ℕ) (w : Target) (y : MState) : Type 0 where
 
 -- a successor leads on in the same procedure
 stays_at : (rom : List ℕ) (cert : Certificate) (n : Node) (entry : Activation) (base : ℕ) (x : MState) (k : OnNode rom cert n entry base x) (t : Successor) (a : ℕ) (y : MState)
-    → StaysAt cert.region a t entry base y → AreRelated t.state.relations y → IsSummarized t.state entry y → covered_at entry.program Simple cert.nodes n.procedure a t.state ≡ true → IsMarkHarmless rom y → IsMeant rom cert n.procedure entry base y
+    → StaysAt cert.region a t entry base y → AreRelated t.state.relations y → IsSummarized t.state entry y → covered_at entry.program Simple cert n.procedure a t.state ≡ true → IsMarkHarmless rom y → IsMeant rom cert n.procedure entry base y
 stays_at rom cert n entry base x k t a y to related said covered mark =
     let f = found_at cert n.procedure a t.state entry base y covered (record { parts = to.means; related = related; summary = said }) in
     record {
@@ -152,6 +155,7 @@ stays_at rom cert n entry base x k t a y to related said covered mark =
       at = record {
         address = to.goes ∙ sym f.address;
         program = k.program;
+        names = k.names ∙ ap (kept_of cert) (sym f.procedure_is);
         means = f.means;
         mark = mark;
         main = λ is. k.main (sym f.procedure_is ∙ is);

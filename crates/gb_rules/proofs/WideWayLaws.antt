@@ -86,7 +86,7 @@ Leads-widely rom cert n entry base x k t extended is y leads related_if said mar
     related = related_if (found_followed t.target (found entry.program cert n t u))
 
     -- main begins anew in the same program
-    anew : IsSummarized t.state (begun rom cert y) y
+    anew : IsSummarized t.state (begun rom cert 0 y) y
     anew = subst (λ p. HoldSummary p t.state.cells t.state.summary y.processor (peek y.storage) y.storage.banks) k.program said
 
     own : wide_at cert n ≡ setting_of cert n.procedure
@@ -96,17 +96,17 @@ Leads-widely rom cert n entry base x k t extended is y leads related_if said mar
         → is_uncallable_at entry.program (wide_at cert n) cert n.procedure w t.state ≡ false → is_over Extended cert (need_of cert n.procedure) (length t.state.items) (callee_by entry.program cert (wide_at cert n) w t.state) ≡ false
         → is_unreturnable_at entry.program Extended cert n.procedure w t.state ≡ false → IsMarked rom w y → LeadsBy Extended rom cert n.procedure entry base x y
     by (target.At a) to known covered callable shallow returnable marked =
-        inl (IsMeant-reached rom cert n.procedure a t.state entry base y extended k.program (reached rom cert n entry base x k t a y f to.means related said to.goes to.room) marked.harmless (not-false _ covered))
+        inl (IsMeant-reached rom cert n.procedure a t.state entry base y extended k.program k.names (reached rom cert n entry base x k t a y f to.means related said to.goes to.room) marked.harmless (not-false _ covered))
     by (target.Call a) to known covered callable shallow returnable marked =
-        LeadsBy-called rom cert n.procedure a t.next t.state entry base x y (callee_of entry.program cert (wide_at cert n) a t.state) extended k.certificate k.program (calling rom cert n entry base x k t a y f to related said (marked.clear tt))
+        LeadsBy-called rom cert n.procedure a t.next t.state entry base x y (callee_of entry.program cert (wide_at cert n) a t.state) extended k.certificate k.program k.names (calling rom cert n entry base x k t a y f to related said (marked.clear tt))
         (ap (λ (z : Setting). callee_of entry.program cert z a t.state) (sym own)) (subst (λ (z : Setting). is_outside_of z cert n.procedure (callee_of entry.program cert (wide_at cert n) a t.state) ≡ false) own callable) shallow covered
     by target.Return to known covered callable shallow returnable marked =
         let parts = or_parts _ _ returnable in
         inr (inr (inl (GoesBack-reached cert n.procedure t.state entry base y (not_main n.procedure parts.0) (record { parts = to.means; related = related; summary = said }) to.room to.goes (marked.clear tt) parts.1)))
     by (target.Main a) to known covered callable shallow returnable marked =
-        let means = to.means (begun rom cert y) (sym k.program) in
-        inr (inr (inr (IsMeant-anew rom cert a t.state y extended k.certificate (record { parts = means; related = related; summary = anew }) to.goes (AreBytes-core t.state.core (begun rom cert y) y f.core means.core) f.pairs to.room marked.harmless
-        (subst (λ p. covered_at p Extended cert.nodes 0 a t.state ≡ true) k.program (not-false _ covered)))))
+        let means = to.means (begun rom cert 0 y) (sym k.program) in
+        inr (inr (inr (IsMeant-anew rom cert a t.state y extended k.certificate (record { parts = means; related = related; summary = anew }) to.goes (AreBytes-core t.state.core (begun rom cert 0 y) y f.core means.core) f.pairs to.room marked.harmless
+        (subst (λ p. covered_at p Extended cert 0 a t.state ≡ true) k.program (not-false _ covered)))))
     by target.Unknown to known covered callable shallow returnable marked = absurd known
     by target.Lost to known covered callable shallow returnable marked = absurd known
 

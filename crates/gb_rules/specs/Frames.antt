@@ -12,7 +12,7 @@ use Rattle.gb_successors.specs.Below.gb_abs.Stack.{AreInRegion}
 use Rattle.gb_successors.specs.Below.gb_abs.Storage.{peek}
 use Rattle.gb_successors.specs.Below.gb_code.Below.gb_abs_memory.Kept.{IsKept}
 use Rattle.gb_calls.specs.TakenOver.{base_below}
-use Rattle.gb_rules.specs.Procedures.{ranges_of, need_of, setting_of, taken_by}
+use Rattle.gb_rules.specs.Procedures.{ranges_of, kept_of, need_of, setting_of, taken_by}
 use Rattle.gb_rules.specs.Safety.{IsMeant, Calls, HandsOver}
 
 -- from s to t each byte stays that a procedure with this base has to keep
@@ -26,11 +26,12 @@ pub record Frame : Type 0 where
   pub base : ℕ
 
 -- By the rules of versions 1 and 2 the procedure of the frame waits for another one above it, which was entered
--- with its return word at base: it called that one, both are part of one program, the bytes that it may need lie in the region, and
--- it had kept what it has to keep.
+-- with its return word at base: it called that one, both are part of one program, it names what the certificate says, the bytes that it
+-- may need lie in the region, and it had kept what it has to keep.
 pub record IsWaiting (cert : Certificate) (f : Frame) (procedure : ℕ) (above : Activation) (base : ℕ) : Type 0 where
   pub calls : Calls cert f.procedure f.entry f.base above.entered
   pub program : f.entry.program ≡ above.program
+  pub names : f.entry.kept ≡ kept_of cert f.procedure
   pub callee : calls.node.procedure ≡ procedure
   pub base_is : base ≡ above.entered.processor.sp
   pub main : f.procedure ≡ 0 → f.base ≡ cert.region.last + 1
@@ -42,6 +43,7 @@ pub record IsWaiting (cert : Certificate) (f : Frame) (procedure : ℕ) (above :
 pub record IsWaitingAbove (cert : Certificate) (f : Frame) (procedure : ℕ) (above : Activation) (base : ℕ) : Type 0 where
   pub calls : HandsOver cert f.procedure f.entry f.base above.entered
   pub program : f.entry.program ≡ above.program
+  pub names : f.entry.kept ≡ kept_of cert f.procedure
   pub callee : calls.node.procedure ≡ procedure
   pub base_is : base ≡ base_below (taken_by cert procedure) calls.state.items f.base
   pub main : f.procedure ≡ 0 → f.base ≡ cert.region.last + 1

@@ -1,7 +1,5 @@
 -- What a certificate claims of its procedures (own format).
-use Rattle.std.specs.Prelude.{ℕ, false, ◌==◌, if◌then◌else◌, List, [], length, slice_get, Option, Some, None}
-use Rattle.gb_ops.specs.declared.machine.Kind.{Kind}
-use Rattle.gb_ops.specs.declared.machine.Kind.TheVariants as kind
+use Rattle.std.specs.Prelude.{ℕ, Bool, ◌==◌, List, [], length, slice_get, Option, Some, None}
 use Rattle.gb_ops.specs.Cartridge.{kind_of}
 use Rattle.gb_successors.specs.Below.gb_domain.declared.setting.Setting.{Setting}
 use Rattle.gb_successors.specs.Below.gb_domain.declared.types.Range.{Range}
@@ -9,6 +7,7 @@ use Rattle.gb_successors.specs.Below.gb_domain.Limits.{rules_of}
 use Rattle.gb_successors.specs.Below.gb_domain.Summaries.{Program}
 use Rattle.gb_successors.specs.Below.gb_domain.Types.{AbsState, ProcedureParts, Node}
 use Rattle.gb_successors.specs.Below.gb_domain.Certificate.{Certificate}
+use Rattle.gb_successors.specs.Below.gb_code.Below.gb_abs_memory.Windows.{known_kind}
 use Rattle.gb_successors.specs.declared.stacks.Stack.{Stack}
 
 abbrev pub ranges_in : Option ProcedureParts → List Range
@@ -23,9 +22,17 @@ abbrev pub exit_in : Option ProcedureParts → Option AbsState
 exit_in None = None
 exit_in (Some p) = p.exit
 
+abbrev pub kept_in : Option ProcedureParts → List ℕ
+kept_in None = []
+kept_in (Some p) = p.kept
+
 -- what a procedure may write
 unfoldable pub ranges_of : Certificate → ℕ → List Range
 ranges_of cert procedure = ranges_in (slice_get cert.procedures procedure)
+
+-- the addresses that it names to be kept
+unfoldable pub kept_of : Certificate → ℕ → List ℕ
+kept_of cert procedure = kept_in (slice_get cert.procedures procedure)
 
 -- how many bytes it may have on the stack, those of its callees among them
 unfoldable pub need_of : Certificate → ℕ → ℕ
@@ -35,18 +42,18 @@ abbrev pub base_in : Option ProcedureParts → ℕ
 base_in None = 0
 base_in (Some p) = p.base
 
+-- the rules are those of version 4
+abbrev pub is_fourth : Certificate → Bool
+is_fourth cert = cert.version == 4
+
 -- where its states stand
 unfoldable pub setting_of : Certificate → ℕ → Setting
 setting_of cert procedure =
-    record { rules = rules_of cert.version; is_whole = false; is_main = procedure == 0; base = base_in (slice_get cert.procedures procedure) }
-
--- the cartridge's controller, of which states of these versions speak: those of versions 1 to 3 say nothing
-abbrev pub kind_in : ℕ → Kind → Kind
-kind_in version k = if version == 4 then k else kind.Rom
+    record { rules = rules_of cert.version; is_whole = is_fourth cert; is_main = procedure == 0; base = base_in (slice_get cert.procedures procedure) }
 
 -- what its states may speak of beside themselves
 unfoldable pub program_of : List ℕ → Certificate → Program
-program_of rom cert = record { kind = kind_in cert.version (kind_of rom); facts = cert.facts }
+program_of rom cert = record { kind = known_kind (is_fourth cert) (kind_of rom); facts = cert.facts }
 
 -- what it returns with, if it returns
 unfoldable pub exit_of : Certificate → ℕ → Option AbsState

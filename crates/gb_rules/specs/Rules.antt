@@ -41,7 +41,7 @@ use Rattle.gb_calls.specs.Resuming.{resumed}
 use Rattle.gb_calls.specs.Interrupts.{left_by_dispatch, may_come, handler_of}
 use Rattle.gb_rules.specs.declared.procedures.Called.{Called}
 use Rattle.gb_rules.specs.Covered.{covered_at}
-use Rattle.gb_rules.specs.Procedures.{ranges_of, need_of, setting_of, stack_of, program_of, exit_of, taken_by}
+use Rattle.gb_rules.specs.Procedures.{ranges_of, kept_of, need_of, setting_of, stack_of, program_of, exit_of, taken_by}
 
 -- ---- the instruction alone
 
@@ -206,12 +206,13 @@ is_overfull s = nat_lt (item_room Extended) (length s.items)
 -- where nothing is meant, no node is asked for; where more is on the stack than a state can hold, none stands for it
 abbrev pub is_uncovered_if : Program → Rules → Certificate → ℕ → ℕ → Option AbsState → Bool
 is_uncovered_if program rules cert procedure a None = false
-is_uncovered_if program rules cert procedure a (Some s) = is_overfull s || not (covered_at program rules cert.nodes procedure a s)
+is_uncovered_if program rules cert procedure a (Some s) = is_overfull s || not (covered_at program rules cert procedure a s)
 
 abbrev pub is_resumed_uncovered : Program → Rules → Certificate → ℕ → ℕ → AbsState → ℕ → Option AbsState → Bool
 is_resumed_uncovered program rules cert procedure back s callee None = false
 is_resumed_uncovered program rules cert procedure back s callee (Some exit) =
-    is_uncovered_if program rules cert procedure back (resumed program rules (taken_by cert callee) (ranges_of cert callee) s exit)
+    is_uncovered_if program rules cert procedure back
+    (resumed program rules (setting_of cert procedure).is_whole (taken_by cert callee) (ranges_of cert callee) (kept_of cert callee) s exit)
 
 -- no node stands for what the caller goes on with when the callee returns
 abbrev pub is_back_uncovered : Program → Rules → Certificate → ℕ → ℕ → AbsState → ℕ → Bool
@@ -220,16 +221,16 @@ is_back_uncovered program rules cert procedure back s callee = is_resumed_uncove
 -- By the rules of version 3 what is called goes on in the same procedure, where there is no callee.
 abbrev pub is_inlined_uncovered : Program → Rules → Certificate → ℕ → ℕ → AbsState → Bool
 is_inlined_uncovered program Simple cert procedure a s = false
-is_inlined_uncovered program Extended cert procedure a s = not (covered_at program Extended cert.nodes procedure a s)
+is_inlined_uncovered program Extended cert procedure a s = not (covered_at program Extended cert procedure a s)
 
 abbrev pub is_call_uncovered : Program → Rules → Certificate → ℕ → ℕ → ℕ → AbsState → Option ℕ → Bool
 is_call_uncovered program rules cert procedure a back s None = is_inlined_uncovered program rules cert procedure a s
 is_call_uncovered program rules cert procedure a back s (Some callee) = is_back_uncovered program rules cert procedure back s callee
 
 abbrev pub is_uncovered_at : Program → Setting → Certificate → ℕ → Target → ℕ → AbsState → Bool
-is_uncovered_at program z cert procedure (target.At a) back s = not (covered_at program z.rules cert.nodes procedure a s)
+is_uncovered_at program z cert procedure (target.At a) back s = not (covered_at program z.rules cert procedure a s)
 is_uncovered_at program z cert procedure (target.Call a) back s = is_call_uncovered program z.rules cert procedure a back s (callee_of program cert z a s)
-is_uncovered_at program z cert procedure (target.Main a) back s = not (covered_at program z.rules cert.nodes 0 a s)
+is_uncovered_at program z cert procedure (target.Main a) back s = not (covered_at program z.rules cert 0 a s)
 is_uncovered_at program z cert procedure _ back s = false
 
 -- no node stands for the states behind, where they go on in the same procedure, at once or when the callee returns, or in main

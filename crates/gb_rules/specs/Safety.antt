@@ -30,7 +30,7 @@ use Rattle.gb_calls.specs.Resuming.{resumed}
 use Rattle.gb_successors.specs.Below.gb_code.Places.{IsCertified}
 use Rattle.gb_successors.specs.Below.gb_abs_effects.Pairs.{known_word}
 use Rattle.gb_rules.specs.Covered.{covered_at}
-use Rattle.gb_rules.specs.Procedures.{ranges_of, need_of, setting_of, program_of, exit_of, taken_by}
+use Rattle.gb_rules.specs.Procedures.{ranges_of, kept_of, need_of, setting_of, program_of, exit_of, taken_by}
 
 -- ---- where the machine stands
 
@@ -40,12 +40,13 @@ abbrev pub HasReturnWord : Rules → Region → ℕ → ℕ → Type 0
 HasReturnWord Simple region procedure base = 0 < procedure → base + 2 ≤ region.last + 1
 HasReturnWord Extended region procedure base = Unit {0}
 
--- the machine stands at a node, in a state that the node means: entry says how its procedure was entered, and which program that is
--- part of, and base is the address above its items (main's is the one behind the region); those, and the bytes that it may need,
+-- the machine stands at a node, in a state that the node means: entry says how its procedure was entered, what that keeps, and which
+-- program it is part of, and base is the address above its items (main's is the one behind the region); those, and the bytes that it may need,
 -- lie in the region
 pub record IsAt (rom : List ℕ) (cert : Certificate) (n : Node) (entry : Activation) (base : ℕ) (s : MState) : Type 0 where
   pub address : s.processor.pc ≡ n.address
   pub program : entry.program ≡ program_of rom cert
+  pub names : entry.kept ≡ kept_of cert n.procedure
   pub means : Means n.state entry base s
   pub mark : IsMarkHarmless rom s
   pub main : n.procedure ≡ 0 → base ≡ cert.region.last + 1
@@ -78,14 +79,14 @@ pub record Calls (cert : Certificate) (procedure : ℕ) (entry : Activation) (ba
   pub is_node : Contains cert.nodes node
   pub not_main : 0 < node.procedure
   pub address : s.processor.pc ≡ node.address
-  pub begins : covers entry.program (entered_by Simple (length node.state.items) state) node.state ≡ true
+  pub begins : covers entry.program (entered_by entry.program Simple (length node.state.items) (kept_of cert node.procedure) state) node.state ≡ true
   pub mark : s.processor.halt_mark ≡ false
   pub depth : length state.items + 2 + need_of cert node.procedure ≤ need_of cert procedure
   pub inside : are_ranges_inside (ranges_of cert node.procedure) (ranges_of cert procedure) ≡ true
   pub resumes :
       (exit : AbsState) → exit_of cert node.procedure ≡ Some exit
-      → IfSome (resumed entry.program Simple (taken_by cert node.procedure) (ranges_of cert node.procedure) state exit)
-      (λ after. covered_at entry.program Simple cert.nodes procedure back after ≡ true)
+      → IfSome (resumed entry.program Simple (setting_of cert procedure).is_whole (taken_by cert node.procedure) (ranges_of cert node.procedure) (kept_of cert node.procedure) state exit)
+      (λ after. covered_at entry.program Simple cert procedure back after ≡ true)
 
 -- By those of version 3: the word of the address where the procedure will go on is among its items, of which the callee takes
 -- the newest over. The others wait; they and the callee's need lie inside the procedure's need, and the callee's ranges inside
@@ -106,14 +107,14 @@ pub record HandsOver (cert : Certificate) (procedure : ℕ) (entry : Activation)
   pub address : s.processor.pc ≡ node.address
   pub few : taken_by cert node.procedure ≤ length state.items
   pub based : IsBase (setting_of cert node.procedure) (base_below (taken_by cert node.procedure) state.items base)
-  pub begins : covers entry.program (entered_by Extended (taken_by cert node.procedure) state) node.state ≡ true
+  pub begins : covers entry.program (entered_by entry.program Extended (taken_by cert node.procedure) (kept_of cert node.procedure) state) node.state ≡ true
   pub mark : s.processor.halt_mark ≡ false
   pub depth : (length state.items - taken_by cert node.procedure) + need_of cert node.procedure ≤ need_of cert procedure
   pub inside : 0 < procedure → are_ranges_inside (ranges_of cert node.procedure) (ranges_of cert procedure) ≡ true
   pub resumes :
       (exit : AbsState) → exit_of cert node.procedure ≡ Some exit
-      → IfSome (resumed entry.program Extended (taken_by cert node.procedure) (ranges_of cert node.procedure) state exit)
-      (λ after. covered_at entry.program Extended cert.nodes procedure back after ≡ true)
+      → IfSome (resumed entry.program Extended (setting_of cert procedure).is_whole (taken_by cert node.procedure) (ranges_of cert node.procedure) (kept_of cert node.procedure) state exit)
+      (λ after. covered_at entry.program Extended cert procedure back after ≡ true)
 
 abbrev pub CallsBy : Rules → Certificate → ℕ → Activation → ℕ → MState → Type 0
 CallsBy Simple cert procedure entry base s = Calls cert procedure entry base s
@@ -143,14 +144,14 @@ abbrev pub ReturnsBy : Rules → Certificate → ℕ → Activation → ℕ → 
 ReturnsBy Simple cert procedure entry base s t = Returns cert procedure entry base s t
 ReturnsBy Extended cert procedure entry base s t = GoesBack cert procedure entry base t
 
--- a procedure that begins in this state; by the rules so far none names addresses to be kept, nor puts its stack aside
-abbrev pub begun : List ℕ → Certificate → MState → Activation
-begun rom cert s = record { entered = s; kept = []; mark = 0; program = program_of rom cert }
+-- a procedure that begins in this state; by the rules so far none puts its stack aside
+abbrev pub begun : List ℕ → Certificate → ℕ → MState → Activation
+begun rom cert procedure s = record { entered = s; kept = kept_of cert procedure; mark = 0; program = program_of rom cert }
 
 -- By the rules of version 3 the machine may have begun anew: it stands in main, as if that were entered now.
 abbrev pub RestartsBy : Rules → List ℕ → Certificate → MState → Type 0
 RestartsBy Simple rom cert t = ⊥
-RestartsBy Extended rom cert t = IsMeant rom cert 0 (begun rom cert t) (cert.region.last + 1) t
+RestartsBy Extended rom cert t = IsMeant rom cert 0 (begun rom cert 0 t) (cert.region.last + 1) t
 
 -- from s to t the machine stays in the procedure, calls, returns or begins anew
 abbrev pub LeadsBy : Rules → List ℕ → Certificate → ℕ → Activation → ℕ → MState → MState → Type 0

@@ -5,11 +5,12 @@
 //! `check_irqs` answers whether the interrupts that may come are provided for; where they are, the same
 //! holds of each event, a dispatch among them.
 //!
-//! Read `covered` (the nodes that stand for a successor's states), `procedures` (calls and returns),
+//! Read `covered` and `by_values` (the nodes that stand for a successor's states), `procedures` (calls and returns),
 //! `interrupts`, `ways`, and then `rules`. Of the definitions, `Covered`, `Procedures`, `Rules` and `Safety`; then `Frames`: the
 //! procedures that wait for one another.
 #![tactic(auto)]
 
+mod by_values;
 pub mod covered;
 mod depth;
 pub mod interrupts;

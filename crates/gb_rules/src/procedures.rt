@@ -34,6 +34,18 @@ pub fn ranges_of(cert: &Cert<'_>, procedure: u8) -> ArrayVec<Range, 8>
     }
 }
 
+/// The addresses that a procedure names to be kept; none where there is none with the number.
+#[tactic(auto, unfolding(crate::specs::Procedures::kept_of))]
+pub fn kept_of(cert: &Cert<'_>, procedure: u8) -> ArrayVec<u16, 16>
+    ensures { result.items ≡ Procedures.kept_of cert.now procedure }
+{
+    if procedure < cert.procedures() {
+        cert.procedure(procedure).kept()
+    } else {
+        ArrayVec::new()
+    }
+}
+
 /// How many bytes a procedure may have on the stack, those of its callees among them; 0 where there is none with the
 /// number.
 #[tactic(auto, unfolding(crate::specs::Procedures::need_of))]
@@ -54,6 +66,13 @@ pub(crate) fn rules_of(cert: &Cert<'_>) -> Rules
     Rules::of(cert.version())
 }
 
+/// Whether the rules are those of version 4.
+fn is_fourth(cert: &Cert<'_>) -> bool
+    ensures { result ≡ Procedures.is_fourth cert.now }
+{
+    cert.version() == 4
+}
+
 /// The base that a procedure says; 0 where it says none, or there is none with the number.
 fn base_of(cert: &Cert<'_>, procedure: u8) -> u16
     ensures { result ≡ Procedures.base_in (slice_get cert.now.procedures procedure) }
@@ -72,7 +91,7 @@ pub fn setting_of(cert: &Cert<'_>, procedure: u8) -> Setting
 {
     Setting {
         rules: rules_of(cert),
-        is_whole: false,
+        is_whole: is_fourth(cert),
         is_main: procedure == 0,
         base: base_of(cert, procedure),
     }
@@ -84,7 +103,7 @@ pub fn program_of<'c>(rom: &Rom<'_>, cert: &'c Cert<'_>) -> Program<'c>
     ensures { result ≡ Procedures.program_of rom.now cert.now }
 {
     Program {
-        kind: if cert.version() == 4 {
+        kind: if is_fourth(cert) {
             rom.kind()
         } else {
             Kind::Rom
@@ -246,8 +265,10 @@ fn is_return_uncovered(
     match resume_in(
         program,
         rules,
+        setting_of(cert, procedure).is_whole,
         taken,
         ranges.as_slice(),
+        &kept_of(cert, callee),
         state,
         exit,
         resumed,
@@ -346,7 +367,7 @@ fn is_covered_moved(
     successor: &Successor<'_>,
     room: &mut Room,
 ) -> bool
-    ensures { result ≡ Covered.covered_at program.now rules cert.now.nodes procedure address successor.now.state }
+    ensures { result ≡ Covered.covered_at program.now rules cert.now procedure address successor.now.state }
 {
     successor.put_state(&mut room.behind);
     is_state_covered(program, rules, cert, near, procedure, address, &room.behind)
@@ -364,7 +385,7 @@ fn is_covered(
     successor: &Successor<'_>,
     room: &mut Room,
 ) -> bool
-    ensures { result ≡ Covered.covered_at program.now rules cert.now.nodes procedure address successor.now.state }
+    ensures { result ≡ Covered.covered_at program.now rules cert.now procedure address successor.now.state }
 {
     match successor.unmoved() {
         Some(lists) => covered_near(

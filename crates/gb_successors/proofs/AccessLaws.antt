@@ -17,6 +17,7 @@ use Rattle.gb_domain.specs.declared.setting.Setting.{Setting}
 use Rattle.gb_domain.specs.Settings.{IsBase}
 use Rattle.gb_domain.specs.declared.types.Val.{Val}
 use Rattle.gb_domain.specs.declared.types.Core.{Core}
+use Rattle.gb_domain.specs.declared.types.Halves.{Halves}
 use Rattle.gb_domain.specs.declared.types.Range.{Range}
 use Rattle.gb_domain.specs.Types.{AbsState}
 use Rattle.gb_domain.specs.Areas.{IsRegion}
@@ -40,7 +41,8 @@ use Rattle.gb_code.specs.Below.gb_abs_memory.Sound.{IsRom, IsStored, view}
 use Rattle.gb_code.proofs.Below.gb_abs_memory_laws.LoadLaws.{IsLoaded-loaded_val}
 use Rattle.gb_code.proofs.Below.gb_abs_memory_laws.StoreLaws.{IsSoundStore-stored_state, stored-view}
 use Rattle.gb_code.proofs.Below.gb_abs_memory_laws.AfterStoreLaws.{is_store_limited-stored, store_meets_closed_ram-stored}
-use Rattle.gb_successors.specs.Behind.{read_word, behind, written, starts}
+use Rattle.gb_successors.specs.Behind.{behind, written, starts}
+use Rattle.gb_successors.specs.Loads.{read_word}
 use Rattle.gb_successors.specs.Refused.{is_unstorable, reads_closed_ram, writes_closed_ram, is_stack_limited, is_read_limited, is_write_limited}
 use Rattle.gb_code.specs.Below.gb_abs_memory.Kept.{IsKept}
 use Rattle.gb_product.specs.Below.gb_relations.Sound.{Writes}
@@ -93,10 +95,10 @@ clear_stack region core h = by core.bound region.first h
 any_holds : (entry : Activation) (n : ℕ) → n ≤ 255 → Holds any_val entry n
 any_holds entry n h = record { least = omega arith; most = h; low = refl; origin = λ o e. cc }
 
--- what an instruction reads, without a fault
-pub record Loads (z : Setting) (rom : List ℕ) (s : AbsState) (what : AbsRead) (entry : Activation) (m : View) (r : Read) (reads : List ℕ) : Type 0 where
-  pub low : Holds (read_word z rom s what).low entry (loaded m r reads).low
-  pub high : Holds (read_word z rom s what).high entry (loaded m r reads).high
+-- a word stands for what an instruction reads, without a fault
+pub record Loads (w : Halves) (entry : Activation) (m : View) (r : Read) (reads : List ℕ) : Type 0 where
+  pub low : Holds w.low entry (loaded m r reads).low
+  pub high : Holds w.high entry (loaded m r reads).high
   pub faults : load_faults m r ≡ no_faults
 
 in_span : (span : Span) (a : ℕ) → IsIn span a → span.last < 65536 → a < 65536
@@ -107,7 +109,7 @@ in_span span a i h =
 pub Loads-read :
     (z : Setting) (rom : List ℕ) (region : Region) (s : AbsState) (entry : Activation) (base : ℕ) (x : MState) (reads : List ℕ) (sp : ℕ) (what : AbsRead) (r : Read) → IsRom rom → IsBase z base → MeansParts s entry base x → IsVal s.core.ie
     → slice_index reads 0 ≤ 255 → IsPlainRead what → HoldsRead what sp r → reads_closed_ram rom s.core what ≡ false → is_read_limited region s.core what ≡ false
-    → Loads z rom s what entry (view rom x false) r reads
+    → Loads (read_word z rom s what) entry (view rom x false) r reads
 unfolding read_word loaded load_faults reads_closed_ram is_read_limited
 Loads-read z rom region s entry base x reads sp read.Nothing machine_read.Nothing c right m ie byte plain h ram limited =
     record { low = any_holds entry 0 (omega arith); high = any_holds entry 0 (omega arith); faults = refl }

@@ -11,6 +11,7 @@ use Rattle.gb_ops.specs.Machine.{executed}
 use Rattle.gb_ops.specs.Play.{MState, within, outside}
 use Rattle.gb_domain.specs.declared.pairs.Bounds.{Bounds}
 use Rattle.gb_domain.specs.declared.relations.Relations.{Relations}
+use Rattle.gb_domain.specs.declared.low_bits.LowBits.{LowBits}
 use Rattle.gb_domain.specs.declared.rules.Rules.{Rules}
 use Rattle.gb_domain.specs.declared.rules.Rules.TheVariants.{Simple, Extended}
 use Rattle.gb_domain.specs.declared.setting.Setting.{Setting}
@@ -25,7 +26,6 @@ use Rattle.gb_domain.specs.Rules.{IsCore}
 use Rattle.gb_domain.specs.Limits.{cell_room}
 use Rattle.gb_domain.specs.Summaries.{SummaryParts, Program}
 use Rattle.gb_domain.specs.Types.{AbsState}
-use Rattle.gb_product.specs.Below.gb_summaries.Meaning.{HoldSummary}
 use Rattle.gb_product.specs.Below.gb_abs.Cells.{with_cell}
 use Rattle.gb_product.specs.Below.gb_abs_effects.declared.writes.AbsWrite.{AbsWrite}
 use Rattle.gb_product.specs.Below.gb_abs.Located.{sp_halves, sp_bounds}
@@ -56,11 +56,15 @@ use Rattle.gb_product.proofs.SideLaws.{taken_side_sound, not_taken_side_sound, t
 use Rattle.gb_successors.specs.declared.stacks.Stack.{Stack}
 use Rattle.gb_successors.specs.declared.stacks.StackMove.{StackMove}
 use Rattle.gb_successors.specs.declared.stacks.StackMove.TheVariants as move
+use Rattle.gb_product.specs.Below.gb_pairs.declared.values.Values.{Values}
+use Rattle.gb_product.specs.Below.gb_relations.Transfer.{values_of}
 use Rattle.gb_successors.specs.Behind.{ended, with_cell_if, moved_state}
+use Rattle.gb_successors.specs.Loads.{word_by}
 use Rattle.gb_successors.specs.Refined.{cut_read, cut_write, refined}
 use Rattle.gb_successors.specs.Refused.{meets_closed, meets_oam_transfer}
 use Rattle.gb_successors.specs.Stacks.{extended, stack_move}
-use Rattle.gb_successors.specs.Summaries.{summary_by}
+use Rattle.gb_ops.specs.Pointers.{pointer_of}
+use Rattle.gb_successors.specs.Summaries.{pointed_bits, summary_by}
 use Rattle.gb_successors.specs.Way.{Successor}
 use Rattle.gb_successors.specs.Successors.{pointer_in, word_in, effect_in, taken_move, taken_parts, related_successor, relations_behind, said_successor, summary_behind, taken_successor, untaken_successor, with_product, reduced_successor, product_before, taken_from, not_taken_from, successors_of}
 use Rattle.gb_successors.specs.Sound.{IsReady, IsAllowed, IsFound, IsStackFit, bytes_moved, IsHeld, IsStackRuled, is_followed, LeadsWidely, LeadsTo, Leads, Stands, IsRuled, Executes}
@@ -193,28 +197,38 @@ IsTold-cut b (Some c) (read.Byte span) h = absurd h
 IsTold-cut b (Some c) read.Nothing h = tt
 IsTold-cut b (Some c) read.Top h = tt
 
-word_told : (k : Stack) (rom : List ℕ) (o : Op) (s : AbsState) (p : Product) (cell : Option Cell) → IsTold cell (read_of o p.core) → word_in k rom o s p ≡ word_in k rom o (with_cell_if k.setting cell s) p
-word_told k rom o s p cell told = same_word k.setting rom cell s p.core _ (IsTold-cut (pointer_in k o p) cell (read_of o p.core) told)
+same_word_by :
+    (r : Rules) (z : Setting) (region : Region) (program : Program) (rom : List ℕ) (v : Values) (low : LowBits) (cell : Option Cell) (s : AbsState) (c : Core) (what : AbsRead) → IsTold cell what
+    → word_by r z region program rom v low (with_core s c) what ≡ word_by r z region program rom v low (with_core (with_cell_if z cell s) c) what
+unfolding with_cell_if
+same_word_by r z region program rom v low None s c what h = refl
+same_word_by r z region program rom v low (Some d) s c (read.Byte span) h = absurd h
+same_word_by Simple z region program rom v low (Some d) s c what h = same_word z rom (Some d) s c what h
+same_word_by Extended z region program rom v low (Some d) s c read.Top h = same_word z rom (Some d) s c read.Top h
+same_word_by Extended z region program rom v low (Some d) s c read.Nothing h = same_word z rom (Some d) s c read.Nothing h
+
+word_told : (k : Stack) (program : Program) (rom : List ℕ) (o : Op) (s : AbsState) (p : Product) (cell : Option Cell) → IsTold cell (read_of o p.core) → word_in k program rom o s p ≡ word_in k program rom o (with_cell_if k.setting cell s) p
+word_told k program rom o s p cell told = same_word_by k.setting.rules k.setting k.region program rom (values_of p.core.registers p.relations.pairs) (pointed_bits (pointer_of o) p.core.registers) cell s p.core _ (IsTold-cut (pointer_in k o p) cell (read_of o p.core) told)
 
 effect_told :
-    (k : Stack) (rom : List ℕ) (o : Op) (next : ℕ) (s : AbsState) (p : Product) (cell : Option Cell) → IsTold cell (read_of o p.core)
-    → effect_in k rom o next s p ≡ effect_in k rom o next (with_cell_if k.setting cell s) p
+    (k : Stack) (program : Program) (rom : List ℕ) (o : Op) (next : ℕ) (s : AbsState) (p : Product) (cell : Option Cell) → IsTold cell (read_of o p.core)
+    → effect_in k program rom o next s p ≡ effect_in k program rom o next (with_cell_if k.setting cell s) p
 unfolding effect_in
-effect_told k rom o next s p cell told =
+effect_told k program rom o next s p cell told =
     let z = k.setting in
-    rw (word_told k rom o s p cell told, same_sp z cell s, same_sp_bounds z cell s) refl
+    rw (word_told k program rom o s p cell told, same_sp z cell s, same_sp_bounds z cell s) refl
 
 parts_told :
-    (k : Stack) (rom : List ℕ) (row : Row) (next : ℕ) (s : AbsState) (p : Product) (cell : Option Cell) → IsTold cell (read_of row.op p.core)
-    → taken_parts k rom row next s p cell ≡ taken_parts k rom row next (with_cell_if k.setting cell s) p None
+    (k : Stack) (program : Program) (rom : List ℕ) (row : Row) (next : ℕ) (s : AbsState) (p : Product) (cell : Option Cell) → IsTold cell (read_of row.op p.core)
+    → taken_parts k program rom row next s p cell ≡ taken_parts k program rom row next (with_cell_if k.setting cell s) p None
 unfolding taken_parts moved_state with_cell_if
-parts_told k rom row next s p cell told = rw (effect_told k rom row.op next s p cell told, word_told k rom row.op s p cell told) refl
+parts_told k program rom row next s p cell told = rw (effect_told k program rom row.op next s p cell told, word_told k program rom row.op s p cell told) refl
 
 relations_told :
-    (k : Stack) (rom : List ℕ) (o : Op) (s : AbsState) (p : Product) (cell : Option Cell) → IsTold cell (read_of o p.core)
-    → relations_behind k rom o s p ≡ relations_behind k rom o (with_cell_if k.setting cell s) p
+    (k : Stack) (program : Program) (rom : List ℕ) (o : Op) (s : AbsState) (p : Product) (cell : Option Cell) → IsTold cell (read_of o p.core)
+    → relations_behind k program rom o s p ≡ relations_behind k program rom o (with_cell_if k.setting cell s) p
 unfolding relations_behind
-relations_told k rom o s p cell told = rw (word_told k rom o s p cell told, same_sp_bounds k.setting cell s) refl
+relations_told k program rom o s p cell told = rw (word_told k program rom o s p cell told, same_sp_bounds k.setting cell s) refl
 
 no_such : false ≡ true → ⊥
 no_such h = cc
@@ -233,11 +247,11 @@ same_conditional k (op.ReturnIf condition) next sp sp_side c d low high v w b e 
 same_conditional k o next sp sp_side c d low high v w b e h = absurd (no_such h)
 
 taken_move_is :
-    (k : Stack) (rom : List ℕ) (row : Row) (next : ℕ) (s : AbsState) (p : Product)
-    → taken_move k rom row next s p
-    ≡ stack_move k row.op (cut_write (pointer_in k row.op p) (transfer k.setting.is_whole row.op next (sp_halves k.setting s) p.core (word_in k rom row.op s p).low (word_in k rom row.op s p).high).write) (pointer_in k row.op p)
+    (k : Stack) (program : Program) (rom : List ℕ) (row : Row) (next : ℕ) (s : AbsState) (p : Product)
+    → taken_move k program rom row next s p
+    ≡ stack_move k row.op (cut_write (pointer_in k row.op p) (transfer k.setting.is_whole row.op next (sp_halves k.setting s) p.core (word_in k program rom row.op s p).low (word_in k program rom row.op s p).high).write) (pointer_in k row.op p)
 unfolding taken_move effect_in refined
-taken_move_is k rom row next s p = refl
+taken_move_is k program rom row next s p = refl
 
 -- without a condition the side is what is known before
 whole_side : (o : Op) (cells : List Cell) (core : Core) (r : Relations) (b : Branch) → taken_side o cells core r ≡ Some b → is_some (Flags.condition_of o) ≡ false → b ≡ record { core = core; relations = r; cell = None }
@@ -252,10 +266,10 @@ whole_side o cells core r b e h = by (Flags.condition_of o) e h
     by (Some k) f g = cc
 
 same_move :
-    (k : Stack) (rom : List ℕ) (row : Row) (next : ℕ) (s : AbsState) (p : Product) (b : Branch) → taken_side row.op s.cells p.core p.relations ≡ Some b
-    → taken_move k rom row next (with_cell_if k.setting b.cell s) (product_of b.core b.relations) ≡ taken_move k rom row next s p
+    (k : Stack) (program : Program) (rom : List ℕ) (row : Row) (next : ℕ) (s : AbsState) (p : Product) (b : Branch) → taken_side row.op s.cells p.core p.relations ≡ Some b
+    → taken_move k program rom row next (with_cell_if k.setting b.cell s) (product_of b.core b.relations) ≡ taken_move k program rom row next s p
 unfolding with_cell_if
-same_move k rom row next s p b e = choose (is_some (Flags.condition_of row.op)) refl
+same_move k program rom row next s p b e = choose (is_some (Flags.condition_of row.op)) refl
   where
     told : AbsState
     told = with_cell_if k.setting b.cell s
@@ -263,13 +277,13 @@ same_move k rom row next s p b e = choose (is_some (Flags.condition_of row.op)) 
     q : Product
     q = product_of b.core b.relations
 
-    choose : (t : Bool) → is_some (Flags.condition_of row.op) ≡ t → taken_move k rom row next (with_cell_if k.setting b.cell s) (product_of b.core b.relations) ≡ taken_move k rom row next s p
+    choose : (t : Bool) → is_some (Flags.condition_of row.op) ≡ t → taken_move k program rom row next (with_cell_if k.setting b.cell s) (product_of b.core b.relations) ≡ taken_move k program rom row next s p
     choose true h =
-        taken_move_is k rom row next (with_cell_if k.setting b.cell s) (product_of b.core b.relations)
-        ∙ (same_conditional k row.op next (sp_halves k.setting told) (sp_halves k.setting s) b.core p.core (word_in k rom row.op told q).low (word_in k rom row.op told q).high (word_in k rom row.op s p).low (word_in k rom row.op s p).high
-        (pointer_in k row.op q) (pointer_in k row.op p) h ∙ sym (taken_move_is k rom row next s p))
+        taken_move_is k program rom row next (with_cell_if k.setting b.cell s) (product_of b.core b.relations)
+        ∙ (same_conditional k row.op next (sp_halves k.setting told) (sp_halves k.setting s) b.core p.core (word_in k program rom row.op told q).low (word_in k program rom row.op told q).high (word_in k program rom row.op s p).low (word_in k program rom row.op s p).high
+        (pointer_in k row.op q) (pointer_in k row.op p) h ∙ sym (taken_move_is k program rom row next s p))
     choose false h =
-        ap (λ (d : Branch). taken_move k rom row next (with_cell_if k.setting d.cell s) (product_of d.core d.relations)) (whole_side row.op s.cells p.core p.relations b e h)
+        ap (λ (d : Branch). taken_move k program rom row next (with_cell_if k.setting d.cell s) (product_of d.core d.relations)) (whole_side row.op s.cells p.core p.relations b e h)
 
 -- ---- the stack is ready on the side too
 
@@ -293,7 +307,7 @@ some_of None h = cc
 
 stack_ruled :
     (k : Stack) (program : Program) (rom : List ℕ) (row : Row) (a : ℕ) (s : AbsState) (base : ℕ) (p : Product) (t : Successor) → k.setting.rules ≡ Extended → product_before k.setting.rules s ≡ Some p
-    → (successors_of k program rom row a s).taken ≡ Some t → IsRuled k program rom row a s base → IsReady k row.op (taken_move k rom row (behind_row a row) s p) s base
+    → (successors_of k program rom row a s).taken ≡ Some t → IsRuled k program rom row a s base → IsReady k row.op (taken_move k program rom row (behind_row a row) s p) s base
 stack_ruled k program rom row a s base p t e is way h =
     let ruled : IsStackRuled Extended k program rom row a s base = subst (λ r. IsStackRuled r k program rom row a s base) e h.stack in
     ruled (ap is_some way) p (subst (λ r. product_before r s ≡ Some p) e is)
@@ -301,13 +315,13 @@ stack_ruled k program rom row a s base p t e is way h =
 -- as many are held as the move leaves
 held_taken :
     (k : Stack) (program : Program) (rom : List ℕ) (row : Row) (a : ℕ) (s : AbsState) (t : Successor) (p : Product) → k.setting.rules ≡ Extended → product_before k.setting.rules s ≡ Some p
-    → (successors_of k program rom row a s).taken ≡ Some t → length t.state.items ≡ bytes_moved (taken_move k rom row (behind_row a row) s p) (length s.items) → IsHeld k.setting.rules k program rom row a s t
+    → (successors_of k program rom row a s).taken ≡ Some t → length t.state.items ≡ bytes_moved (taken_move k program rom row (behind_row a row) s p) (length s.items) → IsHeld k.setting.rules k program rom row a s t
 held_taken k program rom row a s t p e is way h =
     subst (λ r. IsHeld r k program rom row a s t) (sym e)
     (inr (
       way,
       λ q same.
-          subst (λ (v : Product). length t.state.items ≡ bytes_moved (taken_move k rom row (behind_row a row) s v) (length s.items)) (same_product p q (sym (subst (λ r. product_before r s ≡ Some p) e is) ∙ same)) h,
+          subst (λ (v : Product). length t.state.items ≡ bytes_moved (taken_move k program rom row (behind_row a row) s v) (length s.items)) (same_product p q (sym (subst (λ r. product_before r s ≡ Some p) e is) ∙ same)) h,
     ))
   where
     same_product : (p q : Product) → Some p ≡ Some q → p ≡ q
@@ -362,16 +376,16 @@ taken_told :
     (k : Stack) (program : Program) (rom : List ℕ) (row : Row) (next : ℕ) (s : AbsState) (b : Branch) → IsTold b.cell (read_of row.op b.core)
     → taken_successor k program rom row next s b
     ≡ said_successor
-    (summary_behind k program row.op (with_cell_if k.setting b.cell s) (product_of b.core b.relations) (taken_parts k rom row next (with_cell_if k.setting b.cell s) (product_of b.core b.relations) None))
-    (related_successor (relations_behind k rom row.op (with_cell_if k.setting b.cell s) (product_of b.core b.relations)) (taken_parts k rom row next (with_cell_if k.setting b.cell s) (product_of b.core b.relations) None))
+    (summary_behind k program row.op (with_cell_if k.setting b.cell s) (product_of b.core b.relations) (taken_parts k program rom row next (with_cell_if k.setting b.cell s) (product_of b.core b.relations) None))
+    (related_successor (relations_behind k program rom row.op (with_cell_if k.setting b.cell s) (product_of b.core b.relations)) (taken_parts k program rom row next (with_cell_if k.setting b.cell s) (product_of b.core b.relations) None))
 unfolding taken_successor summary_behind
 taken_told k program rom row next s b told =
     let p = product_of b.core b.relations in
     let after = with_cell_if k.setting b.cell s in
-    let t = taken_parts k rom row next after p None in
-    ap (λ (u : Successor). said_successor (summary_by k.setting.rules k program row.op s p u.write u.state.cells) (related_successor (relations_behind k rom row.op s p) u)) (parts_told k rom row next s p b.cell told)
-    ∙ (ap (λ r. said_successor (summary_by k.setting.rules k program row.op s p t.write t.state.cells) (related_successor r t)) (relations_told k rom row.op s p b.cell told)
-    ∙ ap (λ m. said_successor m (related_successor (relations_behind k rom row.op after p) t)) (summary_told k program row.op s p t.write t.state.cells b.cell))
+    let t = taken_parts k program rom row next after p None in
+    ap (λ (u : Successor). said_successor (summary_by k.setting.rules k program row.op s p u.write u.state.cells) (related_successor (relations_behind k program rom row.op s p) u)) (parts_told k program rom row next s p b.cell told)
+    ∙ (ap (λ r. said_successor (summary_by k.setting.rules k program row.op s p t.write t.state.cells) (related_successor r t)) (relations_told k program rom row.op s p b.cell told)
+    ∙ ap (λ m. said_successor m (related_successor (relations_behind k program rom row.op after p) t)) (summary_told k program row.op s p t.write t.state.cells b.cell))
 
 -- the machine behind it
 executed_at : (c : Situation) → IsTakenIn c → outside (executed (within c.rom c.machine) c.row c.reads) ≡ left_at c
@@ -388,12 +402,12 @@ Leads-at c p k e d =
     (LeadsWidely-related c.stack.setting c.stack.region (parts_at c).target r (parts_at c) c.entry c.base (left_at c) d.to) d.leaves.kept
 
 taken_executes :
-    (k : Stack) (program : Program) (rom : List ℕ) (row : Row) (a : ℕ) (s : AbsState) (ranges : List Range) (entry : Activation) (base : ℕ) (x : MState) (reads : List ℕ) (p : Product) (b : Branch)
-    → k.setting.rules ≡ Extended → entry.program ≡ program → Stands k.setting rom k.region row a s entry base x → IsRuled k program rom row a s base → x.processor.halt_mark ≡ false → slice_index reads 0 ≤ 255
+    (k : Stack) (rom : List ℕ) (row : Row) (a : ℕ) (s : AbsState) (ranges : List Range) (entry : Activation) (base : ℕ) (x : MState) (reads : List ℕ) (p : Product) (b : Branch)
+    → k.setting.rules ≡ Extended → Stands k.setting rom k.region row a s entry base x → IsRuled k entry.program rom row a s base → x.processor.halt_mark ≡ false → slice_index reads 0 ≤ 255
     → product_before k.setting.rules s ≡ Some p → IsReduced (core_settle s.core) s.relations p → taken_side row.op s.cells p.core p.relations ≡ Some b → MeansBranch b entry (begun row x)
     → (effect rom row x reads).is_taken ≡ true
-    → Executes k program rom ranges row a s (successors_of k program rom row a s) entry base x reads
-taken_executes k program rom row a s ranges entry base x reads p b extended of stands ruled mark byte before cut side meant taken =
+    → Executes k entry.program rom ranges row a s (successors_of k entry.program rom row a s) entry base x reads
+taken_executes k rom row a s ranges entry base x reads p b extended stands ruled mark byte before cut side meant taken =
     let is : IsSideOf s.cells p.core p.relations b = side_facts _ b s.cells p.core p.relations side (taken_side_cuts row.op s.cells p.core p.relations _ refl) in
     let told : AbsState = with_cell_if k.setting b.cell s in
     let cell : IfSome b.cell (IsToldCell k.region entry x) =
@@ -411,12 +425,12 @@ taken_executes k program rom row a s ranges entry base x reads p b extended of s
       machine = x;
       reads = reads;
     } in
-    let same : move_at c ≡ taken_move k rom row (behind_row a row) s p = same_move k rom row (behind_row a row) s p b side in
-    let m : SummaryParts = summary_behind k program row.op told (product_of b.core b.relations) (parts_at c) in
-    let way : (q : Product) → reduced k.setting.rules (parts_at c).state.core (related_at c) ≡ Some q → (successors_of k program rom row a s).taken ≡ Some (with_product (said_successor m (related_successor (related_at c) (parts_at c))) q) =
+    let same : move_at c ≡ taken_move k entry.program rom row (behind_row a row) s p = same_move k entry.program rom row (behind_row a row) s p b side in
+    let m : SummaryParts = summary_behind k entry.program row.op told (product_of b.core b.relations) (parts_at c) in
+    let way : (q : Product) → reduced k.setting.rules (parts_at c).state.core (related_at c) ≡ Some q → (successors_of k entry.program rom row a s).taken ≡ Some (with_product (said_successor m (related_successor (related_at c) (parts_at c))) q) =
     λ q e.
-    taken_way k program rom row a s p b (with_product (said_successor m (related_successor (related_at c) (parts_at c))) q) before side
-    (ap (reduced_successor k.setting.rules) (taken_told k program rom row (behind_row a row) s b (IsTold-taken row.op s.cells p.core b.core p.relations b side))
+    taken_way k entry.program rom row a s p b (with_product (said_successor m (related_successor (related_at c) (parts_at c))) q) before side
+    (ap (reduced_successor k.setting.rules) (taken_told k entry.program rom row (behind_row a row) s b (IsTold-taken row.op s.cells p.core b.core p.relations b side))
     ∙ reduced_way k.setting.rules (said_successor m (related_successor (related_at c) (parts_at c))) q e) in
     let t : IsTakenIn c = record {
       stands = Stands-told k.setting rom k.region row a b.cell s entry base x cell stands;
@@ -426,7 +440,7 @@ taken_executes k program rom row a s ranges entry base x reads p b extended of s
       ready = λ meant.
           let some = some_of (reduced k.setting.rules (parts_at c).state.core (related_at c)) meant in
           subst (λ m. IsReady k row.op m told base) (sym same)
-          (IsReady-told k row.op _ b.cell s base (stack_ruled k program rom row a s base p (with_product (said_successor m (related_successor (related_at c) (parts_at c))) some.0) extended before (way some.0 some.1) ruled));
+          (IsReady-told k row.op _ b.cell s base (stack_ruled k entry.program rom row a s base p (with_product (said_successor m (related_successor (related_at c) (parts_at c))) some.0) extended before (way some.0 some.1) ruled));
       mark = mark;
       byte = byte;
       keeps = subst (λ d. Keeps d b.core) (sym (told_core k.setting b.cell s))
@@ -439,7 +453,7 @@ taken_executes k program rom row a s ranges entry base x reads p b extended of s
       taken = taken;
     } in
     let some = possible c t in
-    let r : Relations = relations_behind k rom row.op told (product_of b.core b.relations) in
+    let r : Relations = relations_behind k entry.program rom row.op told (product_of b.core b.relations) in
     let successor : Successor = with_product (said_successor m (related_successor r (parts_at c))) some.product in
     let allowed_at : IsAllowed k.setting rom k.region ranges s base successor → IsAllowedAt c =
     λ allowed. IsAllowed-told k.setting rom k.region ranges b.cell s base (parts_at c) (IsAllowed-with_product k.setting rom k.region ranges s base m r some.product (parts_at c) extended allowed) in
@@ -448,13 +462,12 @@ taken_executes k program rom row a s ranges entry base x reads p b extended of s
       successor = successor;
       is_one = inl (way some.product some.is);
       mark = executed_mark rom x row reads;
-      held = λ allowed. held_taken k program rom row a s successor p extended before (way some.product some.is)
+      held = λ allowed. held_taken k entry.program rom row a s successor p extended before (way some.product some.is)
           (subst (λ m. length (parts_at c).state.items ≡ bytes_moved m (length s.items)) same
           (subst (λ items. length (parts_at c).state.items ≡ bytes_moved (move_at c) (length items)) (told_items k.setting b.cell s) (done allowed).bytes));
       leads = λ allowed. subst (λ y. Leads k.setting k.region ranges successor entry base x y) (sym (executed_at c t))
           (Leads-said k.setting k.region ranges m (with_product (related_successor r (parts_at c)) some.product) entry base x (left_at c) (Leads-at c some.product t some.is (done allowed))
-          (subst (λ q. HoldSummary entry.program (parts_at c).state.cells (summary_behind k q row.op told (product_of b.core b.relations) (parts_at c)) (left_at c).processor (peek (left_at c).storage) (left_at c).storage.banks) of
-          (said_holds c t (allowed_at allowed) (done allowed))));
+          (said_holds c t (allowed_at allowed) (done allowed)));
       faults = λ allowed. (done allowed).leaves.faults;
     }
 
@@ -518,7 +531,9 @@ executes_widely k program rom row a s ranges entry base x reads extended of stan
     by_taken : (b : Before k s entry (begun row x)) (o : Option Branch) → taken_side row.op s.cells b.product.core b.product.relations ≡ o → (effect rom row x reads).is_taken ≡ true → IsMeantBranch o entry (begun row x)
         → Executes k program rom ranges row a s (successors_of k program rom row a s) entry base x reads
     by_taken b None e taken h = absurd h
-    by_taken b (Some side) e taken h = taken_executes k program rom row a s ranges entry base x reads b.product side extended of stands ruled mark byte b.is b.cut e h taken
+    by_taken b (Some side) e taken h =
+        subst (λ q. Executes k q rom ranges row a s (successors_of k q rom row a s) entry base x reads) of
+        (taken_executes k rom row a s ranges entry base x reads b.product side extended stands (subst (λ q. IsRuled k q rom row a s base) (sym of) ruled) mark byte b.is b.cut e h taken)
 
     by_not_taken : (b : Before k s entry (begun row x)) (o : Option Branch) → not_taken_side row.op s.cells b.product.core b.product.relations ≡ o → (effect rom row x reads).is_taken ≡ false → IsMeantBranch o entry (begun row x)
         → Executes k program rom ranges row a s (successors_of k program rom row a s) entry base x reads

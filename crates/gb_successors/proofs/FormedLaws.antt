@@ -55,6 +55,7 @@ use Rattle.gb_product.proofs.SideLaws.{taken_side_cuts, not_taken_side_cuts}
 use Rattle.gb_successors.specs.declared.stacks.Stack.{Stack}
 use Rattle.gb_successors.specs.declared.stacks.StackMove.{StackMove}
 use Rattle.gb_successors.specs.declared.stacks.StackMove.TheVariants as move
+use Rattle.gb_product.specs.Below.gb_relations.Transfer.{values_of}
 use Rattle.gb_successors.specs.Behind.{starts, written_core, core_behind, ended}
 use Rattle.gb_successors.specs.Refined.{cut_write, with_carry, refined}
 use Rattle.gb_successors.specs.Sound.{IsOneOf, Stands}
@@ -64,7 +65,10 @@ use Rattle.gb_successors.specs.Way.{Successor}
 use Rattle.gb_successors.proofs.RelatedLaws.{IsCore-ended, has_operands}
 use Rattle.gb_successors.proofs.SimpleLaws.{behind_row}
 use Rattle.gb_successors.proofs.SituationLaws.{IsWrite-cut}
-use Rattle.gb_successors.proofs.SuccessorLaws.{is_word, IsWord-sp}
+use Rattle.gb_ops.specs.Pointers.{pointer_of}
+use Rattle.gb_successors.specs.Summaries.{pointed_bits}
+use Rattle.gb_successors.proofs.LoadedLaws.{is_word_by}
+use Rattle.gb_successors.proofs.SuccessorLaws.{IsWord-sp}
 use Rattle.gb_successors.proofs.MovedLaws.{told_summary}
 use Rattle.gb_successors.proofs.SummaryLaws.{apart_by}
 use Rattle.gb_successors.proofs.UntakenLaws.{untaken_simply}
@@ -210,30 +214,30 @@ next_small : (n : ℕ) → n % 65536 < 65536
 next_small n = omega arith
 
 effect_formed :
-    (k : Stack) (rom : List ℕ) (row : Row) (a : ℕ) (s : AbsState) (p : Product) (entry : Activation) (base : ℕ) (x : MState) → Stands k.setting rom k.region row a s entry base x → HasBytes row.op → IsCore p.core
-    → IsFormedEffect (effect_in k rom row.op (behind_row a row) s p)
+    (k : Stack) (program : Program) (rom : List ℕ) (row : Row) (a : ℕ) (s : AbsState) (p : Product) (entry : Activation) (base : ℕ) (x : MState) → Stands k.setting rom k.region row a s entry base x → HasBytes row.op → IsCore p.core
+    → IsFormedEffect (effect_in k program rom row.op (behind_row a row) s p)
 unfolding effect_in
-effect_formed k rom row a s p entry base x stands operands core =
-    let word = is_word k.setting rom s p.core _ core.ie stands.vals stands.items stands.cartridge.bytes in
-    let t = transfer k.setting.is_whole row.op (behind_row a row) (sp_halves k.setting s) p.core (word_in k rom row.op s p).low (word_in k rom row.op s p).high in
+effect_formed k program rom row a s p entry base x stands operands core =
+    let word = is_word_by k.setting.rules k.setting k.region program rom (values_of p.core.registers p.relations.pairs) (pointed_bits (pointer_of row.op) p.core.registers) s p.core _ core.ie stands.vals stands.items stands.cartridge.bytes in
+    let t = transfer k.setting.is_whole row.op (behind_row a row) (sp_halves k.setting s) p.core (word_in k program rom row.op s p).low (word_in k program rom row.op s p).high in
     let is : IsAbsEffect t =
-    transfer_inhabited k.setting.is_whole row.op (behind_row a row) (sp_halves k.setting s) p.core (word_in k rom row.op s p).low (word_in k rom row.op s p).high t refl operands (next_small (a + row.length)) core word.low word.high
+    transfer_inhabited k.setting.is_whole row.op (behind_row a row) (sp_halves k.setting s) p.core (word_in k program rom row.op s p).low (word_in k program rom row.op s p).high t refl operands (next_small (a + row.length)) core word.low word.high
     (IsWord-sp k.setting s entry base x stands.based stands.means.parts) in
     record { core = subst IsCore (sym (refined_parts (pointer_in k row.op p) _ t).0) (IsCore-carry _ t.core is.core); write = subst IsWrite (sym (refined_parts (pointer_in k row.op p) _ t).1) (IsWrite-cut (pointer_in k row.op p) t.write is.write) }
 
-parts_core : (k : Stack) (rom : List ℕ) (row : Row) (next : ℕ) (s : AbsState) (p : Product) (cell : Option Cell) → IsFormedEffect (effect_in k rom row.op next s p) → IsCore (taken_parts k rom row next s p cell).state.core
+parts_core : (k : Stack) (program : Program) (rom : List ℕ) (row : Row) (next : ℕ) (s : AbsState) (p : Product) (cell : Option Cell) → IsFormedEffect (effect_in k program rom row.op next s p) → IsCore (taken_parts k program rom row next s p cell).state.core
 unfolding taken_parts
-parts_core k rom row next s p cell h = IsCore-behind k.setting.is_whole (kind_of rom) _ row.cycles (effect_in k rom row.op next s p).write _ h.write h.core
+parts_core k program rom row next s p cell h = IsCore-behind k.setting.is_whole (kind_of rom) _ row.cycles (effect_in k program rom row.op next s p).write _ h.write h.core
 
 relations_formed :
-    (k : Stack) (rom : List ℕ) (row : Row) (a : ℕ) (s : AbsState) (p : Product) (entry : Activation) (base : ℕ) (x : MState) → Stands k.setting rom k.region row a s entry base x → HasBytes row.op
+    (k : Stack) (program : Program) (rom : List ℕ) (row : Row) (a : ℕ) (s : AbsState) (p : Product) (entry : Activation) (base : ℕ) (x : MState) → Stands k.setting rom k.region row a s entry base x → HasBytes row.op
     → ArePairs p.relations.pairs → IsByteFree k.region p.relations.byte.address
-    → IsByteFree k.region (relations_behind k rom row.op s p).byte.address × ArePairs (relations_behind k rom row.op s p).pairs
+    → IsByteFree k.region (relations_behind k program rom row.op s p).byte.address × ArePairs (relations_behind k program rom row.op s p).pairs
 unfolding relations_behind
-relations_formed k rom row a s p entry base x stands operands are free = (
-  (relations_after_sound k.setting.rules k.region row.op (sp_bounds k.setting s) p.core.registers (word_in k rom row.op s p).low p.relations _ refl
+relations_formed k program rom row a s p entry base x stands operands are free = (
+  (relations_after_sound k.setting.rules k.region row.op (sp_bounds k.setting s) p.core.registers (word_in k program rom row.op s p).low p.relations _ refl
       (has_operands row.op operands) (sp_below k.setting s entry base x stands.based stands.means.parts) (are.each pairs.Bc).last (are.each pairs.De).last (are.each pairs.Hl).last).free free,
-  relations_after_kept k.setting.rules k.region row.op _ p.core.registers (word_in k rom row.op s p).low p.relations _ refl are,
+  relations_after_kept k.setting.rules k.region row.op _ p.core.registers (word_in k program rom row.op s p).low p.relations _ refl are,
 )
 
 taken_formed :
@@ -242,8 +246,8 @@ taken_formed :
 unfolding taken_successor summary_behind
 taken_formed k program rom row a s b entry base x stands operands h =
     let p = product_of b.core b.relations in
-    let r = relations_formed k rom row a s p entry base x stands operands h.pairs h.free in
-    record { core = parts_core k rom row (behind_row a row) s p b.cell (effect_formed k rom row a s p entry base x stands operands h.core); free = r.0; pairs = r.1; apart = apart_by k.setting.rules k program row.op s p _ _ h.free stands.apart }
+    let r = relations_formed k program rom row a s p entry base x stands operands h.pairs h.free in
+    record { core = parts_core k program rom row (behind_row a row) s p b.cell (effect_formed k program rom row a s p entry base x stands operands h.core); free = r.0; pairs = r.1; apart = apart_by k.setting.rules k program row.op s p _ _ h.free stands.apart }
 
 untaken_formed : (k : Stack) (row : Row) (next : ℕ) (s : AbsState) (b : Branch) → IsFormedBranch k.region b → IsFree k.region s.summary → IsFormed k.region (untaken_successor k row next s b).state
 unfolding ended

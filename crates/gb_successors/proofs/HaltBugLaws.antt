@@ -25,7 +25,6 @@ use Rattle.gb_domain.specs.declared.types.Halves.{Halves}
 use Rattle.gb_domain.specs.declared.types.Range.{Range}
 use Rattle.gb_domain.specs.Summaries.{SummaryParts, Program}
 use Rattle.gb_domain.specs.Types.{AbsState}
-use Rattle.gb_product.specs.Below.gb_summaries.Meaning.{HoldSummary}
 use Rattle.gb_product.specs.Below.gb_abs.Storage.{peek}
 use Rattle.gb_product.specs.Below.gb_abs.Located.{sp_halves}
 use Rattle.gb_product.specs.Below.gb_abs.Meaning.{Activation, MeansParts}
@@ -56,7 +55,8 @@ use Rattle.gb_successors.specs.Successors.{related_successor, relations_behind, 
 use Rattle.gb_successors.specs.Sound.{IsReady, IsFound, IsStackFit, bytes_moved, IsHalt, Leads, LeadsBy, LeadsWidely, StaysAt, Stands}
 use Rattle.gb_successors.proofs.PlainLaws.{Keeps-both, Keeps-settle, Keeps-cut}
 use Rattle.gb_successors.proofs.SaidLaws.{Leads-said}
-use Rattle.gb_successors.proofs.SummaryLaws.{HoldSummary-settled, said_at, said_holds}
+use Rattle.gb_successors.proofs.SettledLaws.{HoldSummary-settled}
+use Rattle.gb_successors.proofs.SummaryLaws.{said_at, said_holds}
 use Rattle.gb_successors.proofs.RelatedLaws.{related_begun}
 use Rattle.gb_successors.proofs.SuccessorLaws.{begun, begun_core, given, effect, left_by}
 use Rattle.gb_successors.proofs.SpMoveLaws.{still_stays}
@@ -183,12 +183,12 @@ left_is rom row x reads halt off mark =
 as_many : {n m : ℕ} → n ≡ m → n ≤ m
 as_many e = omega arith
 
-pub halt_repeats_widely :
-    (k : Stack) (program : Program) (rom : List ℕ) (row : Row) (a : ℕ) (s : AbsState) (ranges : List Range) (entry : Activation) (base : ℕ) (x : MState)
-    → k.setting.rules ≡ Extended → entry.program ≡ program → Stands k.setting rom k.region row a s entry base x → IsHalt row → x.processor.ime ≡ ime.Off → x.processor.halt_mark ≡ false
-    → LeadsBy k.setting k.region ranges (length s.items) (successors_of k program rom row a s).taken entry base x (outside (halt_bug (within rom x)))
+repeats_widely :
+    (k : Stack) (rom : List ℕ) (row : Row) (a : ℕ) (s : AbsState) (ranges : List Range) (entry : Activation) (base : ℕ) (x : MState)
+    → k.setting.rules ≡ Extended → Stands k.setting rom k.region row a s entry base x → IsHalt row → x.processor.ime ≡ ime.Off → x.processor.halt_mark ≡ false
+    → LeadsBy k.setting k.region ranges (length s.items) (successors_of k entry.program rom row a s).taken entry base x (outside (halt_bug (within rom x)))
 unfolding taken_successor with_cell_if
-halt_repeats_widely k program rom row a s ranges entry base x extended of stands halt off mark =
+repeats_widely k rom row a s ranges entry base x extended stands halt off mark =
     let before = before_of k s entry (begun row x) stands.core stands.pairs (begun_core row x s.core entry stands.means.parts.core) (related_begun row x s.relations stands.means.related) in
     let p : Product = before.product in
     let c : Situation = record {
@@ -222,9 +222,9 @@ halt_repeats_widely k program rom row a s ranges entry base x extended of stands
     } in
     let done = done_at c t (halt_allowed c t halt.op_is) in
     let some = possible c t in
-    let r : Relations = relations_behind k rom row.op s p in
+    let r : Relations = relations_behind k entry.program rom row.op s p in
     let related : Successor = related_successor r (parts_at c) in
-    let m : SummaryParts = summary_behind k program row.op s p (parts_at c) in
+    let m : SummaryParts = summary_behind k entry.program row.op s p (parts_at c) in
     let parts : Successor = said_successor m related in
     let goes : (parts_at c).target ≡ target.At (next_at c) = halt_goes c t halt.op_is in
     let led : StaysAt k.region (next_at c) (parts_at c) entry base (left_at c) = subst (λ w. LeadsWidely k.setting k.region w (parts_at c) entry base (left_at c)) goes done.to in
@@ -234,14 +234,21 @@ halt_repeats_widely k program rom row a s ranges entry base x extended of stands
     (record { means = MeansParts-marked (parts_at c).state entry base (left_at c) led.means; goes = led.goes; room = led.room }) in
     record {
       successor = with_product parts some.product;
-      is_way = taken_way k program rom row a s p (record { core = p.core; relations = p.relations; cell = None }) (with_product parts some.product) before.is (halt_side row.op s.cells p halt.op_is)
+      is_way = taken_way k entry.program rom row a s p (record { core = p.core; relations = p.relations; cell = None }) (with_product parts some.product) before.is (halt_side row.op s.cells p halt.op_is)
           (reduced_way k.setting.rules parts some.product some.is);
       held = as_many (subst (λ m. length (parts_at c).state.items ≡ bytes_moved m (length s.items)) (halt_stays_put c halt.op_is) done.bytes);
       leads = subst (λ y. Leads k.setting k.region ranges (with_product parts some.product) entry base x y) (sym (left_is rom row x [] halt off mark))
           (Leads-said k.setting k.region ranges m (with_product related some.product) entry base x (marked (left_at c))
           (Leads-narrowed k.setting k.region ranges related some.product entry base x (marked (left_at c)) extended some.is (pairs_behind c t) bytes done.leaves.related
           (LeadsWidely-related k.setting k.region (parts_at c).target r (parts_at c) entry base (marked (left_at c)) to) done.leaves.kept)
-          (subst (λ q. HoldSummary entry.program (parts_at c).state.cells (summary_behind k q row.op s p (parts_at c)) (marked (left_at c)).processor (peek (left_at c).storage) (left_at c).storage.banks) of
           (HoldSummary-settled entry.program (parts_at c).state.cells (said_at c) (left_at c).processor (marked (left_at c)).processor (peek (left_at c).storage) (left_at c).storage.banks refl refl (λ e. e)
-          (said_holds c t (halt_allowed c t halt.op_is) done))));
+          (said_holds c t (halt_allowed c t halt.op_is) done)));
     }
+
+pub halt_repeats_widely :
+    (k : Stack) (program : Program) (rom : List ℕ) (row : Row) (a : ℕ) (s : AbsState) (ranges : List Range) (entry : Activation) (base : ℕ) (x : MState)
+    → k.setting.rules ≡ Extended → entry.program ≡ program → Stands k.setting rom k.region row a s entry base x → IsHalt row → x.processor.ime ≡ ime.Off → x.processor.halt_mark ≡ false
+    → LeadsBy k.setting k.region ranges (length s.items) (successors_of k program rom row a s).taken entry base x (outside (halt_bug (within rom x)))
+halt_repeats_widely k program rom row a s ranges entry base x extended of stands halt off mark =
+    subst (λ q. LeadsBy k.setting k.region ranges (length s.items) (successors_of k q rom row a s).taken entry base x (outside (halt_bug (within rom x)))) of
+    (repeats_widely k rom row a s ranges entry base x extended stands halt off mark)

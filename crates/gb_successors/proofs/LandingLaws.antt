@@ -1,22 +1,14 @@
 -- Where nothing refuses what an instruction reads and writes, and its stack is ready, the machine stands behind it, without a
 -- fault, in a state that its successor stands for: by the rules of version 3.
-use Rattle.std.proofs.Common.{◌≡◌, ℕ, ◌+◌, ◌-◌, ◌%◌, ◌≤◌, Bool, true, false, cond, inl, inr, nat_lt, List, [], ◌∷◌, ◌++◌, length, Option, Some, None, refl, sym, ◌∙◌, ap, subst, arith, length-append}
-use Rattle.std.proofs.lemmas.Bool.Decides.{nat_tests}
+use Rattle.std.proofs.Common.{◌≡◌, ℕ, ◌+◌, ◌-◌, ◌%◌, ◌≤◌, Bool, true, false, inl, inr, nat_lt, List, [], ◌∷◌, ◌++◌, length, Option, Some, None, refl, sym, ◌∙◌, ap, subst, arith, length-append}
 use Rattle.gb_ops.specs.declared.machine.Region.{Region}
-use Rattle.gb_ops.specs.declared.machine.Faults.{Faults}
-use Rattle.gb_ops.specs.declared.machine.Mapped.{Mapped}
-use Rattle.gb_ops.specs.declared.machine.Mapped.TheVariants as mapped
-use Rattle.gb_ops.specs.declared.machine.Read.{Read}
-use Rattle.gb_ops.specs.declared.machine.Read.TheVariants as machine_read
 use Rattle.gb_ops.specs.declared.machine.Write.TheVariants as machine_write
 use Rattle.gb_ops.specs.Cartridge.{kind_of}
-use Rattle.gb_ops.specs.Memory.{View, Storage, mapped_at, place_by, place_of, is_free_place, is_free, byte_by, byte_at, is_closed, stored, passed}
-use Rattle.gb_ops.specs.declared.machine.ReadSource.TheVariants as place
+use Rattle.gb_ops.specs.Memory.{View, Storage, stored, passed}
 use Rattle.gb_ops.specs.Effects as Effects
 use Rattle.gb_ops.specs.Effects.{with_sp}
-use Rattle.gb_ops.specs.Machine as Machine
-use Rattle.gb_ops.specs.Machine.{advanced, loaded, executed}
-use Rattle.gb_ops.specs.Faults.{no_faults, access_faults, load_faults, store_faults, row_faults}
+use Rattle.gb_ops.specs.Machine.{advanced}
+use Rattle.gb_ops.specs.Faults.{no_faults, store_faults, row_faults}
 use Rattle.gb_ops.specs.Play.{MState, within}
 use Rattle.gb_domain.specs.declared.setting.Setting.{Setting}
 use Rattle.gb_domain.specs.declared.types.Val.{Val}
@@ -24,12 +16,11 @@ use Rattle.gb_domain.specs.declared.types.Core.{Core}
 use Rattle.gb_domain.specs.declared.types.Halves.{Halves}
 use Rattle.gb_domain.specs.Limits.{item_room}
 use Rattle.gb_domain.specs.Types.{AbsState}
-use Rattle.gb_product.specs.Below.gb_abs.Storage.{is_ram, peek}
+use Rattle.gb_product.specs.Below.gb_abs.Storage.{peek}
 use Rattle.gb_product.specs.Below.gb_abs.Meaning.{Activation, MeansCore, MeansParts}
 use Rattle.gb_product.specs.Below.gb_abs.Operations.{with_core}
 use Rattle.gb_product.specs.Below.gb_abs.Stack.{AreInRegion, pushed, youngest}
 use Rattle.gb_product.proofs.Below.gb_abs_laws.StackLaws.{IsRegionOpen-bound, MeansParts-pushed, MeansParts-with_core}
-use Rattle.gb_product.proofs.Below.gb_abs_laws.StorageLaws.{read_ram}
 use Rattle.gb_product.specs.Below.gb_abs_effects.declared.writes.AbsWrite.{AbsWrite}
 use Rattle.gb_product.specs.Below.gb_abs_effects.declared.writes.AbsWrite.TheVariants as write
 use Rattle.gb_product.specs.Below.gb_abs_effects.Sound.{HoldsWrite, IsWrite}
@@ -37,8 +28,8 @@ use Rattle.gb_product.specs.Below.gb_abs_effects.Targets.{moves_sp}
 use Rattle.gb_product.proofs.Below.gb_abs_effects_laws.TargetLaws.{sp-kept, sp-pushed}
 use Rattle.gb_code.specs.Below.gb_abs_memory.Kept.{IsKept}
 use Rattle.gb_code.specs.Below.gb_abs_memory.Sound.{view}
-use Rattle.gb_product.specs.Below.gb_relations.Places.{behind_echo}
 use Rattle.gb_product.specs.Below.gb_relations.Sound as relations
+use Rattle.gb_product.specs.Below.gb_relations.Transfer.{values_of}
 use Rattle.gb_product.specs.Meaning.{AreRelated}
 use Rattle.gb_successors.specs.declared.stacks.StackMove.{StackMove}
 use Rattle.gb_successors.specs.declared.stacks.StackMove.TheVariants as move
@@ -48,86 +39,25 @@ use Rattle.gb_successors.specs.Sound.{HasRoomFor, bytes_moved}
 use Rattle.gb_successors.specs.Stacks.{with_stack_moved, moved_core}
 use Rattle.gb_successors.specs.Successors.{taken_move, taken_parts, relations_behind}
 use Rattle.gb_successors.proofs.AccessLaws.{WritesInTurn, Loads, Loads-read, Stores, Stores-write, IsSameGate, AtWrite, closed_same, limited_same, writes_same, write_limited_same, clear_stack}
+use Rattle.gb_successors.proofs.LoadedLaws.{Reads-loaded, Loads-by}
 use Rattle.gb_successors.proofs.MovedLaws.{written_by}
 use Rattle.gb_successors.proofs.PlainLaws.{Keeps, Keeps-both, Keeps-transfer, IsPlainRead, IsPlainWrite}
 use Rattle.gb_successors.proofs.RamLaws.{ram_at, ram_same, ram_is, differs, HoldRelations-ram}
 use Rattle.gb_successors.proofs.SuccessorLaws.{begun_sp, faults_are, MeansParts-ended, passed_peek}
 use Rattle.gb_successors.proofs.StackWayLaws.{push_of, small_word, not_pushed, same_but_sp, nothing_stored, no_store_faults}
 use Rattle.gb_successors.proofs.WordLaws.{pushed-if_room}
-use Rattle.gb_successors.proofs.Situations.{Situation, next_at, pointer_at, read_at, word_at, transferred, effect_at, carry_at, move_at, parts_at, begun_at, given_at, acted_at, left_at, IsTakenIn, means_begun, related_at}
-use Rattle.gb_successors.proofs.SituationLaws.{AreGiven, follows, related_behind, read_holds, transferred_is, write_is, core_is, IsWrite-cut, sp_below}
+use Rattle.gb_successors.proofs.Situations.{Situation, next_at, pointer_at, read_at, bits_at, word_at, transferred, effect_at, carry_at, move_at, parts_at, begun_at, given_at, acted_at, left_at, IsTakenIn, means_begun, related_at}
+use Rattle.gb_successors.proofs.SituationLaws.{AreGiven, values_hold, said_begun, follows, related_behind, read_holds, read_has, read_placed, transferred_is, write_is, core_is, IsWrite-cut, sp_below}
 use Rattle.gb_successors.specs.Refined.{with_carry}
 use Rattle.gb_successors.proofs.RelatedLaws.{has_operands}
 use Rattle.gb_product.proofs.Below.gb_relations_laws.TransferLaws.{relations_after_sound}
 use Rattle.gb_product.specs.Below.gb_abs.Located.{sp_bounds}
 use Rattle.gb_domain.specs.declared.pairs.WordPair.TheVariants as pairs
 
--- ---- a byte of RAM that is read
-
-abbrev is_ram_place : Mapped → Bool
-is_ram_place (mapped.WorkRam i) = true
-is_ram_place (mapped.HighRam i) = true
-is_ram_place _ = false
-
-ram_place : (a : ℕ) → is_ram a ≡ true → is_ram_place (mapped_at a) ≡ true
-unfolding mapped_at
-ram_place a h = grind (arith, nat_tests)
-
-echo_place : (a : ℕ) → is_ram (behind_echo a) ≡ true → mapped_at a ≡ mapped_at (behind_echo a)
-unfolding mapped_at
-echo_place a h = grind (arith, nat_tests)
-
--- what is read at a place of the map
-abbrev answered : Bool → Mapped → View → ℕ → List ℕ → Machine.Reading
-answered closed k m a free = Machine.read_by (is_free_place (cond closed place.Free (place_by k m a))) (byte_by k m a) free
-
-answered_is : (m : View) (a : ℕ) (free : List ℕ) → Machine.read_at m a free ≡ answered (is_closed m.storage a) (mapped_at a) m a free
-unfolding Machine.read_at is_free place_of byte_at
-answered_is m a free = refl
-
-same_answer : (closed : Bool) (k : Mapped) (m : View) (a b : ℕ) (free : List ℕ) → is_ram_place k ≡ true → answered closed k m a free ≡ answered closed k m b free
-same_answer closed (mapped.WorkRam i) m a b free h = refl
-same_answer closed (mapped.HighRam i) m a b free h = refl
-same_answer closed mapped.Rom m a b free h = cc
-same_answer closed mapped.CartridgeRam m a b free h = cc
-same_answer closed mapped.InterruptEnable m a b free h = cc
-same_answer closed mapped.Transfer m a b free h = cc
-same_answer closed mapped.Hardware m a b free h = cc
-
-same_closed : (s : Storage) (a b : ℕ) → mapped_at a ≡ mapped_at b → is_closed s a ≡ is_closed s b
-unfolding is_closed
-same_closed s a b e = rw e refl
-
--- through the echo too
-pub ram_read : (m : View) (a : ℕ) (free : List ℕ) → is_closed m.storage a ≡ false → is_ram (behind_echo a) ≡ true → ram_at m.storage (behind_echo a) ≡ (Machine.read_at m a free).value
-ram_read m a free clear ram =
-    let home = behind_echo a in
-    let same = echo_place a ram in
-    let closed = same_closed m.storage a home same in
-    ram_is m.storage home ram
-    ∙ sym (ap (λ (r : Machine.Reading). r.value)
-    (answered_is m a free
-    ∙ (ap (λ k. answered k (mapped_at a) m a free) closed
-    ∙ (ap (λ k. answered (is_closed m.storage home) k m a free) same
-    ∙ (same_answer (is_closed m.storage home) (mapped_at home) m a home free (ram_place home ram)
-    ∙ (sym (answered_is m home free) ∙ read_ram m home free ram (sym closed ∙ clear)))))))
-
-not_dropped : (m : View) (a : ℕ) → access_faults m a ≡ no_faults → is_closed m.storage a ≡ false
-unfolding access_faults
-not_dropped m a h = ap (λ (f : Faults). f.transfer_met) h
-
-pub Reads-loaded : (m : View) (r : Read) (free : List ℕ) → load_faults m r ≡ no_faults → relations.Reads r (ram_at m.storage) (loaded m r free).low
-unfolding load_faults loaded
-Reads-loaded m machine_read.Nothing free h = tt
-Reads-loaded m (machine_read.Byte a) free h = λ ram. ram_read m a free (not_dropped m a h) ram
-Reads-loaded m (machine_read.Word a) free h = tt
-
 -- ---- what its reads give
 
 abbrev pub LoadsAt : Situation → Type 0
-LoadsAt c =
-    Loads c.stack.setting c.rom (with_core c.state c.product.core) (read_at c) c.entry (view c.rom c.machine false)
-    (Effects.read_of c.row.op (advanced c.machine.processor c.row)) c.reads
+LoadsAt c = Loads (word_at c) c.entry (view c.rom c.machine false) (Effects.read_of c.row.op (advanced c.machine.processor c.row)) c.reads
 
 pub given_by : (c : Situation) → IsTakenIn c → LoadsAt c → AreGiven c (given_at c).low (given_at c).high
 given_by c k l = record {
@@ -152,10 +82,12 @@ set_by_items false items some unset =
 pub loads_plainly :
     (c : Situation) → IsTakenIn c → IsPlainRead (read_at c) → reads_closed_ram c.rom c.state.core (read_at c) ≡ false → is_read_limited c.stack.region c.state.core (read_at c) ≡ false → LoadsAt c
 loads_plainly c k plain ram limited =
-    Loads-read c.stack.setting c.rom c.stack.region (with_core c.state c.product.core) c.entry c.base (begun_at c) c.reads (begun_at c).processor.sp (read_at c) _
+    Loads-by c.stack.setting.rules c.stack.setting c.stack.region c.rom (with_core c.state c.product.core) (values_of c.product.core.registers c.product.relations.pairs) (bits_at c) c.entry c.base
+    (begun_at c) (begun_at c).processor.sp (read_at c) _ c.reads k.stands.cartridge (means_begun c k) (said_begun c k) (values_hold c k) k.core.ie k.byte (read_placed c k) (read_holds c k) (read_has c k)
+    (Loads-read c.stack.setting c.rom c.stack.region (with_core c.state c.product.core) c.entry c.base (begun_at c) c.reads (begun_at c).processor.sp (read_at c) _
     k.stands.cartridge k.stands.based (means_begun c k) k.core.ie k.byte plain (read_holds c k)
     (closed_same c.rom c.state.core c.product.core (read_at c) k.keeps ∙ ram)
-    (limited_same c.stack.region c.state.core c.product.core (read_at c) k.keeps ∙ limited)
+    (limited_same c.stack.region c.state.core c.product.core (read_at c) k.keeps ∙ limited))
 
 -- ---- the parts of the successor
 

@@ -45,7 +45,7 @@ use Rattle.gb_successors.specs.Successors.{taken_move, taken_parts}
 use Rattle.gb_successors.proofs.AccessLaws.{clear_stack}
 use Rattle.gb_successors.proofs.PlainLaws.{IsPlainRead}
 use Rattle.gb_successors.proofs.SuccessorLaws.{begun_pc, begun_sp}
-use Rattle.gb_successors.proofs.StackWayLaws.{is_word_read, read_top, top_held}
+use Rattle.gb_successors.proofs.StackWayLaws.{is_word_read, word_top, top_held}
 use Rattle.gb_successors.proofs.SpMoveLaws.{IsMovedTo, sp_moves}
 use Rattle.gb_successors.proofs.StackMovedLaws.{IsMoved}
 use Rattle.gb_successors.proofs.GoingLaws.{GoesTo, goes_to, top_reads, takes_two, return_target}
@@ -119,7 +119,7 @@ holds_two : (c : Situation) → IsTakenIn c → IsFound (parts_at c).target → 
 holds_two c k found top = by (top_reads c.row.op c.product.core (cut_top (pointer_at c) (read_of c.row.op c.product.core) top))
   where
     word_any : nat_lt (length c.state.items) 2 ≡ true → word_at c ≡ any_word
-    word_any few = read_top c.stack.setting c.rom (with_core c.state c.product.core) (read_at c) None top (few_words c.state c.product.core few)
+    word_any few = word_top c.stack.setting.rules c.stack.setting c.stack.region c.entry.program c.rom _ _ (with_core c.state c.product.core) (read_at c) None top (few_words c.state c.product.core few)
 
     by_length : (b : Bool) → nat_lt (length c.state.items) 2 ≡ b → is_return c.row.op ≡ true → HoldsBytes 2 c.state
     by_length false e h =
@@ -140,7 +140,7 @@ loads_top c k top two limited =
     let sp = (begun_at c).processor.sp in
     let r : Read = Effects.read_of c.row.op (advanced c.machine.processor c.row) in
     let reads : r ≡ machine_read.Word sp = is_word_read sp r (subst (λ v. HoldsRead v sp r) top (read_holds c k)) in
-    let word : word_at c ≡ held.0 = read_top c.stack.setting c.rom (with_core c.state c.product.core) (read_at c) (Some held.0) top held.1 in
+    let word : word_at c ≡ held.0 = word_top c.stack.setting.rules c.stack.setting c.stack.region c.entry.program c.rom _ _ (with_core c.state c.product.core) (read_at c) (Some held.0) top held.1 in
     let p =
     Pops-popped c.stack.region (with_core c.state c.product.core) c.entry c.base (begun_at c) (view c.rom c.machine false) held.0 c.reads (means_begun c k) refl (k.keeps.stack ∙ two.stack_set) held.1 k.stands.room k.stands.is_region
     (IsRegionOpen-bound c.state.core c.entry c.machine c.stack.region k.stands.means.parts.core (clear_stack c.stack.region c.state.core limited)) in

@@ -12,6 +12,9 @@ pub mod SilentLaws
 pub mod AreaLaws
 pub mod StoredLaws
 pub mod AsideLaws
+pub mod SettledLaws
+pub mod LoadedLaws
+pub mod JoinedLaws
 pub mod SummaryLaws
 pub mod QuietLaws
 pub mod MarkLaws

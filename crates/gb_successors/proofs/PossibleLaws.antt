@@ -1,6 +1,6 @@
 -- Reducing loses no successor of the machine's own side, whether its accesses are refused or not: there are bytes that its reads
 -- might have given, by which the states behind hold registers.
-use Rattle.std.proofs.Common.{◌≡◌, ℕ, ◌≤◌, Bool, true, false, cond, ◌&&◌, ◌==◌, nat_lt, inl, List, length, Option, Some, None, refl, sym, ◌∙◌, ap, subst, arith}
+use Rattle.std.proofs.Common.{◌≡◌, ℕ, ◌≤◌, Bool, true, false, cond, not, ◌&&◌, ◌==◌, nat_lt, inl, List, length, Option, Some, None, refl, sym, ◌∙◌, ap, subst, arith}
 use Rattle.std.proofs.lemmas.Bool.{eq-eqb}
 use Rattle.std.proofs.lemmas.Bool.Decides.{nat_tests}
 use Rattle.gb_ops.specs.declared.machine.Kind.{Kind}
@@ -23,6 +23,7 @@ use Rattle.gb_ops.specs.Memory.{Storage}
 use Rattle.gb_ops.specs.Play.{MState}
 use Rattle.gb_ops.specs.Registers.{get}
 use Rattle.gb_domain.specs.declared.relations.Relations.{Relations}
+use Rattle.gb_domain.specs.declared.low_bits.LowBits.{LowBits}
 use Rattle.gb_domain.specs.declared.rules.Rules.{Rules}
 use Rattle.gb_domain.specs.declared.rules.Rules.TheVariants.{Simple, Extended}
 use Rattle.gb_domain.specs.declared.setting.Setting.{Setting}
@@ -30,11 +31,12 @@ use Rattle.gb_domain.specs.declared.types.Val.{Val}
 use Rattle.gb_domain.specs.declared.types.Core.{Core}
 use Rattle.gb_domain.specs.declared.types.Halves.{Halves}
 use Rattle.gb_domain.specs.Pairs.{ArePairs}
+use Rattle.gb_domain.specs.Summaries.{Program}
 use Rattle.gb_domain.specs.Types.{AbsState}
 use Rattle.gb_product.specs.Below.gb_vals.Meaning.{In}
 use Rattle.gb_product.specs.Below.gb_vals.Vals.{any_val}
 use Rattle.gb_product.specs.Below.gb_abs.declared.span.Span.{Span}
-use Rattle.gb_product.specs.Below.gb_abs.Span.{is_one, may_meet}
+use Rattle.gb_product.specs.Below.gb_abs.Span.{is_one, is_inside, may_meet}
 use Rattle.gb_product.specs.Below.gb_abs.Located.{item_at, stack_base}
 use Rattle.gb_product.specs.Below.gb_abs.Meaning.{Activation, Holds, MeansCore, MeansParts}
 use Rattle.gb_product.specs.Below.gb_abs.Operations.{core_end, with_core}
@@ -64,25 +66,28 @@ use Rattle.gb_product.specs.Below.gb_pairs.Sound.{HoldsIn}
 use Rattle.gb_product.specs.Below.gb_relations.Places.{behind_echo}
 use Rattle.gb_product.specs.Below.gb_relations.Sound as relations
 use Rattle.gb_product.specs.Below.gb_relations.Transfer.{values_of}
+use Rattle.gb_product.specs.Meaning.{IsSummarized}
 use Rattle.gb_product.specs.Reduced.{product_of, with_values_if, reduced}
 use Rattle.gb_product.proofs.Below.gb_relations_laws.MachineLaws.{effect_of-bytes}
 use Rattle.gb_product.proofs.Below.gb_relations_laws.TransferLaws.{relations_after_kept}
 use Rattle.gb_product.proofs.Below.gb_relations_laws.Below.gb_pairs_laws.ReducedLaws as pair_laws
 use Rattle.gb_successors.specs.declared.stacks.StackMove.{StackMove}
 use Rattle.gb_successors.specs.declared.stacks.StackMove.TheVariants as move
-use Rattle.gb_successors.specs.Behind.{read_word, starts, written_core, core_behind}
+use Rattle.gb_successors.specs.Behind.{starts, written_core, core_behind}
+use Rattle.gb_successors.specs.Loads.{read_word, is_plain_ram, told_at, is_stretch, joined_in, loaded_whole, loaded_in, word_by}
 use Rattle.gb_successors.specs.Refused.{reads_closed_ram, is_read_limited}
 use Rattle.std.specs.Prelude.{is_some}
 use Rattle.gb_successors.specs.Sound.{IsReady}
 use Rattle.gb_successors.specs.Stacks.{moved_core}
 use Rattle.gb_successors.specs.Successors.{relations_behind}
 use Rattle.gb_successors.proofs.AccessLaws.{Loads-read}
+use Rattle.gb_successors.proofs.LoadedLaws.{Reads-loaded, HasRead, Loads-by}
 use Rattle.gb_successors.proofs.RamLaws.{ram_at, differs}
 use Rattle.gb_successors.proofs.RelatedLaws.{has_operands}
-use Rattle.gb_successors.proofs.StackWayLaws.{is_word_read, read_top, top_held}
-use Rattle.gb_successors.proofs.Situations.{Situation, read_at, word_at, effect_at, move_at, parts_at, begun_at, given_at, effect_by, IsTakenIn, means_begun, related_at}
-use Rattle.gb_successors.proofs.SituationLaws.{AreGiven, follows, related_behind, read_holds, read_placed, is_word_at, bytes_begun}
-use Rattle.gb_successors.proofs.LandingLaws.{few_words, set_by_items, state_is, Reads-loaded}
+use Rattle.gb_successors.proofs.StackWayLaws.{is_word_read, word_top, top_held}
+use Rattle.gb_successors.proofs.Situations.{Situation, read_at, bits_at, word_at, effect_at, move_at, parts_at, begun_at, given_at, effect_by, IsTakenIn, means_begun, related_at}
+use Rattle.gb_successors.proofs.SituationLaws.{AreGiven, values_hold, said_begun, read_has, follows, related_behind, read_holds, read_placed, is_word_at, bytes_begun}
+use Rattle.gb_successors.proofs.LandingLaws.{few_words, set_by_items, state_is}
 
 -- ---- bytes that its reads might have given
 
@@ -128,6 +133,10 @@ means_rest c k =
     MeansParts-with_core (with_core c.state c.product.core) (core_at_rest c.product.core) c.entry c.base (begun_at c) (at_rest (begun_at c)) (means_begun c k)
     (MeansCore-rest c.product.core c.entry (begun_at c) k.means) refl refl refl (λ on. on)
 
+said_rest : (c : Situation) → IsTakenIn c → IsSummarized (with_core c.state (core_at_rest c.product.core)) c.entry (at_rest (begun_at c))
+unfolding peek
+said_rest c k = said_begun c k
+
 -- RAM is the same
 ram_rest : (x : MState) (r : Read) (l : ℕ) → relations.Reads r (ram_at (at_rest x).storage) l → relations.Reads r (ram_at x.storage) l
 unfolding peek
@@ -141,6 +150,16 @@ several_rest Extended rom core span = refl
 loaded_rest : (z : Setting) (rom : List ℕ) (s : AbsState) (core : Core) (span : Span) → loaded_val z rom (with_core s (core_at_rest core)) span ≡ loaded_val z rom (with_core s core) span
 unfolding loaded_val val_or_item val_at item_at stack_base
 loaded_rest z rom s core span = ap (cond (is_one span) (val_or_item z rom (with_core s core) span.first)) (several_rest z.rules rom core span)
+
+-- values and what is said stay too
+told_rest :
+    (z : Setting) (region : Region) (program : Program) (rom : List ℕ) (v : Values) (low : LowBits) (s : AbsState) (core : Core) (span : Span)
+    → loaded_in z region program rom v low (with_core s (core_at_rest core)) span ≡ loaded_in z region program rom v low (with_core s core) span
+unfolding loaded_whole joined_in is_plain_ram item_at stack_base
+told_rest z region program rom v low s core span =
+    let t : AbsState = with_core s core in
+    ap (λ w. cond z.is_whole (cond (not (is_one span)) (joined_in region program rom v low t span) (cond (is_plain_ram z t span.first) (told_at program v t span.first) w)) w)
+    (loaded_rest z rom s core span)
 
 not_limited : (region : Region) (core : Core) (span : Span) → is_read_limited region (core_at_rest core) (read.Byte span) ≡ false
 unfolding is_read_limited is_limited
@@ -191,6 +210,51 @@ closed_any z rom s core span h = choose (is_one span) refl
         closed_one z rom s span.first low high
     choose false e = closed_several z.rules rom s.core span meets
 
+-- so it isn't RAM
+no_ram : (z : Setting) (s : AbsState) (a : ℕ) → 0xA000 ≤ a → a ≤ 0xBFFF → is_plain_ram z s a ≡ false
+unfolding is_plain_ram
+no_ram z s a low high =
+    let home : is_ram (home_of a) ≡ false = grind (arith, nat_tests) in
+    ap (λ b. b && not (is_ram a && is_some (item_at z s a))) home
+
+-- nor a stretch of it
+no_stretch : (region : Region) (span : Span) → may_meet 0xA000 0xBFFF span ≡ true → is_stretch region span ≡ false
+unfolding is_stretch
+no_stretch region span h =
+    let work : is_inside 0xC000 0xDFFF span ≡ false = grind (arith, nat_tests) in
+    let high : is_inside 0xFF80 0xFFFE span ≡ false = grind (arith, nat_tests) in
+    let echo : is_inside 0xE000 0xFDFF span ≡ false = grind (arith, nat_tests) in
+    rw (work, high, echo) refl
+
+closed_told :
+    (z : Setting) (region : Region) (program : Program) (rom : List ℕ) (v : Values) (low : LowBits) (s : AbsState) (core : Core) (span : Span)
+    → reads_closed_ram rom core (read.Byte span) ≡ true → loaded_in z region program rom v low s span ≡ any_val
+unfolding reads_closed_ram meets_closed_ram loaded_whole joined_in
+closed_told z region program rom v low s core span h = by_version z.is_whole
+  where
+    meets : may_meet 0xA000 0xBFFF span ≡ true
+    meets = first_of _ _ h
+
+    one : is_one span ≡ true → (b : Bool) → is_plain_ram z s span.first ≡ b → cond b (told_at program v s span.first) (loaded_val z rom s span) ≡ any_val
+    one alone true e =
+        let least : 0xA000 ≤ span.first = grind (arith, nat_tests) in
+        let most : span.first ≤ 0xBFFF = grind (arith, nat_tests) in
+        let bad : true ≡ false = sym e ∙ no_ram z s span.first least most in
+        cc
+    one alone false e = closed_any z rom s core span h
+
+    several : joined_in region program rom v low s span ≡ any_val
+    several = rw (no_stretch region span meets, no_table span meets) refl
+
+    by_count : (b : Bool) → is_one span ≡ b
+        → cond (not b) (joined_in region program rom v low s span) (cond (is_plain_ram z s span.first) (told_at program v s span.first) (loaded_val z rom s span)) ≡ any_val
+    by_count true e = one e (is_plain_ram z s span.first) refl
+    by_count false e = several
+
+    by_version : (b : Bool) → cond b (loaded_whole z region program rom v low s span) (loaded_val z rom s span) ≡ any_val
+    by_version true = by_count (is_one span) refl
+    by_version false = closed_any z rom s core span h
+
 ram_byte : (s : Storage) (b : ℕ) → ((a : ℕ) → peek s a ≤ 255) → ram_at s b ≤ 255
 ram_byte s b bytes = by (is_ram b)
   where
@@ -198,13 +262,18 @@ ram_byte s b bytes = by (is_ram b)
     by true = bytes b
     by false = omega arith
 
-nothing_read : (z : Setting) (rom : List ℕ) (s : AbsState) (r : AbsRead) → r ≡ read.Nothing → read_word z rom s r ≡ record { high = any_val; low = any_val }
+nothing_read :
+    (r : Rules) (z : Setting) (region : Region) (program : Program) (rom : List ℕ) (v : Values) (low : LowBits) (s : AbsState) (what : AbsRead)
+    → what ≡ read.Nothing → word_by r z region program rom v low s what ≡ record { high = any_val; low = any_val }
 unfolding read_word
-nothing_read z rom s r e = ap (read_word z rom s) e
+nothing_read Simple z region program rom v low s what e = ap (read_word z rom s) e
+nothing_read Extended z region program rom v low s what e = ap (word_by Extended z region program rom v low s) e
 
-byte_read : (z : Setting) (rom : List ℕ) (s : AbsState) (r : AbsRead) (span : Span) → r ≡ read.Byte span → read_word z rom s r ≡ record { high = any_val; low = loaded_val z rom s span }
-unfolding read_word
-byte_read z rom s r span e = ap (read_word z rom s) e
+byte_read :
+    (r : Rules) (z : Setting) (region : Region) (program : Program) (rom : List ℕ) (v : Values) (low : LowBits) (s : AbsState) (what : AbsRead) (span : Span)
+    → r ≡ Extended → what ≡ read.Byte span → word_by r z region program rom v low s what ≡ record { high = any_val; low = loaded_in z region program rom v low s span }
+byte_read r z region program rom v low s what span extended e =
+    ap (λ q. word_by q z region program rom v low s what) extended ∙ ap (word_by Extended z region program rom v low s) e
 
 closed_rest : (rom : List ℕ) (core : Core) (span : Span) → reads_closed_ram rom (core_at_rest core) (read.Byte span) ≡ reads_closed_ram rom core (read.Byte span)
 unfolding reads_closed_ram meets_closed_ram may_be_closed
@@ -229,7 +298,7 @@ given_nothing c k e =
     }
   where
     none : (c : Situation) → read_at c ≡ read.Nothing → word_at c ≡ record { high = any_val; low = any_val }
-    none c e = nothing_read c.stack.setting c.rom (with_core c.state c.product.core) (read_at c) e
+    none c e = nothing_read c.stack.setting.rules c.stack.setting c.stack.region c.entry.program c.rom _ _ (with_core c.state c.product.core) (read_at c) e
 
     quiet : (r : Read) → HoldsRead read.Nothing (begun_at c).processor.sp r → relations.Reads r (ram_at c.machine.storage) 0
     quiet machine_read.Nothing h = tt
@@ -241,10 +310,16 @@ given_byte c span k e =
     by (Effects.read_of c.row.op (advanced c.machine.processor c.row)) refl (subst (λ r. HoldsRead r (begun_at c).processor.sp (Effects.read_of c.row.op (advanced c.machine.processor c.row))) e (read_holds c k))
     (reads_closed_ram c.rom c.product.core (read.Byte span)) refl
   where
-    word : word_at c ≡ record { high = any_val; low = loaded_val c.stack.setting c.rom (with_core c.state c.product.core) span }
-    word = byte_read c.stack.setting c.rom (with_core c.state c.product.core) (read_at c) span e
+    v : Values
+    v = values_of c.product.core.registers c.product.relations.pairs
 
-    of_byte : (a l : ℕ) → Effects.read_of c.row.op (advanced c.machine.processor c.row) ≡ machine_read.Byte a → Holds (loaded_val c.stack.setting c.rom (with_core c.state c.product.core) span) c.entry l
+    known : Val
+    known = loaded_in c.stack.setting c.stack.region c.entry.program c.rom v (bits_at c) (with_core c.state c.product.core) span
+
+    word : word_at c ≡ record { high = any_val; low = known }
+    word = byte_read c.stack.setting.rules c.stack.setting c.stack.region c.entry.program c.rom v (bits_at c) (with_core c.state c.product.core) (read_at c) span k.extended e
+
+    of_byte : (a l : ℕ) → Effects.read_of c.row.op (advanced c.machine.processor c.row) ≡ machine_read.Byte a → Holds known c.entry l
         → relations.Reads (machine_read.Byte a) (ram_at c.machine.storage) l → IsGiven c
     of_byte a l is holds reads =
         record {
@@ -263,18 +338,20 @@ given_byte c span k e =
     by (machine_read.Word a) is h b closed = absurd h
     by (machine_read.Byte a) is h true closed =
         of_byte a (ram_at c.machine.storage (behind_echo a)) is
-        (subst (λ v. Holds v c.entry (ram_at c.machine.storage (behind_echo a))) (sym (closed_any c.stack.setting c.rom (with_core c.state c.product.core) c.product.core span closed))
+        (subst (λ v. Holds v c.entry (ram_at c.machine.storage (behind_echo a))) (sym (closed_told c.stack.setting c.stack.region c.entry.program c.rom v (bits_at c) (with_core c.state c.product.core) c.product.core span closed))
         (holds_any c.entry _ (ram_byte c.machine.storage (behind_echo a) k.stands.means.parts.memory.bytes)))
         (λ ram. refl)
     by (machine_read.Byte a) is h false closed =
         let x : MState = at_rest (begun_at c) in
         let core : Core = core_at_rest c.product.core in
         let l =
-        Loads-read c.stack.setting c.rom c.stack.region (with_core c.state core) c.entry c.base x c.reads (begun_at c).processor.sp (read.Byte span) (machine_read.Byte a)
-        k.stands.cartridge k.stands.based (means_rest c k) k.core.ie k.byte (subst IsReadAt e (read_placed c k)) h (closed_rest c.rom c.product.core span ∙ closed) (not_limited c.stack.region c.product.core span) in
+        Loads-by Extended c.stack.setting c.stack.region c.rom (with_core c.state core) v (bits_at c) c.entry c.base x (begun_at c).processor.sp (read.Byte span) (machine_read.Byte a) c.reads
+        k.stands.cartridge (means_rest c k) (said_rest c k) (values_hold c k) k.core.ie k.byte (subst IsReadAt e (read_placed c k)) h (subst (HasRead (bits_at c)) is (read_has c k))
+        (Loads-read c.stack.setting c.rom c.stack.region (with_core c.state core) c.entry c.base x c.reads (begun_at c).processor.sp (read.Byte span) (machine_read.Byte a)
+        k.stands.cartridge k.stands.based (means_rest c k) k.core.ie k.byte (subst IsReadAt e (read_placed c k)) h (closed_rest c.rom c.product.core span ∙ closed) (not_limited c.stack.region c.product.core span)) in
         of_byte a (loaded (view c.rom x false) (machine_read.Byte a) c.reads).low is
         (subst (λ v. Holds v c.entry (loaded (view c.rom x false) (machine_read.Byte a) c.reads).low)
-        (ap (λ (w : Halves). w.low) (byte_read c.stack.setting c.rom (with_core c.state core) (read.Byte span) span refl) ∙ loaded_rest c.stack.setting c.rom c.state c.product.core span) l.low)
+        (told_rest c.stack.setting c.stack.region c.entry.program c.rom v (bits_at c) c.state c.product.core span) l.low)
         (ram_rest c.machine (machine_read.Byte a) _ (Reads-loaded (view c.rom x false) (machine_read.Byte a) c.reads l.faults))
 
 given_top : (c : Situation) → IsTakenIn c → read_at c ≡ read.Top → IsGiven c
@@ -301,7 +378,7 @@ given_top c k e = by (nat_lt (length c.state.items) 2) refl
 
     by : (b : Bool) → nat_lt (length c.state.items) 2 ≡ b → IsGiven c
     by true few =
-        of_word (record { high = any_val; low = any_val }) 0 0 (read_top c.stack.setting c.rom (with_core c.state c.product.core) (read_at c) None e (few_words c.state c.product.core few))
+        of_word (record { high = any_val; low = any_val }) 0 0 (word_top c.stack.setting.rules c.stack.setting c.stack.region c.entry.program c.rom _ _ (with_core c.state c.product.core) (read_at c) None e (few_words c.state c.product.core few))
         (holds_any c.entry 0 (omega arith)) (holds_any c.entry 0 (omega arith))
     by false few =
         let some : 2 ≤ length c.state.items = grind (arith, nat_tests) in
@@ -310,7 +387,7 @@ given_top c k e = by (nat_lt (length c.state.items) 2) refl
         let x : MState = at_rest (begun_at c) in
         let p =
         Pops-popped c.stack.region (with_core c.state (core_at_rest c.product.core)) c.entry c.base x (view c.rom x false) held.0 c.reads (means_rest c k) refl (k.keeps.stack ∙ set) held.1 k.stands.room k.stands.is_region (inl refl) in
-        of_word held.0 _ _ (read_top c.stack.setting c.rom (with_core c.state c.product.core) (read_at c) (Some held.0) e (same_youngest c.state c.product.core (core_at_rest c.product.core) ∙ held.1)) p.low p.high
+        of_word held.0 _ _ (word_top c.stack.setting.rules c.stack.setting c.stack.region c.entry.program c.rom _ _ (with_core c.state c.product.core) (read_at c) (Some held.0) e (same_youngest c.state c.product.core (core_at_rest c.product.core) ∙ held.1)) p.low p.high
 
 is_given : (c : Situation) → IsTakenIn c → IsGiven c
 is_given c k = by (read_at c) refl

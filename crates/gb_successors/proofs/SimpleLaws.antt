@@ -17,6 +17,7 @@ use Rattle.gb_domain.specs.declared.types.Core.{Core}
 use Rattle.gb_domain.specs.declared.types.Halves.{Halves}
 use Rattle.gb_domain.specs.declared.types.Val.{Val}
 use Rattle.gb_domain.specs.Limits.{item_room}
+use Rattle.gb_domain.specs.Summaries.{Program}
 use Rattle.gb_domain.specs.Types.{AbsState}
 use Rattle.gb_product.specs.Below.gb_vals.Vals.{any_val}
 use Rattle.gb_product.specs.Below.gb_abs.Bytes.{without_newest, resized}
@@ -33,11 +34,15 @@ use Rattle.gb_product.specs.Below.gb_abs_effects.Accesses.{read_of}
 use Rattle.gb_product.specs.Below.gb_abs_effects.Targets.{target_of}
 use Rattle.gb_product.specs.Below.gb_abs_effects.Transfer.{transfer}
 use Rattle.gb_product.specs.Below.gb_relations.Pointers.{pointer_bounds, known_carry}
+use Rattle.gb_product.specs.Below.gb_relations.Transfer.{values_of}
 use Rattle.gb_product.specs.declared.parts.Product.{Product}
 use Rattle.gb_successors.specs.declared.stacks.Stack.{Stack}
 use Rattle.gb_successors.specs.declared.stacks.StackMove.{StackMove}
 use Rattle.gb_successors.specs.declared.stacks.StackMove.TheVariants as move
-use Rattle.gb_successors.specs.Behind.{read_word, written, starts, ended, with_cell_if, moved_state, core_behind}
+use Rattle.gb_successors.specs.Behind.{written, starts, ended, with_cell_if, moved_state, core_behind}
+use Rattle.gb_successors.specs.Loads.{read_word, word_by}
+use Rattle.gb_ops.specs.Pointers.{pointer_of}
+use Rattle.gb_successors.specs.Summaries.{pointed_bits}
 use Rattle.gb_successors.specs.Refined.{cut_read, cut_write, refined, refined_target}
 use Rattle.gb_successors.specs.Stacks.{set_to, extended, stack_move, pushed_if_room, set_if_room, with_stack_moved, moved_core}
 use Rattle.gb_successors.specs.Successors.{pointer_in, read_in, word_in, effect_in, taken_parts}
@@ -220,24 +225,25 @@ read_simply : (k : Stack) (o : Op) (p : Product) → k.setting.rules ≡ Simple 
 read_simply k o p h = ap (λ b. cut_read b (read_of o p.core)) (pointer_none k.setting.rules o p.core.registers p.relations.pairs h) ∙ read_whole (read_of o p.core)
 
 word_simply :
-    (k : Stack) (rom : List ℕ) (row : Row) (s : AbsState) (p : Product) (cell : Option Cell) → k.setting.rules ≡ Simple → IsTold cell (read_of row.op p.core)
-    → word_in k rom row.op s p ≡ known_read k.setting rom row (with_cell_if k.setting cell s) p.core
-word_simply k rom row s p cell h told =
-    ap (read_word k.setting rom (with_core s p.core)) (read_simply k row.op p h) ∙ same_word k.setting rom cell s p.core (read_of row.op p.core) told
+    (k : Stack) (program : Program) (rom : List ℕ) (row : Row) (s : AbsState) (p : Product) (cell : Option Cell) → k.setting.rules ≡ Simple → IsTold cell (read_of row.op p.core)
+    → word_in k program rom row.op s p ≡ known_read k.setting rom row (with_cell_if k.setting cell s) p.core
+word_simply k program rom row s p cell h told =
+    ap (λ r. word_by r k.setting k.region program rom (values_of p.core.registers p.relations.pairs) (pointed_bits (pointer_of row.op) p.core.registers) (with_core s p.core) (read_in k row.op p)) h
+    ∙ (ap (read_word k.setting rom (with_core s p.core)) (read_simply k row.op p h) ∙ same_word k.setting rom cell s p.core (read_of row.op p.core) told)
 
 effect_simply :
-    (k : Stack) (rom : List ℕ) (row : Row) (next : ℕ) (s : AbsState) (p : Product) (cell : Option Cell) → k.setting.rules ≡ Simple → IsTold cell (read_of row.op p.core)
-    → effect_in k rom row.op next s p ≡ effect_at k.setting rom row next (with_cell_if k.setting cell s) p.core
+    (k : Stack) (program : Program) (rom : List ℕ) (row : Row) (next : ℕ) (s : AbsState) (p : Product) (cell : Option Cell) → k.setting.rules ≡ Simple → IsTold cell (read_of row.op p.core)
+    → effect_in k program rom row.op next s p ≡ effect_at k.setting rom row next (with_cell_if k.setting cell s) p.core
 unfolding effect_in
-effect_simply k rom row next s p cell h told =
+effect_simply k program rom row next s p cell h told =
     let z = k.setting in
-    let word = word_in k rom row.op s p in
+    let word = word_in k program rom row.op s p in
     ap (λ b. refined b (known_carry z.rules row.op (sp_bounds z s) p.core.registers p.relations.pairs) (transfer z.is_whole row.op next (sp_halves z s) p.core word.low word.high))
     (pointer_none z.rules row.op p.core.registers p.relations.pairs h)
     ∙ (ap (λ c. refined None c (transfer z.is_whole row.op next (sp_halves z s) p.core word.low word.high))
     (carry_none z.rules row.op (sp_bounds z s) p.core.registers p.relations.pairs h)
     ∙ (refined_whole (transfer z.is_whole row.op next (sp_halves z s) p.core word.low word.high)
-    ∙ (ap (λ (w : Halves). transfer z.is_whole row.op next (sp_halves z s) p.core w.low w.high) (word_simply k rom row s p cell h told)
+    ∙ (ap (λ (w : Halves). transfer z.is_whole row.op next (sp_halves z s) p.core w.low w.high) (word_simply k program rom row s p cell h told)
     ∙ ap (λ sp. transfer z.is_whole row.op next sp p.core (low_of z rom row (with_cell_if z cell s) p.core) (high_of z rom row (with_cell_if z cell s) p.core)) (same_sp z cell s))))
 
 -- the states behind it, by its effect
@@ -263,20 +269,20 @@ same_parts t u r w g n s =
     ∙ ap (λ state. record u { state = state }) s)))
 
 pub taken_simply :
-    (k : Stack) (rom : List ℕ) (row : Row) (next : ℕ) (s : AbsState) (p : Product) (cell : Option Cell) → k.setting.rules ≡ Simple → IsTold cell (read_of row.op p.core)
-    → taken_parts k rom row next s p cell ≡ simple_parts k.setting rom k.region row next (with_cell_if k.setting cell s) p.core
+    (k : Stack) (program : Program) (rom : List ℕ) (row : Row) (next : ℕ) (s : AbsState) (p : Product) (cell : Option Cell) → k.setting.rules ≡ Simple → IsTold cell (read_of row.op p.core)
+    → taken_parts k program rom row next s p cell ≡ simple_parts k.setting rom k.region row next (with_cell_if k.setting cell s) p.core
 unfolding taken_parts simple_parts
-taken_simply k rom row next s p cell h told =
+taken_simply k program rom row next s p cell h told =
     let z = k.setting in
     let kind = kind_of rom in
-    let effect = effect_simply k rom row next s p cell h told in
+    let effect = effect_simply k program rom row next s p cell h told in
     same_parts _ _
     (read_simply k row.op p h)
     (ap (λ (e : AbsEffect). e.write) effect)
-    (target_whole z.rules z row.op next (word_in k rom row.op s p) p.core (pointer_in k row.op p) _ _ h)
+    (target_whole z.rules z row.op next (word_in k program rom row.op s p) p.core (pointer_in k row.op p) _ _ h)
     refl
-    (ap (λ b. with_core (moved_state k kind cell (stack_move k row.op (effect_in k rom row.op next s p).write b) (effect_in k rom row.op next s p).write s)
-    (core_behind k.setting.is_whole kind (stack_move k row.op (effect_in k rom row.op next s p).write b) row.cycles (effect_in k rom row.op next s p).write (effect_in k rom row.op next s p).core))
+    (ap (λ b. with_core (moved_state k kind cell (stack_move k row.op (effect_in k program rom row.op next s p).write b) (effect_in k program rom row.op next s p).write s)
+    (core_behind k.setting.is_whole kind (stack_move k row.op (effect_in k program rom row.op next s p).write b) row.cycles (effect_in k program rom row.op next s p).write (effect_in k program rom row.op next s p).core))
     (pointer_none z.rules row.op p.core.registers p.relations.pairs h)
     ∙ (ap (λ (e : AbsEffect). with_core (moved_state k kind cell (stack_move k row.op e.write None) e.write s) (core_behind k.setting.is_whole kind (stack_move k row.op e.write None) row.cycles e.write e.core)) effect
     ∙ state_simply k rom row s cell (effect_at z rom row next (with_cell_if z cell s) p.core) h))

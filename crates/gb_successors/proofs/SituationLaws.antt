@@ -42,20 +42,26 @@ use Rattle.gb_product.proofs.Below.gb_abs_effects_laws.TransferLaws.{transfer_so
 use Rattle.gb_product.specs.Below.gb_pairs.Meaning.{AreBytes}
 use Rattle.gb_product.specs.Below.gb_pairs.Meaning as pair_meaning
 use Rattle.gb_product.specs.Below.gb_relations.Meaning.{HoldRelations}
-use Rattle.gb_product.specs.Below.gb_relations.Pointers.{pointer_of, bounds_if, pointer_bounds, ReadsWithin, WritesWithin, IsIfKnown}
+use Rattle.gb_product.specs.Below.gb_relations.Pointers.{pointer_of as pair_of, bounds_if, pointer_bounds, ReadsWithin, WritesWithin, IsIfKnown}
 use Rattle.gb_product.specs.Below.gb_relations.Sound as relations
 use Rattle.gb_product.specs.Below.gb_relations.Transfer.{values_of}
 use Rattle.gb_product.proofs.Below.gb_relations_laws.PointerLaws.{pointer_bounds_sound, known_carry_sound}
 use Rattle.gb_product.proofs.Below.gb_relations_laws.TransferLaws.{relations_after_sound}
 use Rattle.gb_product.proofs.Below.gb_relations_laws.Below.gb_pairs_laws.KeptLaws.{bounds_of_below}
+use Rattle.gb_product.specs.Below.gb_abs.Operations.{with_core}
+use Rattle.gb_product.specs.Meaning.{IsSummarized}
 use Rattle.gb_product.proofs.MeaningLaws.{AreBytes-core}
 use Rattle.gb_product.proofs.ReducedLaws.{Holds-values}
 use Rattle.gb_successors.specs.Refined.{cut_read, cut_write, with_carry, refined}
 use Rattle.gb_successors.specs.Successors.{effect_in, relations_behind}
+use Rattle.gb_ops.specs.Pointers.{pointer_of}
+use Rattle.gb_ops.proofs.PointerLaws.{follows as follows_pointers}
+use Rattle.gb_successors.proofs.LoadedLaws.{HasRead, HasRead-pointed, is_word_by}
 use Rattle.gb_successors.proofs.RamLaws.{ram_at, ram_is, HoldRelations-ram}
+use Rattle.gb_successors.proofs.SettledLaws.{HoldSummary-begun}
 use Rattle.gb_successors.proofs.RelatedLaws.{has_operands}
-use Rattle.gb_successors.proofs.SuccessorLaws.{begun_pc, begun_sp, is_word, IsWord-sp}
-use Rattle.gb_successors.proofs.Situations.{Situation, next_at, pointer_at, read_at, word_at, transferred, effect_at, carry_at, begun_at, given_at, effect_by, IsTakenIn, next_small, related_at}
+use Rattle.gb_successors.proofs.SuccessorLaws.{begun_pc, begun_sp, IsWord-sp}
+use Rattle.gb_successors.proofs.Situations.{Situation, next_at, pointer_at, read_at, bits_at, word_at, transferred, effect_at, carry_at, begun_at, given_at, effect_by, IsTakenIn, next_small, related_at}
 
 -- ---- addresses within a pair's bounds
 
@@ -84,7 +90,7 @@ AreWordsIf b = IfSome b (λ (c : Bounds). c.last < 65536)
 pub pointer_below : (rules : Rules) (o : Op) (vals : Registers Val) (s : Pairs) → ArePairs s → AreWordsIf (pointer_bounds rules o vals s)
 unfolding pointer_bounds
 pointer_below Simple o vals s h = tt
-pointer_below Extended o vals s h = by (pointer_of o)
+pointer_below Extended o vals s h = by (pair_of o)
   where
     by : (p : Option WordPair) → AreWordsIf (bounds_if p (values_of vals s))
     by None = tt
@@ -111,12 +117,22 @@ values_hold c k = Holds-values c.product.core c.product.relations c.entry (begun
 pub bytes_begun : (c : Situation) → IsTakenIn c → AreBytes (begun_at c).processor.registers
 bytes_begun c k = AreBytes-core c.product.core c.entry (begun_at c) k.core k.means
 
+-- so does what is said of the whole program
+pub said_begun : (c : Situation) → IsTakenIn c → IsSummarized (with_core c.state c.product.core) c.entry (begun_at c)
+said_begun c k = HoldSummary-begun c.entry.program c.state.cells c.state.summary c.row c.machine k.stands.means.summary
+
 -- what the machine reads
 pub read_holds : (c : Situation) → IsTakenIn c → HoldsRead (read_at c) (begun_at c).processor.sp (Effects.read_of c.row.op (advanced c.machine.processor c.row))
 read_holds c k =
     HoldsRead-cut (pointer_at c) (read_of c.row.op c.product.core) (begun_at c).processor.sp _
     ((read_of_sound c.row.op c.product.core _ refl).gives c.entry (begun_at c) (given_at c).low (given_at c).high k.means k.taken)
     ((pointer_bounds_sound c.stack.setting.rules c.row.op c.product.core.registers c.product.relations.pairs _ refl).reads (advanced c.machine.processor c.row) (values_hold c k))
+
+-- it has the low bits of its pointer
+pub read_has : (c : Situation) → IsTakenIn c → HasRead (bits_at c) (Effects.read_of c.row.op (advanced c.machine.processor c.row))
+read_has c k =
+    HasRead-pointed (pointer_of c.row.op) c.product.core.registers c.entry (advanced c.machine.processor c.row) (Effects.read_of c.row.op (advanced c.machine.processor c.row))
+    (effect_by c (given_at c).low (given_at c).high).write k.means.registers (bytes_begun c k) (follows_pointers c.row.op (advanced c.machine.processor c.row) (given_at c).low (given_at c).high)
 
 pub read_placed : (c : Situation) → IsTakenIn c → IsReadAt (read_at c)
 read_placed c k =
@@ -125,7 +141,8 @@ read_placed c k =
 
 pub is_word_at : (c : Situation) → IsTakenIn c → IsWord (word_at c)
 is_word_at c k =
-    is_word c.stack.setting c.rom c.state c.product.core (read_at c) k.core.ie k.stands.vals k.stands.items k.stands.cartridge.bytes
+    is_word_by c.stack.setting.rules c.stack.setting c.stack.region c.entry.program c.rom (values_of c.product.core.registers c.product.relations.pairs) (bits_at c) c.state c.product.core (read_at c)
+    k.core.ie k.stands.vals k.stands.items k.stands.cartridge.bytes
 
 pub transferred_is : (c : Situation) → IsTakenIn c → IsAbsEffect (transferred c)
 transferred_is c k =

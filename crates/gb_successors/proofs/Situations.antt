@@ -32,6 +32,9 @@ use Rattle.gb_product.specs.Reduced.{reduced}
 use Rattle.gb_domain.specs.declared.relations.Relations.{Relations}
 use Rattle.std.specs.Prelude.{is_some}
 use Rattle.gb_successors.specs.Successors.{pointer_in, read_in, word_in, effect_in, taken_move, taken_parts, relations_behind}
+use Rattle.gb_domain.specs.declared.low_bits.LowBits.{LowBits}
+use Rattle.gb_ops.specs.Pointers.{pointer_of}
+use Rattle.gb_successors.specs.Summaries.{pointed_bits}
 use Rattle.gb_successors.specs.Sound.{Stands, IsReady}
 use Rattle.gb_successors.specs.Way.{Successor}
 use Rattle.gb_successors.proofs.PlainLaws.{Keeps}
@@ -63,24 +66,28 @@ pointer_at c = pointer_in c.stack c.row.op c.product
 abbrev pub read_at : Situation → AbsRead
 read_at c = read_in c.stack c.row.op c.product
 
+-- what is known of the low bits of its pointer
+abbrev pub bits_at : Situation → LowBits
+bits_at c = pointed_bits (pointer_of c.row.op) c.product.core.registers
+
 abbrev pub word_at : Situation → Halves
-word_at c = word_in c.stack c.rom c.row.op c.state c.product
+word_at c = word_in c.stack c.entry.program c.rom c.row.op c.state c.product
 
 -- what its registers alone say of its effect, and what pairs say beside them
 abbrev pub transferred : Situation → AbsEffect
 transferred c = transfer c.stack.setting.is_whole c.row.op (next_at c) (sp_halves c.stack.setting c.state) c.product.core (word_at c).low (word_at c).high
 
 abbrev pub effect_at : Situation → AbsEffect
-effect_at c = effect_in c.stack c.rom c.row.op (next_at c) c.state c.product
+effect_at c = effect_in c.stack c.entry.program c.rom c.row.op (next_at c) c.state c.product
 
 abbrev pub carry_at : Situation → Option Bool
 carry_at c = known_carry c.stack.setting.rules c.row.op (sp_bounds c.stack.setting c.state) c.product.core.registers c.product.relations.pairs
 
 abbrev pub move_at : Situation → StackMove
-move_at c = taken_move c.stack c.rom c.row (next_at c) c.state c.product
+move_at c = taken_move c.stack c.entry.program c.rom c.row (next_at c) c.state c.product
 
 abbrev pub parts_at : Situation → Successor
-parts_at c = taken_parts c.stack c.rom c.row (next_at c) c.state c.product None
+parts_at c = taken_parts c.stack c.entry.program c.rom c.row (next_at c) c.state c.product None
 
 -- ---- the machine
 
@@ -105,7 +112,7 @@ left_at c = left_by c.rom c.machine (acted_at c) c.row.cycles
 
 -- what is known together behind it
 abbrev pub related_at : Situation → Relations
-related_at c = relations_behind c.stack c.rom c.row.op c.state c.product
+related_at c = relations_behind c.stack c.entry.program c.rom c.row.op c.state c.product
 
 -- something is meant behind it
 abbrev pub is_meant : Situation → Bool

@@ -42,7 +42,10 @@ use Rattle.gb_product.specs.Below.gb_abs_effects.declared.reads.AbsRead.{AbsRead
 use Rattle.gb_product.specs.Below.gb_abs_effects.declared.reads.AbsRead.TheVariants as read
 use Rattle.gb_product.specs.Below.gb_abs_effects.declared.writes.AbsWrite.{AbsWrite}
 use Rattle.gb_product.specs.Below.gb_abs_effects.declared.writes.AbsWrite.TheVariants as write
-use Rattle.gb_domain.specs.declared.rules.Rules.TheVariants.{Simple}
+use Rattle.gb_domain.specs.declared.low_bits.LowBits.{LowBits}
+use Rattle.gb_domain.specs.declared.rules.Rules.{Rules}
+use Rattle.gb_domain.specs.declared.rules.Rules.TheVariants.{Simple, Extended}
+use Rattle.gb_domain.specs.Summaries.{Program}
 use Rattle.gb_successors.specs.Way.{Successor}
 use Rattle.gb_product.specs.Below.gb_abs_effects.declared.targets.Target.{Target}
 use Rattle.gb_product.specs.Below.gb_abs_effects.declared.targets.Target.TheVariants as target
@@ -54,7 +57,9 @@ use Rattle.gb_product.proofs.Below.gb_abs_effects_laws.ReadLaws.{read_of_sound}
 use Rattle.gb_product.proofs.Below.gb_abs_effects_laws.TargetLaws.{sp-pushed, sp-popped, pc-returned}
 use Rattle.gb_code.specs.Below.gb_abs_memory.Sound.{view}
 use Rattle.gb_code.specs.Below.gb_abs_memory.Kept.{IsKept}
-use Rattle.gb_successors.specs.Behind.{read_word, written, starts, ended}
+use Rattle.gb_product.specs.Below.gb_pairs.declared.values.Values.{Values}
+use Rattle.gb_successors.specs.Behind.{written, starts, ended}
+use Rattle.gb_successors.specs.Loads.{read_word, word_by}
 use Rattle.gb_successors.specs.Refused.{reads_closed_ram, is_stack_limited, is_read_limited, is_write_limited}
 use Rattle.gb_successors.specs.Sound.{bytes_behind, IsPushable, IsPoppable, IsReturnable, IsStackKnown, IsStackFree, IsStackFit, IsAllowed, LeadsParts, LeadsSimply}
 use Rattle.gb_successors.specs.Words.{word_or_any}
@@ -390,11 +395,18 @@ pub read_top : (z : Setting) (rom : List ℕ) (s : AbsState) (what : AbsRead) (o
 unfolding read_word
 read_top z rom s what o e is = ap (read_word z rom s) e ∙ ap word_or_any is
 
+-- whatever facts and fills say
+pub word_top :
+    (r : Rules) (z : Setting) (region : Region) (program : Program) (rom : List ℕ) (v : Values) (low : LowBits) (s : AbsState) (what : AbsRead) (o : Option Halves)
+    → what ≡ read.Top → youngest s ≡ o → word_by r z region program rom v low s what ≡ word_or_any o
+word_top Simple z region program rom v low s what o e is = read_top z rom s what o e is
+word_top Extended z region program rom v low s what o e is = ap (word_by Extended z region program rom v low s) e ∙ read_top z rom s read.Top o refl is
+
 loads_word : (z : Setting) (rom : List ℕ) (row : Row) (s : AbsState) (c : Core) (entry : Activation) (x : MState) (reads : List ℕ) (i : Halves) (sp : ℕ)
     → known_read z rom row s c ≡ i → Effects.read_of row.op (advanced x.processor row) ≡ machine_read.Word sp
     → Holds i.low entry (loaded (view rom x false) (machine_read.Word sp) reads).low → Holds i.high entry (loaded (view rom x false) (machine_read.Word sp) reads).high
     → load_faults (view rom x false) (machine_read.Word sp) ≡ no_faults
-    → Loads z rom (with_core s c) (read_of row.op c) entry (view rom x false) (Effects.read_of row.op (advanced x.processor row)) reads
+    → Loads (known_read z rom row s c) entry (view rom x false) (Effects.read_of row.op (advanced x.processor row)) reads
 loads_word z rom row s c entry x reads i sp item word low high faults = record {
   low = subst (λ (j : Halves). Holds j.low entry (loaded (view rom x false) (Effects.read_of row.op (advanced x.processor row)) reads).low) (sym item)
       (subst (λ r. Holds i.low entry (loaded (view rom x false) r reads).low) (sym word) low);

@@ -156,12 +156,12 @@ all_of true true false e f g = cc
 at_most : (n m : ℕ) → n ≤ m → nat_le n m ≡ true
 at_most n m h = grind (arith, nat_tests)
 
-among : (span : Span) (low : LowBits) (a : ℕ) → IsIn span a → Has low a → is_in (record { first = span.first; last = span.last; low = low }) a ≡ true
+pub among : (span : Span) (low : LowBits) (a : ℕ) → IsIn span a → Has low a → is_in (record { first = span.first; last = span.last; low = low }) a ≡ true
 unfolding is_in are_congruent
 among span low a i h =
     all_of _ _ _ (at_most span.first a i.first) (at_most a span.last i.last) (same_test _ _ h.same)
 
-Has-none : (a : ℕ) → Has no_low_bits a
+pub Has-none : (a : ℕ) → Has no_low_bits a
 unfolding modulus
 Has-none a = record { same = omega arith }
 
@@ -171,18 +171,24 @@ Has-word k high low small h =
     let byte : word high low % 256 ≡ low = omega arith in
     record { same = sym (congruent-byte k.count (word high low)) ∙ (ap (λ n. n % modulus k.count) byte ∙ h.same) }
 
-Has-pointed :
-    (o : Option Pointer) (registers : Registers Val) (entry : Activation) (p : Processor) (r : Read) (w : Write) (a n : ℕ)
-    → ((q : Register) → Holds (get q registers) entry (get q p.registers)) → AreBytes p.registers
-    → IfSome o (λ q. ReadsAt (pointed p q) r × WritesAt (pointed p q) w) → w ≡ machine_write.Byte a n → Has (pointed_bits o registers) a
-unfolding WritesAt pointed
-Has-pointed None registers entry p r w a n holds bytes goes e = Has-none a
-Has-pointed (Some q) registers entry p r w a n holds bytes goes e =
-    let at : a ≡ pointed p q = subst (λ v. WritesAt (pointed p q) v) e goes.1 in
+pub Has-pointer :
+    (q : Pointer) (registers : Registers Val) (entry : Activation) (p : Processor) (a : ℕ)
+    → ((r : Register) → Holds (get r registers) entry (get r p.registers)) → AreBytes p.registers → a ≡ pointed p q → Has (pointed_bits (Some q) registers) a
+unfolding pointed
+Has-pointer q registers entry p a holds bytes at =
     let v = get (low_register q) registers in
     subst (Has (low_bits_of (interval_of v))) (sym at)
     (Has-word (low_bits_of (interval_of v)) (byte_or_page p (high_register q)) (get (low_register q) p.registers) (bytes.each (low_register q))
     (In-Has (interval_of v) _ (In-interval v _ (In-from v entry _ (holds (low_register q))))))
+
+Has-pointed :
+    (o : Option Pointer) (registers : Registers Val) (entry : Activation) (p : Processor) (r : Read) (w : Write) (a n : ℕ)
+    → ((q : Register) → Holds (get q registers) entry (get q p.registers)) → AreBytes p.registers
+    → IfSome o (λ q. ReadsAt (pointed p q) r × WritesAt (pointed p q) w) → w ≡ machine_write.Byte a n → Has (pointed_bits o registers) a
+unfolding WritesAt
+Has-pointed None registers entry p r w a n holds bytes goes e = Has-none a
+Has-pointed (Some q) registers entry p r w a n holds bytes goes e =
+    Has-pointer q registers entry p a holds bytes (subst (λ v. WritesAt (pointed p q) v) e goes.1)
 
 -- ---- one byte
 

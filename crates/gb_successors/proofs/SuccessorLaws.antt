@@ -54,11 +54,12 @@ use Rattle.gb_product.proofs.Below.gb_abs_effects_laws.TransferLaws.{transfer_so
 use Rattle.gb_code.specs.Below.gb_abs_memory.Sound.{view, AreVals}
 use Rattle.gb_code.proofs.Below.gb_abs_memory_laws.LoadLaws.{IsVal-loaded_val}
 use Rattle.gb_successors.specs.Way.{Successor}
-use Rattle.gb_successors.specs.Behind.{read_word, written, starts, ended}
+use Rattle.gb_successors.specs.Behind.{written, starts, ended}
+use Rattle.gb_successors.specs.Loads.{read_word}
 use Rattle.gb_successors.specs.Refused.{is_unstorable, meets_closed, meets_oam_transfer, reads_closed_ram, writes_closed_ram, is_read_limited, is_write_limited}
 use Rattle.gb_successors.specs.Sound.{bytes_behind, IsAllowed, LeadsParts, LeadsSimply, LeadsTo, IsStackKnown, Stands}
 use Rattle.gb_successors.specs.Words.{word_or_any}
-use Rattle.gb_successors.proofs.SimpleLaws.{behind_row, low_of, high_of, abs_effect, with_stack_of, simple_parts}
+use Rattle.gb_successors.proofs.SimpleLaws.{behind_row, known_read, low_of, high_of, abs_effect, with_stack_of, simple_parts}
 use Rattle.gb_successors.proofs.PlainLaws.{Keeps, Keeps-both, Keeps-transfer, IsPlainRead, IsPlainWrite, IsPlainTarget, IsPlainRead-read_of, IsPlainWrite-transfer, plain_target}
 use Rattle.gb_successors.proofs.AccessLaws.{IsSameGate, closed_same, limited_same, writes_same, write_limited_same, Loads, Loads-read, Stores, AtWrite, Stores-write}
 
@@ -175,7 +176,7 @@ means_begun rom row s entry base x c k m h = MeansParts-with_core s c entry base
 -- what its reads give is known, and has no fault
 pub loads : (z : Setting) (rom : List ℕ) (region : Region) (ranges : List Range) (row : Row) (a : ℕ) (s : AbsState) (entry : Activation) (base : ℕ) (x : MState) (reads : List ℕ) (c : Core)
     → IsTaken z rom region ranges row a s entry base x reads c → IsPlainRead (read_of row.op c) → reads_closed_ram rom s.core (read_of row.op c) ≡ false → is_read_limited region s.core (read_of row.op c) ≡ false
-    → Loads z rom (with_core s c) (read_of row.op c) entry (view rom x false) (Effects.read_of row.op (advanced x.processor row)) reads
+    → Loads (known_read z rom row s c) entry (view rom x false) (Effects.read_of row.op (advanced x.processor row)) reads
 loads z rom region ranges row a s entry base x reads c k plain ram limited =
     Loads-read z rom region (with_core s c) entry base (begun row x) reads (begun row x).processor.sp (read_of row.op c) (Effects.read_of row.op (advanced x.processor row))
     k.stands.cartridge k.stands.based (means_begun rom row s entry base x c k.keeps k.stands.means.parts k.means) k.core.ie k.byte
@@ -184,7 +185,7 @@ loads z rom region ranges row a s entry base x reads c k plain ram limited =
     (closed_same rom s.core c (read_of row.op c) k.keeps ∙ ram)
     (limited_same region s.core c (read_of row.op c) k.keeps ∙ limited)
 
-IsVal-any : IsVal any_val
+pub IsVal-any : IsVal any_val
 IsVal-any = record { order = omega arith; hi = omega arith; strided = refl }
 
 -- SP as a pair, whose halves are bytes
@@ -232,7 +233,7 @@ is_word z rom s c read.Top ie cells items bytes = IsWord-last s.items items
 
 pub follows : (z : Setting) (rom : List ℕ) (region : Region) (ranges : List Range) (row : Row) (a : ℕ) (s : AbsState) (entry : Activation) (base : ℕ) (x : MState) (reads : List ℕ) (c : Core)
     → IsTaken z rom region ranges row a s entry base x reads c
-    → Loads z rom (with_core s c) (read_of row.op c) entry (view rom x false) (Effects.read_of row.op (advanced x.processor row)) reads
+    → Loads (known_read z rom row s c) entry (view rom x false) (Effects.read_of row.op (advanced x.processor row)) reads
     → Follows (abs_effect z rom row a s c) entry (begun row x) (effect rom row x reads) × ((effect rom row x reads).processor.sp < 65536)
 follows z rom region ranges row a s entry base x reads c k l =
     let sound = transfer_sound z.is_whole row.op (behind_row a row) (sp_halves z s) c (low_of z rom row s c) (high_of z rom row s c) (abs_effect z rom row a s c) refl k.operands k.core

@@ -5,16 +5,11 @@ use Rattle.gb_ops.specs.declared.machine.Kind.{Kind}
 use Rattle.gb_ops.specs.declared.machine.Kind.TheVariants as kind
 use Rattle.gb_ops.specs.declared.machine.Region.{Region}
 use Rattle.gb_ops.specs.declared.op.Op.{Op}
-use Rattle.gb_ops.specs.declared.op.Row.{Row}
-use Rattle.gb_ops.specs.declared.registers.Ime.{Ime}
-use Rattle.gb_ops.specs.declared.registers.Ime.TheVariants as ime
 use Rattle.gb_ops.specs.declared.registers.Processor.{Processor}
 use Rattle.gb_ops.specs.declared.registers.Registers.{Registers}
 use Rattle.gb_ops.specs.Cartridge.{kind_of, is_within}
-use Rattle.gb_ops.specs.Machine.{advanced, ime_after}
+use Rattle.gb_ops.specs.Machine.{advanced}
 use Rattle.gb_ops.specs.Memory.{View, Storage, passed}
-use Rattle.gb_ops.specs.Play.{MState}
-use Rattle.gb_ops.specs.Pointers.{pointed, byte_or_page, high_register, low_register}
 use Rattle.gb_domain.specs.declared.pairs.Bounds.{Bounds}
 use Rattle.gb_domain.specs.declared.rules.Rules.{Rules}
 use Rattle.gb_domain.specs.declared.rules.Rules.TheVariants.{Simple, Extended}
@@ -70,6 +65,7 @@ use Rattle.gb_successors.proofs.AsideLaws.{aside_holds}
 use Rattle.gb_successors.proofs.LandingLaws.{Leaves, LoadsAt, given_by, part_write, is_write_at, stored_at}
 use Rattle.gb_successors.proofs.LedLaws.{DoneAt, IsAllowedAt}
 use Rattle.gb_successors.proofs.RamLaws.{ram_at, ram_is, HoldRelations-ram}
+use Rattle.gb_successors.proofs.SettledLaws.{HoldSummary-begun}
 use Rattle.gb_successors.proofs.SituationLaws.{values_hold, bytes_begun, follows}
 use Rattle.gb_successors.proofs.Situations.{Situation, effect_at, parts_at, begun_at, given_at, acted_at, left_at, IsTakenIn}
 use Rattle.gb_successors.proofs.StoredLaws.{banks_seen, stored_banks, stores_told}
@@ -169,33 +165,6 @@ cells_behind c k =
     (written_cells c.stack.setting c.stack.region (kind_of c.rom) (effect_at c).write _ k.extended)
 
 -- ---- another machine of which the same is said
-
--- its IME may become another one, unless it is off
-aside_settled : (o : Option Bounds) (p q : Processor) → q.sp ≡ p.sp → (p.ime ≡ ime.Off → q.ime ≡ ime.Off) → IsAside o p → IsAside o q
-aside_settled None p q sp off h = tt
-aside_settled (Some b) p q sp off h =
-    record { first = subst (λ n. b.first ≤ n) (sym sp) h.first; last = subst (λ n. n ≤ b.last) (sym sp) h.last; off = off h.off }
-
-pub HoldSummary-settled :
-    (program : Program) (cells : List Cell) (s : SummaryParts) (p q : Processor) (memory : ℕ → ℕ) (banks : Banks)
-    → q.registers ≡ p.registers → q.sp ≡ p.sp → (p.ime ≡ ime.Off → q.ime ≡ ime.Off)
-    → HoldSummary program cells s p memory banks → HoldSummary program cells s q memory banks
-unfolding pointed byte_or_page high_register low_register
-HoldSummary-settled program cells s p q memory banks registers sp off h =
-    let same = HoldSummary-same program cells s p (record q { ime = p.ime }) memory memory banks banks registers sp refl refl (λ a. refl) h in
-    record { facts = same.facts; fills = same.fills; first = same.first; second = same.second; aside = aside_settled s.aside p q sp off h.aside }
-
-off_after : (i : Ime) → i ≡ ime.Off → ime_after i ≡ ime.Off
-unfolding ime_after
-off_after i e = ap ime_after e
-
--- as an instruction begins its work
-pub HoldSummary-begun :
-    (program : Program) (cells : List Cell) (s : SummaryParts) (row : Row) (x : MState)
-    → HoldSummary program cells s x.processor (peek x.storage) x.storage.banks → HoldSummary program cells s (advanced x.processor row) (peek x.storage) x.storage.banks
-unfolding advanced
-HoldSummary-begun program cells s row x h =
-    HoldSummary-settled program cells s x.processor _ (peek x.storage) x.storage.banks refl refl (off_after x.processor.ime) h
 
 -- time passes
 pub HoldSummary-passed :

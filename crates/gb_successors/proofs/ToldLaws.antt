@@ -81,7 +81,7 @@ pub IsToldCell-side :
     → IsByteFree region r.byte.address → AreVals cells → IsSideOf cells core r b → IfSome b.cell (λ c. HoldsCell entry x c) → IfSome b.cell (IsToldCell region entry x)
 IsToldCell-side region cells core r b entry x free vals is h = IsToldCell-if region entry x b.cell (side_placed region cells core r b free is) (is.val vals) h
 
-AllByRecursion-with_cell : (P : Cell → Type 0) (room : ℕ) (c : Cell) (cells : List Cell) → P c → AllByRecursion P cells → AllByRecursion P (with_cell room c cells)
+pub AllByRecursion-with_cell : (P : Cell → Type 0) (room : ℕ) (c : Cell) (cells : List Cell) → P c → AllByRecursion P cells → AllByRecursion P (with_cell room c cells)
 unfolding with_cell entered
 AllByRecursion-with_cell P room c cells p h = choose (list_any (is_at c.address) cells || nat_lt (length cells) room)
   where

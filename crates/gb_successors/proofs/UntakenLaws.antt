@@ -40,7 +40,8 @@ use Rattle.gb_successors.specs.Successors.{untaken_successor}
 use Rattle.gb_successors.specs.Sound.{bytes_behind, StaysAt, LeadsTo, Stands}
 use Rattle.gb_successors.proofs.SaidLaws.{LeadsRelated}
 use Rattle.gb_successors.proofs.SimpleLaws.{behind_row}
-use Rattle.gb_successors.proofs.SummaryLaws.{HoldSummary-begun, HoldSummary-passed}
+use Rattle.gb_successors.proofs.SettledLaws.{HoldSummary-begun}
+use Rattle.gb_successors.proofs.SummaryLaws.{HoldSummary-passed}
 use Rattle.gb_successors.proofs.ToldLaws.{told_with_core}
 use Rattle.gb_successors.proofs.PlainLaws.{Keeps, Keeps-both, Keeps-cut}
 use Rattle.gb_successors.proofs.RelatedLaws.{MeansParts-related, HoldRelations-same}

@@ -65,7 +65,8 @@ use Rattle.gb_successors.proofs.ToldLaws.{told_core, told_items, IsToldCell, IsT
 use Rattle.gb_successors.proofs.PlainLaws.{Keeps, Keeps-settle}
 use Rattle.gb_successors.proofs.MarkLaws.{executed_mark}
 use Rattle.gb_successors.proofs.SaidLaws.{Leads-summarized, Leads-said, IsAllowed-said}
-use Rattle.gb_successors.proofs.SummaryLaws.{HoldSummary-passed, HoldSummary-settled}
+use Rattle.gb_successors.proofs.SettledLaws.{HoldSummary-settled}
+use Rattle.gb_successors.proofs.SummaryLaws.{HoldSummary-passed}
 use Rattle.gb_successors.proofs.RelatedLaws.{MeansParts-related, IsAllowed-parts, LeadsSimply-related, by_rules, related_begun, Leads-taken, HoldRelations-same}
 use Rattle.gb_successors.proofs.SuccessorLaws.{begun, given, effect, begun_core, MeansParts-ended, passed_peek, leads_simply, IsTaken, Done}
 use Rattle.gb_successors.proofs.ExtendedWayLaws.{before_of, executes_widely}
@@ -106,13 +107,13 @@ untaken_way k program rom row a s b h e =
     ∙ whole_successor k.setting.rules (untaken_successor k row next s b) h)
 
 -- the successor where it is taken, which says nothing of the whole program
-abbrev simple_related : Stack → List ℕ → Row → ℕ → AbsState → Branch → Successor
-simple_related k rom row next s b =
-    related_successor (relations_behind k rom row.op s (product_of b.core b.relations))
+abbrev simple_related : Stack → Program → List ℕ → Row → ℕ → AbsState → Branch → Successor
+simple_related k program rom row next s b =
+    related_successor (relations_behind k program rom row.op s (product_of b.core b.relations))
     (simple_parts k.setting rom k.region row next (with_cell_if k.setting b.cell s) b.core)
 
-abbrev simple_taken : Stack → List ℕ → Row → ℕ → AbsState → Branch → Successor
-simple_taken k rom row next s b = said_successor no_summary (simple_related k rom row next s b)
+abbrev simple_taken : Stack → Program → List ℕ → Row → ℕ → AbsState → Branch → Successor
+simple_taken k program rom row next s b = said_successor no_summary (simple_related k program rom row next s b)
 
 nothing_said : (r : Rules) (k : Stack) (program : Program) (o : Op) (s : AbsState) (p : Product) (what : AbsWrite) (cells : List Cell) → r ≡ Simple → summary_by r k program o s p what cells ≡ no_summary
 unfolding summary_by
@@ -121,25 +122,25 @@ nothing_said Extended k program o s p what cells h = absurd cc
 
 taken_is :
     (k : Stack) (program : Program) (rom : List ℕ) (row : Row) (next : ℕ) (s : AbsState) (b : Branch) → k.setting.rules ≡ Simple → IsTold b.cell (read_of row.op b.core)
-    → taken_successor k program rom row next s b ≡ simple_taken k rom row next s b
+    → taken_successor k program rom row next s b ≡ simple_taken k program rom row next s b
 unfolding taken_successor summary_behind
 taken_is k program rom row next s b h told =
     let p = product_of b.core b.relations in
-    let t = taken_parts k rom row next s p b.cell in
-    ap (λ m. said_successor m (related_successor (relations_behind k rom row.op s p) t)) (nothing_said k.setting.rules k program row.op s p t.write t.state.cells h)
-    ∙ ap (λ u. said_successor no_summary (related_successor (relations_behind k rom row.op s p) u)) (taken_simply k rom row next s p b.cell h told)
+    let t = taken_parts k program rom row next s p b.cell in
+    ap (λ m. said_successor m (related_successor (relations_behind k program rom row.op s p) t)) (nothing_said k.setting.rules k program row.op s p t.write t.state.cells h)
+    ∙ ap (λ u. said_successor no_summary (related_successor (relations_behind k program rom row.op s p) u)) (taken_simply k program rom row next s p b.cell h told)
 
 Leads-behind :
-    (k : Stack) (rom : List ℕ) (ranges : List Range) (row : Row) (a : ℕ) (s : AbsState) (entry : Activation) (base : ℕ) (x : MState) (reads : List ℕ) (b : Branch)
+    (k : Stack) (program : Program) (rom : List ℕ) (ranges : List Range) (row : Row) (a : ℕ) (s : AbsState) (entry : Activation) (base : ℕ) (x : MState) (reads : List ℕ) (b : Branch)
     → IsTaken k.setting rom k.region ranges row a (with_cell_if k.setting b.cell s) entry base x reads b.core → AreRelated b.relations (begun row x)
     → LeadsParts k.setting k.region ranges (simple_parts k.setting rom k.region row (behind_row a row) (with_cell_if k.setting b.cell s) b.core) entry base x (outside (executed (within rom x) row reads))
-    → Leads k.setting k.region ranges (simple_taken k rom row (behind_row a row) s b) entry base x (outside (executed (within rom x) row reads))
+    → Leads k.setting k.region ranges (simple_taken k program rom row (behind_row a row) s b) entry base x (outside (executed (within rom x) row reads))
 unfolding relations_behind
-Leads-behind k rom ranges row a s entry base x reads b taken related led =
+Leads-behind k program rom ranges row a s entry base x reads b taken related led =
     let y = outside (executed (within rom x) row reads) in
-    Leads-said k.setting k.region ranges no_summary (simple_related k rom row (behind_row a row) s b) entry base x y
+    Leads-said k.setting k.region ranges no_summary (simple_related k program rom row (behind_row a row) s b) entry base x y
     (Leads-taken k.setting rom k.region ranges row a (with_cell_if k.setting b.cell s) entry base x reads b.core taken led
-    (sp_bounds k.setting s) (word_in k rom row.op s (product_of b.core b.relations)).low b.relations related)
+    (sp_bounds k.setting s) (word_in k program rom row.op s (product_of b.core b.relations)).low b.relations related)
     (nothing_holds entry.program _ y.processor (peek y.storage) y.storage.banks)
 
 held_simply : (k : Stack) (program : Program) (rom : List ℕ) (row : Row) (a : ℕ) (s : AbsState) (t : Successor) → k.setting.rules ≡ Simple → length t.state.items ≤ bytes_behind row.op (length s.items) → IsHeld k.setting.rules k program rom row a s t
@@ -185,17 +186,17 @@ executes_simply k program rom row a s ranges entry base x reads simple stands ru
           taken = taken;
         } in
         let parts = simple_parts k.setting rom k.region row (behind_row a row) told b.core in
-        let done : IsAllowed k.setting rom k.region ranges s base (simple_taken k rom row (behind_row a row) s b) → Done k.setting rom k.region ranges row told parts entry base x reads =
+        let done : IsAllowed k.setting rom k.region ranges s base (simple_taken k program rom row (behind_row a row) s b) → Done k.setting rom k.region ranges row told parts entry base x reads =
         λ allowed. taken_executes k.setting rom k.region ranges row a told entry base x reads b.core t
         (IsAllowed-told k.setting rom k.region ranges b.cell s base parts
-        (IsAllowed-parts k.setting rom k.region ranges s base (relations_behind k rom row.op s (product_of b.core b.relations)) parts
-        (IsAllowed-said k.setting rom k.region ranges s base no_summary (simple_related k rom row (behind_row a row) s b) allowed))) in
+        (IsAllowed-parts k.setting rom k.region ranges s base (relations_behind k program rom row.op s (product_of b.core b.relations)) parts
+        (IsAllowed-said k.setting rom k.region ranges s base no_summary (simple_related k program rom row (behind_row a row) s b) allowed))) in
         record {
-          successor = simple_taken k rom row (behind_row a row) s b;
+          successor = simple_taken k program rom row (behind_row a row) s b;
           is_one = inl (taken_way k program rom row a s b simple e ∙ ap Some (taken_is k program rom row (behind_row a row) s b simple (IsTold-taken row.op s.cells settled b.core s.relations b e)));
           mark = executed_mark rom x row reads;
-          held = λ allowed. held_simply k program rom row a s (simple_taken k rom row (behind_row a row) s b) simple (subst (λ items. length parts.state.items ≤ bytes_behind row.op (length items)) (told_items k.setting b.cell s) (done allowed).held);
-          leads = λ allowed. Leads-behind k rom ranges row a s entry base x reads b t h.related (done allowed).leads;
+          held = λ allowed. held_simply k program rom row a s (simple_taken k program rom row (behind_row a row) s b) simple (subst (λ items. length parts.state.items ≤ bytes_behind row.op (length items)) (told_items k.setting b.cell s) (done allowed).held);
+          leads = λ allowed. Leads-behind k program rom ranges row a s entry base x reads b t h.related (done allowed).leads;
           faults = λ allowed. (done allowed).faults;
         }
 
@@ -323,11 +324,11 @@ halt_target z rom region row a s c halt = rw (halt.op_is, halt.length_is) refl
 
 -- what is known together stays
 halt_related :
-    (k : Stack) (rom : List ℕ) (row : Row) (a : ℕ) (s : AbsState) (entry : Activation) (base : ℕ) (x y : MState)
+    (k : Stack) (program : Program) (rom : List ℕ) (row : Row) (a : ℕ) (s : AbsState) (entry : Activation) (base : ℕ) (x y : MState)
     → k.setting.rules ≡ Simple → Stands k.setting rom k.region row a s entry base x → IsHalt row → y.processor.registers ≡ x.processor.registers → y.processor.flags ≡ x.processor.flags
-    → AreRelated (relations_behind k rom row.op s (product_of (core_settle s.core) s.relations)) y
+    → AreRelated (relations_behind k program rom row.op s (product_of (core_settle s.core) s.relations)) y
 unfolding relations_behind compared_after comparison_of writes_a writes_flags written_registers
-halt_related k rom row a s entry base x y simple stands halt registers flags =
+halt_related k program rom row a s entry base x y simple stands halt registers flags =
     by_rules k.setting.rules k.region row.op _ _ _ s.relations _ _ _ simple
     (subst (λ (o : Op). HoldOneByte (compared_after o s.relations.byte) y.processor.registers (peek y.storage) y.processor.flags) (sym halt.op_is)
     (HoldOneByte-only_of_a s.relations.byte x.processor.registers y.processor.registers (peek x.storage) (peek y.storage) x.processor.flags y.processor.flags
@@ -357,14 +358,14 @@ halt_repeats_simply k program rom row a s ranges entry base x simple stands halt
       room = subst (λ (u : AbsState). AreInRegion k.region base (length u.items)) (sym (halt_state k.setting rom k.region row a s c halt)) (ended_room k.region base false 1 (with_core s c) stands.room);
     }) in
     record {
-      successor = simple_taken k rom row (behind_row a row) s b;
+      successor = simple_taken k program rom row (behind_row a row) s b;
       is_way = taken_way k program rom row a s b simple (halt_side row s.cells c s.relations halt.op_is) ∙ ap Some (taken_is k program rom row (behind_row a row) s b simple tt);
       held = subst (λ (u : AbsState). length u.items ≤ length s.items) (sym (halt_state k.setting rom k.region row a s c halt)) (bytes_ended 1 (with_core s c));
-      leads = Leads-said k.setting k.region ranges no_summary (related_successor (relations_behind k rom row.op s (product_of c s.relations)) t) entry base x y
+      leads = Leads-said k.setting k.region ranges no_summary (related_successor (relations_behind k program rom row.op s (product_of c s.relations)) t) entry base x y
           (record {
-            to = leads_simply k.setting k.region t.target _ entry base x y simple (LeadsSimply-related k.region t.target (relations_behind k rom row.op s (product_of c s.relations)) t entry base x y to);
+            to = leads_simply k.setting k.region t.target _ entry base x y simple (LeadsSimply-related k.region t.target (relations_behind k program rom row.op s (product_of c s.relations)) t entry base x y to);
             kept = λ b kept. passed_peek (view rom x false) 1 b;
-            related = λ known. halt_related k rom row a s entry base x y simple stands halt refl refl;
+            related = λ known. halt_related k program rom row a s entry base x y simple stands halt refl refl;
           })
           (nothing_holds entry.program _ y.processor (peek y.storage) y.storage.banks);
     }

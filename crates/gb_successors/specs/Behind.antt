@@ -1,42 +1,29 @@
 -- The states behind an instruction, by the stack that it moves, what it writes and its core (abstract semantics; own).
-use Rattle.std.specs.Prelude.{ℕ, ◌+◌, ◌%◌, Bool, true, false, ◌||◌, if◌then◌else◌, List, Option, Some, None, is_some}
+use Rattle.std.specs.Prelude.{ℕ, ◌+◌, ◌%◌, Bool, true, false, ◌||◌, if◌then◌else◌, Option, Some, None, is_some}
 use Rattle.gb_ops.specs.declared.machine.Kind.{Kind}
 use Rattle.gb_ops.specs.declared.machine.Region.{Region}
 use Rattle.gb_domain.specs.declared.relations.Relations.{Relations}
 use Rattle.gb_domain.specs.declared.setting.Setting.{Setting}
 use Rattle.gb_domain.specs.declared.types.Cell.{Cell}
 use Rattle.gb_domain.specs.declared.types.Core.{Core}
-use Rattle.gb_domain.specs.declared.types.Halves.{Halves}
 use Rattle.gb_domain.specs.Types.{AbsState}
 use Rattle.gb_domain.specs.Summaries.{SummaryParts}
 use Rattle.gb_domain.specs.Limits.{cell_room}
-use Rattle.gb_product.specs.Below.gb_vals.Vals.{any_val}
 use Rattle.gb_product.specs.Below.gb_abs.Span.{one}
 use Rattle.gb_product.specs.Below.gb_abs.Cells.{with_cell}
 use Rattle.gb_product.specs.Below.gb_abs.Operations.{core_end, with_core}
-use Rattle.gb_product.specs.Below.gb_abs.Stack.{youngest}
-use Rattle.gb_product.specs.Below.gb_abs_effects.declared.reads.AbsRead.{AbsRead}
-use Rattle.gb_product.specs.Below.gb_abs_effects.declared.reads.AbsRead.TheVariants as read
 use Rattle.gb_product.specs.Below.gb_abs_effects.declared.writes.AbsWrite.{AbsWrite}
 use Rattle.gb_product.specs.Below.gb_abs_effects.declared.writes.AbsWrite.TheVariants as write
-use Rattle.gb_product.specs.Below.gb_abs_effects.Pairs.{any_word}
 use Rattle.gb_code.specs.Below.gb_abs_memory.declared.store.Area.{Area}
 use Rattle.gb_code.specs.Below.gb_abs_memory.declared.store.Area.TheVariants as area
-use Rattle.gb_code.specs.Below.gb_abs_memory.Access.{loaded_val, area_of, stored_state, stored_core, starts_oam_transfer}
+use Rattle.gb_code.specs.Below.gb_abs_memory.Access.{area_of, stored_state, stored_core, starts_oam_transfer}
 use Rattle.gb_successors.specs.declared.stacks.Stack.{Stack}
 use Rattle.gb_successors.specs.declared.stacks.StackMove.{StackMove}
 use Rattle.gb_successors.specs.declared.stacks.StackMove.TheVariants as move
 use Rattle.gb_successors.specs.declared.way.Moved.{Moved}
 use Rattle.gb_successors.specs.Stacks.{with_stack_moved, moved_core}
-use Rattle.gb_successors.specs.Words.{word_or_any}
 
--- ---- accesses
-
--- what is known of what is read: of a byte, or of the word that was pushed last
-unfoldable pub read_word : Setting → List ℕ → AbsState → AbsRead → Halves
-read_word z rom s (read.Byte span) = record { high = any_val; low = loaded_val z rom s span }
-read_word z rom s read.Top = word_or_any (youngest s)
-read_word z rom s _ = any_word
+-- ---- writes
 
 -- the address behind an address
 abbrev pub behind : ℕ → ℕ

@@ -1,5 +1,6 @@
 pub mod Stacks
 pub mod Refined
+pub mod Loads
 pub mod Behind
 pub mod Summaries
 pub mod Successors

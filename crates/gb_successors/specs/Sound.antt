@@ -105,15 +105,15 @@ IsReady k o (move.Restart n) s base = AreInRegion k.region (k.region.last + 1) n
 IsReady k o move.Lost s base = ⊥
 
 -- what the instruction does to the stack, from what is known before it
-abbrev pub move_before : Stack → List ℕ → Row → ℕ → AbsState → Product → StackMove
-move_before k rom row a s p = taken_move k rom row ((a + row.length) % 65536) s p
+abbrev pub move_before : Stack → Program → List ℕ → Row → ℕ → AbsState → Product → StackMove
+move_before k program rom row a s p = taken_move k program rom row ((a + row.length) % 65536) s p
 
 -- by the rules of version 3, where the instruction may be taken, the stack is ready for that
 abbrev pub IsStackRuled : Rules → Stack → Program → List ℕ → Row → ℕ → AbsState → ℕ → Type 0
 IsStackRuled Simple k program rom row a s base = IsStackKnown k.setting k.region row.op s base
 IsStackRuled Extended k program rom row a s base =
     is_some (successors_of k program rom row a s).taken ≡ true
-    → (p : Product) → product_before Extended s ≡ Some p → IsReady k row.op (move_before k rom row a s p) s base
+    → (p : Product) → product_before Extended s ≡ Some p → IsReady k row.op (move_before k program rom row a s p) s base
 
 -- what the stack has to have for a successor by the rules of versions 1 and 2: a call wants room for the return address, a return
 -- finds nothing but its own
@@ -151,7 +151,7 @@ abbrev pub IsMovedFrom : Stack → Program → List ℕ → Row → ℕ → AbsS
 IsMovedFrom k program rom row a s t =
     (length t.state.items ≡ length s.items)
     ⊎ (((successors_of k program rom row a s).taken ≡ Some t)
-    × ((p : Product) → product_before Extended s ≡ Some p → length t.state.items ≡ bytes_moved (move_before k rom row a s p) (length s.items)))
+    × ((p : Product) → product_before Extended s ≡ Some p → length t.state.items ≡ bytes_moved (move_before k program rom row a s p) (length s.items)))
 
 -- how many bytes a successor holds
 abbrev pub IsHeld : Rules → Stack → Program → List ℕ → Row → ℕ → AbsState → Successor → Type 0

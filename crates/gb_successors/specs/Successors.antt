@@ -4,6 +4,7 @@ use Rattle.gb_ops.specs.declared.op.Op.{Op}
 use Rattle.gb_ops.specs.declared.op.Op.TheVariants as op
 use Rattle.gb_ops.specs.declared.op.Row.{Row}
 use Rattle.gb_ops.specs.Cartridge.{kind_of}
+use Rattle.gb_ops.specs.Pointers.{pointer_of}
 use Rattle.gb_domain.specs.declared.pairs.Bounds.{Bounds}
 use Rattle.gb_domain.specs.declared.relations.Relations.{Relations}
 use Rattle.gb_domain.specs.declared.rules.Rules.{Rules}
@@ -32,11 +33,12 @@ use Rattle.gb_product.specs.declared.parts.Product.{Product}
 use Rattle.gb_product.specs.Reduced.{product_of, reduced}
 use Rattle.gb_product.specs.Sides.{taken_side, not_taken_side}
 use Rattle.gb_product.specs.Below.gb_relations.Pointers.{pointer_bounds, known_carry}
-use Rattle.gb_product.specs.Below.gb_relations.Transfer.{relations_after}
-use Rattle.gb_successors.specs.Behind.{read_word, ended, with_relations, with_summary, with_cell_if, moved_state, core_behind}
+use Rattle.gb_product.specs.Below.gb_relations.Transfer.{relations_after, values_of}
+use Rattle.gb_successors.specs.Behind.{ended, with_relations, with_summary, with_cell_if, moved_state, core_behind}
 use Rattle.gb_successors.specs.Refined.{cut_read, refined, refined_target}
 use Rattle.gb_successors.specs.Stacks.{stack_move}
-use Rattle.gb_successors.specs.Summaries.{summary_by}
+use Rattle.gb_successors.specs.Loads.{word_by}
+use Rattle.gb_successors.specs.Summaries.{pointed_bits, summary_by}
 
 -- ---- successors
 
@@ -49,31 +51,33 @@ abbrev pub read_in : Stack → Op → Product → AbsRead
 read_in k o p = cut_read (pointer_in k o p) (read_of o p.core)
 
 -- what is known of that
-abbrev pub word_in : Stack → List ℕ → Op → AbsState → Product → Halves
-word_in k rom o s p = read_word k.setting rom (with_core s p.core) (read_in k o p)
+abbrev pub word_in : Stack → Program → List ℕ → Op → AbsState → Product → Halves
+word_in k program rom o s p =
+    word_by k.setting.rules k.setting k.region program rom (values_of p.core.registers p.relations.pairs) (pointed_bits (pointer_of o) p.core.registers)
+    (with_core s p.core) (read_in k o p)
 
 -- what it does, next being the address behind it
-unfoldable pub effect_in : Stack → List ℕ → Op → ℕ → AbsState → Product → AbsEffect
-effect_in k rom o next s p =
-    let word = word_in k rom o s p in
+unfoldable pub effect_in : Stack → Program → List ℕ → Op → ℕ → AbsState → Product → AbsEffect
+effect_in k program rom o next s p =
+    let word = word_in k program rom o s p in
     refined (pointer_in k o p) (known_carry k.setting.rules o (sp_bounds k.setting s) p.core.registers p.relations.pairs)
     (transfer k.setting.is_whole o next (sp_halves k.setting s) p.core word.low word.high)
 
 -- what that does to the stack
-unfoldable pub taken_move : Stack → List ℕ → Row → ℕ → AbsState → Product → StackMove
-taken_move k rom row next s p = stack_move k row.op (effect_in k rom row.op next s p).write (pointer_in k row.op p)
+unfoldable pub taken_move : Stack → Program → List ℕ → Row → ℕ → AbsState → Product → StackMove
+taken_move k program rom row next s p = stack_move k row.op (effect_in k program rom row.op next s p).write (pointer_in k row.op p)
 
 -- The instruction is taken, with the core and what is known together p, which are settled, and a cell that its condition
 -- tells; next is the address behind it; each part by itself.
-unfoldable pub taken_parts : Stack → List ℕ → Row → ℕ → AbsState → Product → Option Cell → Successor
-taken_parts k rom row next s p cell =
-    let effect = effect_in k rom row.op next s p in
+unfoldable pub taken_parts : Stack → Program → List ℕ → Row → ℕ → AbsState → Product → Option Cell → Successor
+taken_parts k program rom row next s p cell =
+    let effect = effect_in k program rom row.op next s p in
     let m = stack_move k row.op effect.write (pointer_in k row.op p) in
     record {
       read = read_in k row.op p;
       write = effect.write;
       target =
-          refined_target k.setting.rules k.setting row.op next (word_in k rom row.op s p) p.core (pointer_in k row.op p) m (target_of row.op next p.core);
+          refined_target k.setting.rules k.setting row.op next (word_in k program rom row.op s p) p.core (pointer_in k row.op p) m (target_of row.op next p.core);
       next = next;
       state = with_core (moved_state k (kind_of rom) cell m effect.write s) (core_behind k.setting.is_whole (kind_of rom) m row.cycles effect.write effect.core);
     }
@@ -83,9 +87,9 @@ abbrev pub related_successor : Relations → Successor → Successor
 related_successor r t = record t { state = with_relations r t.state }
 
 -- what is known together behind it
-unfoldable pub relations_behind : Stack → List ℕ → Op → AbsState → Product → Relations
-relations_behind k rom o s p =
-    relations_after k.setting.rules k.region o (sp_bounds k.setting s) p.core.registers (word_in k rom o s p).low p.relations
+unfoldable pub relations_behind : Stack → Program → List ℕ → Op → AbsState → Product → Relations
+relations_behind k program rom o s p =
+    relations_after k.setting.rules k.region o (sp_bounds k.setting s) p.core.registers (word_in k program rom o s p).low p.relations
 
 -- the same states, which say something else of the whole program
 abbrev pub said_successor : SummaryParts → Successor → Successor
@@ -99,8 +103,8 @@ summary_behind k program o s p t = summary_by k.setting.rules k program o s p t.
 unfoldable pub taken_successor : Stack → Program → List ℕ → Row → ℕ → AbsState → Branch → Successor
 taken_successor k program rom row next s b =
     let p = product_of b.core b.relations in
-    let t = taken_parts k rom row next s p b.cell in
-    said_successor (summary_behind k program row.op s p t) (related_successor (relations_behind k rom row.op s p) t)
+    let t = taken_parts k program rom row next s p b.cell in
+    said_successor (summary_behind k program row.op s p t) (related_successor (relations_behind k program rom row.op s p) t)
 
 -- it isn't taken: nothing happens but that time passes
 unfoldable pub untaken_successor : Stack → Row → ℕ → AbsState → Branch → Successor

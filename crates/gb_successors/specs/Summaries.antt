@@ -29,6 +29,7 @@ use Rattle.gb_product.specs.Below.gb_abs_effects.declared.writes.AbsWrite.TheVar
 use Rattle.gb_product.specs.Below.gb_relations.Transfer.{values_of}
 use Rattle.gb_product.specs.declared.parts.Product.{Product}
 use Rattle.gb_successors.specs.declared.stacks.Stack.{Stack}
+use Rattle.gb_successors.specs.Loads.{addresses_of}
 
 -- ---- what an instruction stores
 
@@ -40,7 +41,7 @@ pointed_bits (Some pointer) registers = low_bits_of (interval_of (get (low_regis
 -- what it stores, and where it may; the registers are those before it
 unfoldable pub stored_by : Op → Registers Val → AbsWrite → InstructionStore
 stored_by o registers (write.Byte span v) =
-    stored.Byte (record { first = span.first; last = span.last; low = pointed_bits (pointer_of o) registers }) (interval_of v)
+    stored.Byte (addresses_of span (pointed_bits (pointer_of o) registers)) (interval_of v)
 stored_by o registers (write.Word a low high) = stored.Word a (interval_of low) (interval_of high)
 stored_by o registers _ = stored.Nothing
 

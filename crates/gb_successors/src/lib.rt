@@ -4,9 +4,10 @@
 //! where the HALT mark is clear and it isn't STOP, is one of them, as long as its accesses are not
 //! refused (`Sound` of the definitions).
 //!
-//! Read `way`, `successor`, then `successors`, and `refused`: what refuses a successor.
+//! Read `way`, `loads`, `successor`, then `successors`, and `refused`: what refuses a successor.
 #![tactic(auto)]
 
+mod loads;
 mod refined;
 pub mod refused;
 mod said;

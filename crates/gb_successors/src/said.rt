@@ -25,7 +25,7 @@ use gb_product::{
 };
 
 /// What is known of the low bits of an address that goes by a pointer: those of its low byte.
-fn pointed_bits(pointer: Option<Pointer>, registers: &Registers<Val>) -> LowBits
+pub(crate) fn pointed_bits(pointer: Option<Pointer>, registers: &Registers<Val>) -> LowBits
     ensures { result ≡ Summaries.pointed_bits pointer registers.now }
 {
     match pointer {

@@ -1,11 +1,8 @@
 //! How the successors of an instruction come about.
 
 ghost use Rattle.std.specs.Prelude.{◌≡◌, None};
-ghost use Rattle.gb_product.specs.Below.gb_abs.Operations.{with_core};
 ghost use Rattle.gb_domain.specs.declared.rules.Rules.TheVariants.{Simple, Extended};
-ghost use Rattle.gb_product.specs.Below.gb_abs.Stack.{youngest};
 ghost use Rattle.gb_product.specs.Below.gb_abs_effects.Transfer as Transfer;
-ghost use Rattle.gb_product.specs.Below.gb_abs_effects.declared.reads.AbsRead.TheVariants.{Byte};
 ghost use Rattle.gb_product.specs.Below.gb_abs_effects.declared.reads.AbsRead.TheVariants as reads;
 ghost use Rattle.gb_product.specs.Below.gb_abs_effects.declared.targets.Target.TheVariants.{At};
 ghost use Rattle.gb_product.specs.Below.gb_abs_effects.declared.writes.AbsWrite.TheVariants.{Nothing};
@@ -13,64 +10,23 @@ ghost use Rattle.gb_successors.specs.declared.stacks.StackMove.TheVariants.{Stay
 ghost use Rattle.gb_successors.specs.Behind as Behind;
 ghost use Rattle.gb_successors.specs.Behind.{state_behind};
 ghost use Rattle.gb_successors.specs.Successors as Succession;
-ghost use Rattle.gb_successors.specs.Words.{word_or_any};
 
+use crate::loads::{TakenSide, read_word};
 use crate::refined::{cut_read, refine, refined_target};
 use crate::said::summary_behind;
 use crate::stacks::{Stack, StackMove, move_core, stack_move};
 pub use crate::way::{Moved, Successor};
-use gb_code::{Area, Rom, area_of, loaded_by, starts_oam_transfer, store_in_core};
+use gb_code::{Area, Rom, area_of, starts_oam_transfer, store_in_core};
 use gb_domain::pairs::Bounds;
 use gb_domain::relations::Relations;
-use gb_domain::types::{Abs, Cell, Core, Halves, ImeSet, Rules, Setting};
+use gb_domain::types::{Abs, Cell, Core, ImeSet, Rules, Setting};
 use gb_ops::machine::Kind;
 use gb_ops::op::{Op, Row};
 use gb_product::parts::{Branch, Product};
 use gb_product::{
-    AbsEffect, AbsRead, AbsWrite, Inputs, Program, Span, Target, any, any_word, end, known_carry,
-    pass, pointer_bounds, quiet, read_of, relations_after, sp_bounds, sp_halves, target_of,
-    transfer_in,
+    AbsEffect, AbsRead, AbsWrite, Inputs, Program, Span, Target, end, known_carry, pass,
+    pointer_bounds, quiet, read_of, relations_after, sp_bounds, sp_halves, target_of, transfer_in,
 };
-
-/// The word that was pushed last, as far as it is known.
-#[inline(never)]
-#[tactic(auto, using(crate::proofs::WordLaws::top_word_is, crate::proofs::WordLaws::no_word_is))]
-fn top_word(state: &Abs) -> Halves
-    ensures { result ≡ word_or_any (youngest state.now) }
-{
-    match state.items() {
-        [.., high, low] => Halves {
-            high: *high,
-            low: *low,
-        },
-        _ => any_word(),
-    }
-}
-
-/// What is known of a byte that is read.
-#[inline(never)]
-#[tactic(auto, unfolding(crate::specs::Behind::read_word))]
-fn read_byte(setting: Setting, rom: &Rom<'_>, state: &Abs, core: &Core, span: Span) -> Halves
-    ensures { result ≡ Behind.read_word setting rom.now (with_core state.now core.now) (Byte span) }
-{
-    Halves {
-        high: any(),
-        low: loaded_by(setting, rom, core, state, span),
-    }
-}
-
-/// What is known of what is read: of a byte, or of the word that was pushed last.
-#[inline(always)]
-#[tactic(auto, unfolding(crate::specs::Behind::read_word, crate::specs::Opened::youngest))]
-fn read_word(setting: Setting, rom: &Rom<'_>, state: &Abs, core: &Core, read: AbsRead) -> Halves
-    ensures { result ≡ Behind.read_word setting rom.now (with_core state.now core.now) read }
-{
-    match read {
-        AbsRead::Byte(span) => read_byte(setting, rom, state, core, span),
-        AbsRead::Top => top_word(state),
-        AbsRead::Nothing => any_word(),
-    }
-}
 
 /// Whether a write starts an OAM transfer.
 #[tactic(auto, unfolding(crate::specs::Behind::starts))]
@@ -187,21 +143,6 @@ pub fn pointer_in(stack: Stack, op: Op, product: &Product) -> Option<Bounds>
     )
 }
 
-/// An instruction that is taken, and the side that it is taken from, which is settled.
-#[derive(Clone, Copy)]
-struct TakenSide<'w, 'a> {
-    stack: &'w Stack,
-    program: &'w Program<'w>,
-    rom: &'w Rom<'w>,
-    row: &'w Row,
-    /// The address behind it.
-    next: u16,
-    state: &'a Abs,
-    core: &'w Core,
-    relations: &'w Relations,
-    cell: &'w Option<Cell>,
-}
-
 /// The successor where the instruction is taken, by rules that are the stack's own: so that they are known where it is made. Its
 /// effect is made where it is given, in the place of the core before it.
 #[inline(always)]
@@ -228,7 +169,7 @@ fn successor_by<'a>(
         is_whole: setting.is_whole,
         next,
         sp: sp_halves(setting, state),
-        word: read_word(setting, taken.rom, state, core, read),
+        word: read_word(setting, op, taken, read),
     };
     transfer_in(op, &inputs, effect);
     let carry = known_carry(rules, op, sp, &core.registers, &relations.pairs);

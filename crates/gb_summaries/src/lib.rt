@@ -32,6 +32,7 @@ pub use covering::known_byte;
 
 // What lies below, for the crates above.
 pub use gb_ram_bounds::AddressSet;
+pub use gb_ram_bounds::addresses::is_in;
 pub use gb_ram_bounds::cells::has_cell;
 pub use gb_relations::compared::only_of_a;
 pub use gb_relations::pointers::{known_carry, pointer_bounds};

@@ -56,7 +56,7 @@ fn is_given(addresses: &[u16], address: u16) -> bool
 }
 
 /// Whether the byte at an address of the caller's, if there is one, is what it was.
-fn is_byte_kept(ranges: &[Range], addresses: &[u16], address: Option<u16>) -> bool
+pub fn is_byte_kept(ranges: &[Range], addresses: &[u16], address: Option<u16>) -> bool
     ensures { result ≡ Returning.is_byte_kept ranges.now addresses.now address }
 {
     match address {

@@ -17,7 +17,6 @@ use Rattle.gb_rules.specs.Below.gb_calls.Interrupts.{left_by_dispatch, may_come,
 use Rattle.gb_ops.specs.declared.op.Row.{Row}
 use Rattle.gb_ops.specs.Table.{decoded}
 use Rattle.gb_ops.specs.Cartridge.{kind_of}
-use Rattle.gb_ops.specs.declared.machine.Kind.TheVariants as kind
 use Rattle.gb_rules.specs.Below.gb_product.Covering.{covers}
 use Rattle.gb_rules.specs.Below.gb_abs_effects.declared.targets.Target.{Target}
 use Rattle.gb_rules.specs.Below.gb_abs_effects.declared.targets.Target.TheVariants as target
@@ -26,9 +25,12 @@ use Rattle.gb_rules.specs.Below.gb_successors.Way.{Successor}
 use Rattle.gb_rules.specs.Below.gb_successors.declared.stacks.Stack.{Stack}
 use Rattle.gb_rules.specs.Below.gb_successors.declared.successors.Successors.{Successors}
 use Rattle.gb_rules.specs.Below.gb_successors.Successors.{product_before, has, any_successor, successors_of}
-use Rattle.gb_rules.specs.Procedures.{ranges_of, need_of, exit_of, base_in, setting_of, stack_of, program_of, taken_by}
+use Rattle.gb_rules.specs.Below.gb_abs_memory.Windows.{known_kind}
+use Rattle.gb_rules.specs.Below.gb_calls.Resuming.{resumed}
+use Rattle.gb_rules.specs.Covered.{covered_at, is_covered_by_bytes, is_covered_by_one, is_covered_by_register, registers}
+use Rattle.gb_rules.specs.Procedures.{kept_of, ranges_of, need_of, exit_of, base_in, setting_of, stack_of, program_of, taken_by}
 use Rattle.gb_rules.specs.Below.gb_successors.Refused.{is_unstorable, meets_oam_transfer}
-use Rattle.gb_rules.specs.Rules.{breaks_stack, is_code_limited, moves_too_deep, callee_by, callee_at, is_over, calls_too_deep, is_uncovered_if, is_resumed_uncovered, is_back_uncovered, is_inlined_uncovered, is_call_uncovered, is_uncovered_at, is_uncovered, is_outside_of, is_uncallable_at, is_uncallable, is_unreturnable_at, is_unreturnable, interrupts, is_dispatch_deep, handles_too_deep, is_unhandled, lacks_handler, test_row, test_instruction, node_bytes, ways_of, any_of, is_possible, grows_too_deep, stores_outside, meets_ram, meets_transfer, leads_anywhere, leads_uncovered, calls_wrongly, returns_wrongly, applies_to_row, applies, reasons, reason_of}
+use Rattle.gb_rules.specs.Rules.{breaks_stack, is_code_limited, moves_too_deep, callee_by, callee_at, is_over, is_overfull, calls_too_deep, is_uncovered_if, is_resumed_uncovered, is_back_uncovered, is_inlined_uncovered, is_call_uncovered, is_uncovered_at, is_uncovered, is_outside_of, is_uncallable_at, is_uncallable, is_unreturnable_at, is_unreturnable, interrupts, is_dispatch_deep, handles_too_deep, is_unhandled, lacks_handler, test_row, test_instruction, node_bytes, ways_of, any_of, is_possible, grows_too_deep, stores_outside, meets_ram, meets_transfer, leads_anywhere, leads_uncovered, calls_wrongly, returns_wrongly, applies_to_row, applies, reasons, reason_of}
 use Rattle.gb_verify.specs.declared.verdict.Verdict.TheVariants.{Refused}
 use Rattle.gb_verify.specs.Verdict.{reason_against, reason_against_at, refusal_or, verdict_from, verdict_of, is_bad_node, is_bad_entry, main_entry, IsVerdict, IgnoresVersion}
 use Rattle.gb_verify.specs.PowerUp.{state_at_power_up}
@@ -144,48 +146,73 @@ same_depth program cert version z need t =
     ap (is_over z.rules (other cert version) need (length t.state.items)) (same_callee_by program cert version z t.target t.state)
     ∙ same_over cert version z.rules need (length t.state.items) (callee_by program cert z t.target t.state)
 
+-- two versions have the same rules, and neither is 4, or both are
+record AreRuledAlike (cert : Certificate) (version : ℕ) : Type 0 where
+  rules : rules_of version ≡ rules_of cert.version
+  fourth : (version == 4) ≡ (cert.version == 4)
+
+same_setting : (cert : Certificate) (version procedure : ℕ) → AreRuledAlike cert version → setting_of (other cert version) procedure ≡ setting_of cert procedure
+unfolding setting_of
+same_setting cert version procedure e =
+    let with : Rules → Bool → Setting = λ rules whole. record { rules = rules; is_whole = whole; is_main = procedure == 0; base = base_in (slice_get cert.procedures procedure) } in
+    ap (λ rules. with rules (version == 4)) e.rules ∙ ap (with (rules_of cert.version)) e.fourth
+
+same_covered :
+    (program : Program) (cert : Certificate) (version : ℕ) (rules : Rules) (procedure a : ℕ) (t : AbsState) → AreRuledAlike cert version
+    → covered_at program rules (other cert version) procedure a t ≡ covered_at program rules cert procedure a t
+unfolding covered_at
+same_covered program cert version rules procedure a t e =
+    ap (λ b.
+    is_covered_by_one program cert.nodes procedure a t
+    || list_any (is_covered_by_register program rules cert.nodes procedure a t) registers
+    || b && is_covered_by_bytes program rules cert.nodes procedure a t) e.fourth
+
 same_after :
-    (program : Program) (cert : Certificate) (version : ℕ) (rules : Rules) (procedure a : ℕ) (o : Option AbsState)
+    (program : Program) (cert : Certificate) (version : ℕ) (rules : Rules) (procedure a : ℕ) (o : Option AbsState) → AreRuledAlike cert version
     → is_uncovered_if program rules (other cert version) procedure a o ≡ is_uncovered_if program rules cert procedure a o
-same_after program cert version rules procedure a None = refl
-same_after program cert version rules procedure a (Some t) = refl
+same_after program cert version rules procedure a None e = refl
+same_after program cert version rules procedure a (Some t) e = ap (λ b. is_overfull t || not b) (same_covered program cert version rules procedure a t e)
 
 same_exit :
-    (program : Program) (cert : Certificate) (version : ℕ) (rules : Rules) (procedure back : ℕ) (t : AbsState) (q : ℕ) (exit : Option AbsState)
+    (program : Program) (cert : Certificate) (version : ℕ) (rules : Rules) (procedure back : ℕ) (t : AbsState) (q : ℕ) (exit : Option AbsState) → AreRuledAlike cert version
     → is_resumed_uncovered program rules (other cert version) procedure back t q exit ≡ is_resumed_uncovered program rules cert procedure back t q exit
-unfolding taken_by ranges_of
-same_exit program cert version rules procedure back t q None = refl
-same_exit program cert version rules procedure back t q (Some exit) = same_after program cert version rules procedure back _
+unfolding taken_by ranges_of kept_of
+same_exit program cert version rules procedure back t q None e = refl
+same_exit program cert version rules procedure back t q (Some exit) e =
+    let after : Bool → Option AbsState = λ whole. resumed program rules whole (taken_by cert q) (ranges_of cert q) (kept_of cert q) t exit in
+    ap (λ (z : Setting). is_uncovered_if program rules (other cert version) procedure back (after z.is_whole)) (same_setting cert version procedure e)
+    ∙ same_after program cert version rules procedure back (after (setting_of cert procedure).is_whole) e
 
 same_back :
-    (program : Program) (cert : Certificate) (version : ℕ) (rules : Rules) (procedure back : ℕ) (t : AbsState) (q : ℕ)
+    (program : Program) (cert : Certificate) (version : ℕ) (rules : Rules) (procedure back : ℕ) (t : AbsState) (q : ℕ) → AreRuledAlike cert version
     → is_back_uncovered program rules (other cert version) procedure back t q ≡ is_back_uncovered program rules cert procedure back t q
 unfolding exit_of
-same_back program cert version rules procedure back t q = same_exit program cert version rules procedure back t q (exit_of cert q)
+same_back program cert version rules procedure back t q e = same_exit program cert version rules procedure back t q (exit_of cert q) e
 
 same_inlined :
-    (program : Program) (cert : Certificate) (version : ℕ) (rules : Rules) (procedure a : ℕ) (t : AbsState)
+    (program : Program) (cert : Certificate) (version : ℕ) (rules : Rules) (procedure a : ℕ) (t : AbsState) → AreRuledAlike cert version
     → is_inlined_uncovered program rules (other cert version) procedure a t ≡ is_inlined_uncovered program rules cert procedure a t
-same_inlined program cert version Simple procedure a t = refl
-same_inlined program cert version Extended procedure a t = refl
+same_inlined program cert version Simple procedure a t e = refl
+same_inlined program cert version Extended procedure a t e = ap not (same_covered program cert version Extended procedure a t e)
 
 same_called :
-    (program : Program) (cert : Certificate) (version : ℕ) (rules : Rules) (procedure a back : ℕ) (t : AbsState) (o : Option ℕ)
+    (program : Program) (cert : Certificate) (version : ℕ) (rules : Rules) (procedure a back : ℕ) (t : AbsState) (o : Option ℕ) → AreRuledAlike cert version
     → is_call_uncovered program rules (other cert version) procedure a back t o ≡ is_call_uncovered program rules cert procedure a back t o
-same_called program cert version rules procedure a back t None = same_inlined program cert version rules procedure a t
-same_called program cert version rules procedure a back t (Some q) = same_back program cert version rules procedure back t q
+same_called program cert version rules procedure a back t None e = same_inlined program cert version rules procedure a t e
+same_called program cert version rules procedure a back t (Some q) e = same_back program cert version rules procedure back t q e
 
 same_covering :
-    (program : Program) (cert : Certificate) (version : ℕ) (z : Setting) (procedure : ℕ) (t : Successor) → is_uncovered program z (other cert version) procedure t ≡ is_uncovered program z cert procedure t
+    (program : Program) (cert : Certificate) (version : ℕ) (z : Setting) (procedure : ℕ) (t : Successor) → AreRuledAlike cert version
+    → is_uncovered program z (other cert version) procedure t ≡ is_uncovered program z cert procedure t
 unfolding is_uncovered
-same_covering program cert version z procedure t = by t.target
+same_covering program cert version z procedure t e = by t.target
   where
     by : (w : Target) → is_uncovered_at program z (other cert version) procedure w t.next t.state ≡ is_uncovered_at program z cert procedure w t.next t.state
-    by (target.At a) = refl
+    by (target.At a) = ap not (same_covered program cert version z.rules procedure a t.state e)
     by (target.Call a) =
         ap (is_call_uncovered program z.rules (other cert version) procedure a t.next t.state) (same_callee program cert version z a t.state)
-        ∙ same_called program cert version z.rules procedure a t.next t.state (callee_of program cert z a t.state)
-    by (target.Main a) = refl
+        ∙ same_called program cert version z.rules procedure a t.next t.state (callee_of program cert z a t.state) e
+    by (target.Main a) = ap not (same_covered program cert version z.rules 0 a t.state e)
     by target.Return = refl
     by target.Unknown = refl
     by target.Lost = refl
@@ -220,13 +247,7 @@ same_return program cert version rules procedure t = by t.target
     by target.Unknown = refl
     by target.Lost = refl
 
-same_setting : (cert : Certificate) (version procedure : ℕ) → rules_of version ≡ rules_of cert.version → setting_of (other cert version) procedure ≡ setting_of cert procedure
-unfolding setting_of
-same_setting cert version procedure e =
-    let with : Rules → Setting = λ rules. record { rules = rules; is_whole = false; is_main = procedure == 0; base = base_in (slice_get cert.procedures procedure) } in
-    ap with e
-
-same_stack : (cert : Certificate) (version procedure : ℕ) → rules_of version ≡ rules_of cert.version → stack_of (other cert version) procedure ≡ stack_of cert procedure
+same_stack : (cert : Certificate) (version procedure : ℕ) → AreRuledAlike cert version → stack_of (other cert version) procedure ≡ stack_of cert procedure
 unfolding stack_of need_of
 same_stack cert version procedure e =
     let with : Setting → Stack = λ z. record { setting = z; region = cert.region; need = need_of cert procedure; main_need = need_of cert 0 } in
@@ -235,17 +256,17 @@ same_stack cert version procedure e =
 -- what states may speak of is the same where neither version is 4, or both are
 same_program : (rom : List ℕ) (cert : Certificate) (version : ℕ) → (version == 4) ≡ (cert.version == 4) → program_of rom (other cert version) ≡ program_of rom cert
 unfolding program_of
-same_program rom cert version f = ap (λ b. record { kind = cond b (kind_of rom) kind.Rom; facts = cert.facts }) f
+same_program rom cert version f = ap (λ b. record { kind = known_kind b (kind_of rom); facts = cert.facts }) f
 
 -- what is asked of two versions
 record AreAlike (rom : List ℕ) (cert : Certificate) (version : ℕ) : Type 0 where
-  rules : rules_of version ≡ rules_of cert.version
+  ruled : AreRuledAlike cert version
   program : program_of rom (other cert version) ≡ program_of rom cert
 
 same_ways : (rom : List ℕ) (cert : Certificate) (version : ℕ) (n : Node) (row : Row) → AreAlike rom cert version → ways_of rom (other cert version) n row ≡ ways_of rom cert n row
 unfolding ways_of
 same_ways rom cert version n row e =
-    ap (λ k. successors_of k (program_of rom (other cert version)) rom row n.address n.state) (same_stack cert version n.procedure e.rules)
+    ap (λ k. successors_of k (program_of rom (other cert version)) rom row n.address n.state) (same_stack cert version n.procedure e.ruled)
     ∙ ap (λ p. successors_of (stack_of cert n.procedure) p rom row n.address n.state) e.program
 
 -- tests that agree on each successor
@@ -275,7 +296,7 @@ same_deep :
 same_deep cert version z need t o =
     rw (same_over cert version Extended need (length t.items + 2) o, same_over cert version Simple need (length t.items) o) refl
 
-same_handled_depth : (program : Program) (cert : Certificate) (version : ℕ) (n : Node) → rules_of version ≡ rules_of cert.version → handles_too_deep program (other cert version) n ≡ handles_too_deep program cert n
+same_handled_depth : (program : Program) (cert : Certificate) (version : ℕ) (n : Node) → AreRuledAlike cert version → handles_too_deep program (other cert version) n ≡ handles_too_deep program cert n
 unfolding handles_too_deep need_of
 same_handled_depth program cert version n e =
     let z = setting_of cert n.procedure in
@@ -287,11 +308,12 @@ same_handled_depth program cert version n e =
     ∙ same_deep cert version z need n.state (handler_of program cert z i n.address n.state))
 
 same_unhandled :
-    (program : Program) (cert : Certificate) (version : ℕ) (z : Setting) (n : Node) (i : ℕ) (o : Option ℕ) → is_unhandled program z (other cert version) n i o ≡ is_unhandled program z cert n i o
-same_unhandled program cert version z n i o =
-    rw (same_outside cert version z n.procedure o, same_called program cert version z.rules n.procedure (vector i) n.address (left_by_dispatch z.rules n.address n.state) o) refl
+    (program : Program) (cert : Certificate) (version : ℕ) (z : Setting) (n : Node) (i : ℕ) (o : Option ℕ) → AreRuledAlike cert version
+    → is_unhandled program z (other cert version) n i o ≡ is_unhandled program z cert n i o
+same_unhandled program cert version z n i o e =
+    rw (same_outside cert version z n.procedure o, same_called program cert version z.rules n.procedure (vector i) n.address (left_by_dispatch z.rules n.address n.state) o e) refl
 
-same_lacking : (program : Program) (cert : Certificate) (version : ℕ) (n : Node) → rules_of version ≡ rules_of cert.version → lacks_handler program (other cert version) n ≡ lacks_handler program cert n
+same_lacking : (program : Program) (cert : Certificate) (version : ℕ) (n : Node) → AreRuledAlike cert version → lacks_handler program (other cert version) n ≡ lacks_handler program cert n
 unfolding lacks_handler
 same_lacking program cert version n e =
     let z = setting_of cert n.procedure in
@@ -299,7 +321,7 @@ same_lacking program cert version n e =
     ap (λ k. list_any (λ i. may_come i n.state.core && test k i) interrupts) (same_setting cert version n.procedure e)
     ∙ same_interrupts (test z) (λ i. is_unhandled program z cert n i (handler_of program cert z i n.address n.state)) n interrupts (λ i.
     ap (is_unhandled program z (other cert version) n i) (same_handler program cert version z i n.address n.state)
-    ∙ same_unhandled program cert version z n i (handler_of program cert z i n.address n.state))
+    ∙ same_unhandled program cert version z n i (handler_of program cert z i n.address n.state) e)
 
 same_possible : (cert : Certificate) (version : ℕ) (n : Node) → rules_of version ≡ rules_of cert.version → is_possible (other cert version) n ≡ is_possible cert n
 same_possible cert version n e = ap (λ rules. is_some (product_before rules n.state)) e
@@ -311,41 +333,41 @@ same_growth rom cert version n row e =
     let need = need_of cert n.procedure in
     let moves : moves_too_deep (rules_of version) need n row.op (ways_of rom (other cert version) n row).taken
     ≡ moves_too_deep (rules_of cert.version) need n row.op (ways_of rom cert n row).taken =
-    ap (λ rules. moves_too_deep rules need n row.op (ways_of rom (other cert version) n row).taken) e.rules
+    ap (λ rules. moves_too_deep rules need n row.op (ways_of rom (other cert version) n row).taken) e.ruled.rules
     ∙ ap (λ (ss : Successors). moves_too_deep (rules_of cert.version) need n row.op ss.taken) (same_ways rom cert version n row e) in
     let calls : any_of (calls_too_deep (program_of rom (other cert version)) (other cert version) (setting_of (other cert version) n.procedure) need) rom (other cert version) n row
     ≡ any_of (calls_too_deep (program_of rom cert) cert z need) rom cert n row =
     same_any _ _ rom cert version n row e (λ t.
     ap (λ p. calls_too_deep p (other cert version) (setting_of (other cert version) n.procedure) need t) e.program
-    ∙ (ap (λ k. calls_too_deep (program_of rom cert) (other cert version) k need t) (same_setting cert version n.procedure e.rules)
+    ∙ (ap (λ k. calls_too_deep (program_of rom cert) (other cert version) k need t) (same_setting cert version n.procedure e.ruled)
     ∙ same_depth (program_of rom cert) cert version z need t)) in
     let handles : handles_too_deep (program_of rom (other cert version)) (other cert version) n ≡ handles_too_deep (program_of rom cert) cert n =
-    ap (λ p. handles_too_deep p (other cert version) n) e.program ∙ same_handled_depth (program_of rom cert) cert version n e.rules in
-    rw (moves, calls, same_possible cert version n e.rules, handles) refl
+    ap (λ p. handles_too_deep p (other cert version) n) e.program ∙ same_handled_depth (program_of rom cert) cert version n e.ruled in
+    rw (moves, calls, same_possible cert version n e.ruled.rules, handles) refl
 
 same_row : (rom : List ℕ) (cert : Certificate) (version : ℕ) (n : Node) (row : Row) (r : Reason) → AreAlike rom cert version
     → applies_to_row rom (other cert version) n row r ≡ applies_to_row rom cert n row r
 unfolding applies_to_row stores_outside meets_ram meets_transfer leads_anywhere leads_uncovered calls_wrongly returns_wrongly ranges_of
-same_row rom cert version n row reason.Stack e = ap (λ k. breaks_stack k n row.op) (same_stack cert version n.procedure e.rules)
+same_row rom cert version n row reason.Stack e = ap (λ k. breaks_stack k n row.op) (same_stack cert version n.procedure e.ruled)
 same_row rom cert version n row reason.Depth e = same_growth rom cert version n row e
 same_row rom cert version n row reason.Store e =
-    same_any _ _ rom cert version n row e (λ t. ap (λ z. is_unstorable z (kind_of rom) cert.region (ranges_of cert n.procedure) t.write) (same_setting cert version n.procedure e.rules))
+    same_any _ _ rom cert version n row e (λ t. ap (λ z. is_unstorable z (kind_of rom) cert.region (ranges_of cert n.procedure) t.write) (same_setting cert version n.procedure e.ruled))
 same_row rom cert version n row reason.CartridgeRam e = same_any _ _ rom cert version n row e (λ t. refl)
 same_row rom cert version n row reason.OamTransfer e =
     let limited : Successor → Bool = λ t. is_code_limited n.state.core n.address row.length || meets_oam_transfer cert.region n.state.core t in
-    rw (same_any limited limited rom cert version n row e (λ t. refl), same_possible cert version n e.rules) refl
+    rw (same_any limited limited rom cert version n row e (λ t. refl), same_possible cert version n e.ruled.rules) refl
 same_row rom cert version n row reason.JumpHl e = same_any _ _ rom cert version n row e (λ t. refl)
 same_row rom cert version n row reason.Uncovered e = same_any _ _ rom cert version n row e (λ t.
     ap (λ p. is_uncovered p (setting_of (other cert version) n.procedure) (other cert version) n.procedure t) e.program
-    ∙ (ap (λ z. is_uncovered (program_of rom cert) z (other cert version) n.procedure t) (same_setting cert version n.procedure e.rules)
-    ∙ same_covering (program_of rom cert) cert version (setting_of cert n.procedure) n.procedure t))
+    ∙ (ap (λ z. is_uncovered (program_of rom cert) z (other cert version) n.procedure t) (same_setting cert version n.procedure e.ruled)
+    ∙ same_covering (program_of rom cert) cert version (setting_of cert n.procedure) n.procedure t e.ruled))
 same_row rom cert version n row reason.Callee e = same_any _ _ rom cert version n row e (λ t.
     ap (λ p. is_uncallable p (setting_of (other cert version) n.procedure) (other cert version) n.procedure t) e.program
-    ∙ (ap (λ z. is_uncallable (program_of rom cert) z (other cert version) n.procedure t) (same_setting cert version n.procedure e.rules)
+    ∙ (ap (λ z. is_uncallable (program_of rom cert) z (other cert version) n.procedure t) (same_setting cert version n.procedure e.ruled)
     ∙ same_call (program_of rom cert) cert version (setting_of cert n.procedure) n.procedure t))
 same_row rom cert version n row reason.Return e = same_any _ _ rom cert version n row e (λ t.
     ap (λ p. is_unreturnable p (rules_of version) (other cert version) n.procedure t) e.program
-    ∙ (ap (λ rules. is_unreturnable (program_of rom cert) rules (other cert version) n.procedure t) e.rules
+    ∙ (ap (λ rules. is_unreturnable (program_of rom cert) rules (other cert version) n.procedure t) e.ruled.rules
     ∙ same_return (program_of rom cert) cert version (rules_of cert.version) n.procedure t))
 same_row rom cert version n row r e = refl
 
@@ -373,7 +395,7 @@ same_find test also (x ∷ xs) same = rw (same x, same_find test also xs same) r
 same_lacked :
     (rom : List ℕ) (cert : Certificate) (version : ℕ) (n : Node)
     → AreAlike rom cert version → lacks_handler (program_of rom (other cert version)) (other cert version) n ≡ lacks_handler (program_of rom cert) cert n
-same_lacked rom cert version n e = ap (λ p. lacks_handler p (other cert version) n) e.program ∙ same_lacking (program_of rom cert) cert version n e.rules
+same_lacked rom cert version n e = ap (λ p. lacks_handler p (other cert version) n) e.program ∙ same_lacking (program_of rom cert) cert version n e.ruled
 
 same_reason : (rom : List ℕ) (cert : Certificate) (version : ℕ) (n : Node) → AreAlike rom cert version → reason_against rom (record cert { version = version }) n ≡ reason_against rom cert n
 unfolding reason_against reason_of
@@ -396,5 +418,5 @@ same_entry rom cert version e = same_node rom cert version (slice_get cert.nodes
 pub verdict_of-versions : IgnoresVersion
 unfolding verdict_of
 verdict_of-versions rom cert version e f =
-    let alike : AreAlike rom cert version = record { rules = e; program = same_program rom cert version f } in
+    let alike : AreAlike rom cert version = record { ruled = record { rules = e; fourth = f }; program = same_program rom cert version f } in
     rw (same_entry rom cert version alike, same_from rom cert version 0 cert.nodes alike) refl

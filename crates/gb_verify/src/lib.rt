@@ -21,7 +21,7 @@ pub use verify::{Answer, Outcome};
 pub use gb_rules::covered::covered_at;
 pub use gb_rules::interrupts::check_irqs;
 pub use gb_rules::procedures::{
-    callee_at, exit_of, need_of, program_of, ranges_of, setting_of, stack_of, taken_by,
+    callee_at, exit_of, kept_of, need_of, program_of, ranges_of, setting_of, stack_of, taken_by,
 };
 pub use gb_rules::rules::{check_node, is_nop_behind};
 pub use gb_rules::{

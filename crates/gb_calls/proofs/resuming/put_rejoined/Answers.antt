@@ -1,17 +1,22 @@
-use Rattle.std.proofs.Common.{◌≡◌, sym}
+use Rattle.std.proofs.Common.{◌≡◌, sym, ◌∙◌}
 use Rattle.gb_product.specs.Below.gb_relations.Returned.{returned}
-use Rattle.gb_calls.specs.Resuming.{kept_by, core_back}
+use Rattle.gb_calls.specs.Resuming.{given_addresses, kept_by, core_back}
 use Rattle.gb_calls.proofs.ResumingLaws.{too_deep}
 use Rattle.gb_calls.proofs.resuming.put_rejoined.Goals as goal
 
 pub returns-then-are_too_many-clause-exact : goal.returns-then-are_too_many-clause-exact
 returns-then-are_too_many-clause-exact c =
-    let s = c.args.state.now in
+    let caller = c.args.caller.now in
+    let program = caller.program.now in
+    let names = caller.kept.now.items in
+    let s = caller.state.now in
     let x = c.args.exit.now in
-    let kept : c.kept_by-kept.result ≡ kept_by c.args.ranges.now s.relations.byte x.core =
+    let given : c.as_slice-addresses.result.now ≡ given_addresses names x.cells =
+    c.as_slice-addresses.ensures.value ∙ (rw c.cells.ensures.cells at c.given_addresses-given.ensures) in
+    let kept : c.kept_by-kept.result ≡ kept_by c.args.ranges.now c.as_slice-addresses.result.now s.relations.byte x.core =
     rw (c.relations.ensures, c.core.ensures) at c.kept_by-kept.ensures in
-    let core : c.core_back-core.result ≡ core_back c.args.program.now.kind s.core x.core = rw (c.known_kind.ensures, c.core-2.ensures, c.core-3.ensures) at c.core_back-core.ensures in
+    let core : c.core_back-core.result ≡ core_back program caller.is_whole names s x.core = rw c.core-2.ensures at c.core_back-core.ensures in
     let relations : c.returned-relations.result ≡ returned c.kept_by-kept.result s.relations x.relations =
     rw (c.relations-2.ensures, c.relations-3.ensures) at c.returned-relations.ensures.exact in
-    too_deep c.args.program.now c.args.count c.args.ranges.now s x c.kept_by-kept.result c.core_back-core.result c.returned-relations.result
-    _ kept core relations (sym c.if-not-reduce.ensures.exact) (rw (c.items.ensures.items, c.items-2.ensures.items) at (c.are_too_many.ensures.many c.if-are_too_many.true))
+    too_deep program caller.is_whole c.args.count c.args.ranges.now names c.as_slice-addresses.result.now s x c.kept_by-kept.result c.core_back-core.result c.returned-relations.result
+    _ given kept core relations (sym c.if-not-reduce.ensures.exact) (rw (c.items.ensures.items, c.items-2.ensures.items) at (c.are_too_many.ensures.many c.if-are_too_many.true))
