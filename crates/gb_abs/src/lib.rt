@@ -38,6 +38,7 @@ pub use gb_vals::flags::{either, flags_of_val, flags_val, greatest_flags, known,
 pub use gb_vals::logic::complement;
 pub use gb_vals::outcome::AbsComputed;
 pub use gb_vals::shifts::{rotate_a, shift};
+pub use gb_vals::strided::left_of;
 pub use gb_vals::sums::{decrement, increment};
 pub use gb_vals::vals::{any, between, is_single, single};
 pub use gb_vals::{arithmetic, displaced, length_of, low_shifts, low_sums, strided, word};

@@ -1,5 +1,5 @@
 -- Words whose bytes are intervals, and the pairs of the machine.
-use Rattle.std.proofs.Common.{◌≡◌, ℕ, ◌+◌, ◌-◌, ◌*◌, ◌/◌, ◌%◌, ◌≤◌, ◌<◌, Bool, true, false, cond, nat_lt, Option, Some, None, refl, sym, ◌∙◌, ap, subst, arith}
+use Rattle.std.proofs.Common.{◌≡◌, ℕ, ◌+◌, ◌-◌, ◌*◌, ◌/◌, ◌%◌, ◌≤◌, ◌<◌, Bool, true, false, cond, nat_lt, List, length, slice_index_or, Option, Some, None, refl, sym, ◌∙◌, ap, subst, arith}
 use Rattle.std.proofs.lemmas.Bool.{and_parts}
 use Rattle.std.proofs.lemmas.Bool.Decides.{nat_tests}
 use Rattle.gb_ops.specs.declared.op.Register.{Register}
@@ -21,16 +21,19 @@ use Rattle.gb_domain.specs.declared.types.Val.{Val}
 use Rattle.gb_domain.specs.declared.types.Flg.{Flg}
 use Rattle.gb_domain.specs.declared.types.Core.{Core}
 use Rattle.gb_domain.specs.Rules.{IsCore}
+use Rattle.gb_domain.specs.Types.{AbsState}
 use Rattle.gb_abs.specs.Below.gb_vals.Vals.{between, any_val, is_single}
 use Rattle.gb_abs.specs.Below.gb_vals.Flags.{any_flags, with_own, known_flags, own_origin, is_own_origin, flags_val, flags_of_val}
 use Rattle.gb_abs.specs.Below.gb_vals.Meaning.{In, FlagsIn}
 use Rattle.gb_abs.proofs.Below.gb_vals_laws.MeaningLaws.{single-is, In-single, In-any, known-may_be, either-may_be, FlagsIn-known, bit-weight}
 use Rattle.gb_abs.proofs.Below.gb_vals_laws.FlagLaws.{flags_val_sound, flags_of_val_sound}
+use Rattle.gb_abs.specs.Stack.{youngest, last_word}
+use Rattle.gb_abs.proofs.StackLaws.{youngest_is}
 use Rattle.gb_abs.specs.Meaning.{Activation, Holds, HoldsFlags, MeansCore, origin_value}
 use Rattle.gb_abs.specs.Operations.{core_set_register}
 use Rattle.gb_abs.proofs.OperationLaws.{MeansCore-set_register, register_set}
 use Rattle.gb_domain.specs.declared.types.Halves.{Halves}
-use Rattle.gb_abs_effects.specs.Pairs.{known_word, any_word, is_word_known, least_word, raised, lowered, next_word, previous_word, are_words_known, word_sum, word_sum_flags, sum_flags_any, sum_flags_known, displaced_word, displaced_flags_any, displaced_flags, pair_halves, pair_or_sp, with_pair, stack_pair_halves, with_stack_pair}
+use Rattle.gb_abs_effects.specs.Pairs.{known_word, any_word, word_or_any, is_word_known, least_word, raised, lowered, next_word, previous_word, are_words_known, word_sum, word_sum_flags, sum_flags_any, sum_flags_known, displaced_word, displaced_flags_any, displaced_flags, pair_halves, pair_or_sp, with_pair, stack_pair_halves, with_stack_pair}
 use Rattle.gb_abs_effects.proofs.CoreLaws.{In-from, FlagsIn-from, Holds-computed, byte-of, some-is, MeansCore-at, MeansCore-a}
 
 -- the bytes of a word are what the intervals stand for
@@ -419,3 +422,20 @@ HoldsWord-stack_pair stack.De s entry x is m = HoldsWord-of s.registers.d s.regi
 HoldsWord-stack_pair stack.Hl s entry x is m = HoldsWord-of s.registers.h s.registers.l entry _ _ (m.registers H) (m.registers L) (byte s entry x L is m)
 HoldsWord-stack_pair stack.Af s entry x is m =
     HoldsWord-of s.registers.a (flags_val s.flags) entry x.processor.registers.a (flags_byte x.processor.flags) (m.registers A) (Holds-pushed s.flags entry x.processor.flags m.flags) (flags-small x.processor.flags)
+
+-- ---- what is known of the word that was pushed last
+
+pub top_word_is :
+    (s : AbsState) (items : List Val) (d : Val) → items ≡ s.items → 2 ≤ length items
+    → record { high = slice_index_or items (length items - 2) d; low = slice_index_or items (length items - 1) d } ≡ word_or_any (youngest s)
+top_word_is s items d same some = sym (ap word_or_any (youngest_is s items d same some))
+
+pub no_word_is : (s : AbsState) (items : List Val) → items ≡ s.items → (2 ≤ length items → ⊥) → any_word ≡ word_or_any (youngest s)
+unfolding youngest
+no_word_is s items same few = sym (ap (λ xs. word_or_any (last_word xs)) (sym same) ∙ none)
+  where
+    short : nat_lt (length items) 2 ≡ true
+    short = grind (arith, nat_tests)
+
+    none : word_or_any (last_word items) ≡ any_word
+    none = rw short refl

@@ -1,6 +1,6 @@
 -- Words whose bytes are intervals, and the pairs of a core (abstract interpretation: the interval
 -- domain; CPU instruction set: 16-bit arithmetic; own).
-use Rattle.std.specs.Prelude.{ℕ, ◌+◌, ◌-◌, ◌/◌, ◌%◌, Bool, false, ◌&&◌, if◌then◌else◌, nat_lt, Some}
+use Rattle.std.specs.Prelude.{ℕ, ◌+◌, ◌-◌, ◌/◌, ◌%◌, Bool, false, ◌&&◌, if◌then◌else◌, nat_lt, Option, Some, None}
 use Rattle.gb_ops.specs.declared.op.Pair.{Pair}
 use Rattle.gb_ops.specs.declared.op.Pair.TheVariants as pair
 use Rattle.gb_ops.specs.declared.op.StackPair.{StackPair}
@@ -28,6 +28,11 @@ known_word w = record { high = single (w / 256); low = single (w % 256) }
 
 abbrev pub any_word : Halves
 any_word = record { high = any_val; low = any_val }
+
+-- what is known of a word that may be there
+abbrev pub word_or_any : Option Halves → Halves
+word_or_any None = any_word
+word_or_any (Some w) = w
 
 abbrev pub is_word_known : Halves → Bool
 is_word_known w = is_single w.high && is_single w.low

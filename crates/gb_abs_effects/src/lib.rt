@@ -36,4 +36,4 @@ pub use gb_abs::origins::{
 };
 pub use gb_abs::span::Span;
 pub use gb_abs::stack::push;
-pub use gb_abs::{any, flags_val, known, may_enable, may_have_bit, single};
+pub use gb_abs::{any, flags_val, known, left_of, may_enable, may_have_bit, single};

@@ -1,6 +1,7 @@
 //! Words whose bytes are intervals, and the pairs of a core.
 
 ghost use Rattle.std.specs.Prelude.{◌≡◌};
+ghost use Rattle.gb_abs.specs.Stack.{youngest};
 ghost use Rattle.gb_abs_effects.specs.Pairs as Pairs;
 
 use gb_abs::low_shifts::doubled;
@@ -11,7 +12,7 @@ use gb_abs::{
     is_single, known, known_flags, single, word,
 };
 use gb_domain::low_bits::{LowBits, none};
-use gb_domain::types::{Core, Flg, Halves, Val};
+use gb_domain::types::{Abs, Core, Flg, Halves, Val};
 use gb_ops::op::{Indirect, Pair, StackPair};
 
 /// A word that is known.
@@ -31,6 +32,21 @@ pub fn any_word() -> Halves
     Halves {
         high: any(),
         low: any(),
+    }
+}
+
+/// The word that was pushed last, as far as it is known.
+#[inline(never)]
+#[tactic(auto, using(crate::proofs::PairLaws::top_word_is, crate::proofs::PairLaws::no_word_is))]
+pub fn top_word(state: &Abs) -> Halves
+    ensures { result ≡ Pairs.word_or_any (youngest state.now) }
+{
+    match state.items() {
+        [.., high, low] => Halves {
+            high: *high,
+            low: *low,
+        },
+        _ => any_word(),
     }
 }
 

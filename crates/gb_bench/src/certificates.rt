@@ -16,7 +16,7 @@ pub(crate) const FEW: u32 = 65_535;
 const ADDRESSES: u32 = 0x102 + 0x7FFE - 0x150;
 
 /// The procedures of the largest certificate, and how many addresses of its main have two nodes.
-const PROCEDURES: u8 = 32;
+const PROCEDURES: u16 = 32;
 
 const TWICE: u32 = 1_048_576 - PROCEDURES as u32 * ADDRESSES;
 
@@ -170,12 +170,12 @@ fn push_mains<'a>(state: &'a Abs, nodes: &mut Vec<NodePlan<'a>>) -> Result<(), A
 
 /// Adds the nodes of a procedure that is called: each address has one.
 fn push_below<'a>(
-    number: u8,
+    number: u16,
     state: &'a Abs,
     nodes: &mut Vec<NodePlan<'a>>,
 ) -> Result<(), AllocError> {
     for place in 0..ADDRESSES {
-        nodes.push(node(u16::from(number), address_of(place), state))?;
+        nodes.push(node(number, address_of(place), state))?;
     }
     Ok(())
 }

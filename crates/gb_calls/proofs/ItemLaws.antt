@@ -1,15 +1,12 @@
 -- Items that are appended, and covered, from the front on.
-use Rattle.std.proofs.Common.{◌≡◌, ℕ, ◌-◌, ◌≤◌, ◌<◌, ◌==◌, Bool, true, false, ◌&&◌, List, [], ◌∷◌, length, take, drop, slice_index, slice_index_or, refl, sym, ap, ◌∙◌, arith, None}
-use Rattle.std.specs.List.{flat_map}
+use Rattle.std.proofs.Common.{◌≡◌, ℕ, suc, ◌-◌, ◌≤◌, ◌<◌, ◌==◌, Bool, true, false, ◌&&◌, List, [], ◌∷◌, length, take, drop, slice_index, slice_index_or, refl, sym, ap, ◌∙◌, arith, None}
 use Rattle.std.proofs.lemmas.Bool.{eqb-true}
 use Rattle.std.proofs.lemmas.List.{take_all}
 use Rattle.gb_domain.specs.declared.types.Cell.{Cell}
 use Rattle.gb_domain.specs.declared.types.Val.{Val}
-use Rattle.gb_cert.specs.Below.gb_states.Reading.{origin_of}
-use Rattle.gb_cert.specs.Below.gb_states.Checked.{listed_items}
-use Rattle.gb_cert.specs.Below.gb_states.Spelling as spelled
+use Rattle.gb_cert.specs.Below.gb_states.WholeReading.{to_val}
+use Rattle.gb_cert.specs.Below.gb_states.Checked.{listed_items, listed_cells}
 use Rattle.gb_cert.proofs.Below.gb_states_laws.ListedLaws.{no_items, items_front}
-use Rattle.gb_cert.proofs.CheckedLaws.{cells_long}
 use Rattle.gb_domain.specs.Summaries.{SummaryParts, Program}
 use Rattle.gb_product.specs.Below.gb_abs.Covering.{covers_val, covers_items}
 use Rattle.gb_product.specs.Below.gb_abs.Origins.{without_origin}
@@ -34,7 +31,7 @@ abbrev first_of : List Val → Val
 first_of s = slice_index_or s 0 (record { lo = 0; hi = 0; low_bits = 0; origin = None })
 
 abbrev first_in : List ℕ → Val
-first_in bytes = record { lo = slice_index bytes 0; hi = slice_index bytes 1; low_bits = 0; origin = origin_of (slice_index bytes 2) }
+first_in bytes = to_val ((slice_index bytes 0, slice_index bytes 1), slice_index bytes 2)
 
 abbrev rest_in : List ℕ → List Val
 rest_in bytes = listed_items (take (length bytes - 3) (drop 3 bytes))
@@ -43,7 +40,7 @@ pub none_covered : (s : List Val) (bytes : List ℕ) (b : Bool) → length bytes
 none_covered s bytes b h is = is ∙ ap (covers_items s) (sym (no_items bytes h))
 
 pub fewer_covered : (s : List Val) (bytes : List ℕ) → length s < 1 → 3 ≤ length bytes → false ≡ covers_items s (listed_items bytes)
-fewer_covered [] bytes h k = sym (ap (covers_items []) (items_front bytes (origin_of (slice_index bytes 2)) k refl))
+fewer_covered [] bytes h k = sym (ap (covers_items []) (items_front bytes (first_in bytes) k refl))
 fewer_covered (v ∷ vs) bytes h k = absurd (omega arith)
 
 both_covered : (s : List Val) (bytes : List ℕ) → 1 ≤ length s → 3 ≤ length bytes
@@ -51,7 +48,7 @@ both_covered : (s : List Val) (bytes : List ℕ) → 1 ≤ length s → 3 ≤ le
 both_covered [] bytes h k = absurd (omega arith)
 both_covered (v ∷ vs) bytes h k =
     let long : length (v ∷ vs) - 1 ≡ length vs = omega arith in
-    ap (covers_items (v ∷ vs)) (items_front bytes (origin_of (slice_index bytes 2)) k refl)
+    ap (covers_items (v ∷ vs)) (items_front bytes (first_in bytes) k refl)
     ∙ ap (λ (ys : List Val). covers_val v (first_in bytes) && covers_items ys (rest_in bytes)) (sym (ap (λ (n : ℕ). take n vs) long ∙ take_all (length vs) vs (omega arith)))
 
 pub then_covered : (s : List Val) (bytes : List ℕ) (b r : Bool) → 1 ≤ length s → 3 ≤ length bytes → b ≡ covers_val (first_of s) (first_in bytes)
@@ -75,12 +72,12 @@ and_true false = refl
 -- where no cells are claimed, items alone are asked for
 pub listed_alone :
     (program : Program) (v : Values) (said : SummaryParts) (us vs ws : List Val) (cs ds : List Cell) (items cells : List ℕ) (r : Bool)
-    → us ≡ vs → listed_items items ≡ ws → cells ≡ flat_map spelled.cell ds
+    → us ≡ vs → listed_items items ≡ ws → listed_cells cells ≡ ds
     → (length cells == 0) ≡ true → r ≡ covers_items us (listed_items items) → r ≡ (covers_items vs ws && covers_cells program v cs said ds)
-unfolding covers_cells
-listed_alone program v said us vs ws cs [] items cells r same is are none e =
-    e ∙ (ap (λ (xs : List Val). covers_items xs (listed_items items)) same ∙ (ap (covers_items vs) is ∙ and_true (covers_items vs ws)))
-listed_alone program v said us vs ws cs (d ∷ ds) items cells r same is are none e =
-    let long = cells_long (d ∷ ds) cells are in
-    let zero : length cells ≡ 0 = eqb-true (length cells) 0 none in
+unfolding covers_cells listed_cells
+listed_alone program v said us vs ws cs ds items [] r same is are none e =
+    e ∙ (ap (λ (xs : List Val). covers_items xs (listed_items items)) same ∙ (ap (covers_items vs) is ∙ (and_true (covers_items vs ws)
+    ∙ ap (λ (kept : List Cell). covers_items vs ws && covers_cells program v cs said kept) are)))
+listed_alone program v said us vs ws cs ds items (n ∷ rest) r same is are none e =
+    let zero : suc (length rest) ≡ 0 = eqb-true (suc (length rest)) 0 none in
     absurd (omega arith)

@@ -3,7 +3,7 @@ use Rattle.std.proofs.Common.{◌≡◌, ℕ, ◌+◌, ◌-◌, ◌*◌, ◌/◌
 use Rattle.std.proofs.lemmas.Bool.{and_parts, or_cases, or_from}
 use Rattle.std.proofs.lemmas.List.{length-map}
 use Rattle.std.proofs.lemmas.Option.{same_Some}
-use Rattle.std.specs.Prelude.{IfSome}
+use Rattle.std.specs.Prelude.{IfSome, option_map, option_and_then}
 use Rattle.std.proofs.lemmas.Bool.Decides.{nat_tests}
 use Rattle.std.specs.List.{AllByRecursion, filter, list_all, list_any}
 use Rattle.gb_ops.specs.declared.machine.Region.{Region}
@@ -37,7 +37,7 @@ use Rattle.gb_domain.specs.Types.{AbsState, origin_of_register}
 use Rattle.gb_domain.specs.Limits.{cell_room, item_room}
 use Rattle.gb_domain.specs.Places.{no_byte}
 use Rattle.gb_domain.specs.Rules.{IsCore}
-use Rattle.gb_domain.specs.Summaries.{Program}
+use Rattle.gb_domain.specs.Summaries.{Program, SummaryParts}
 use Rattle.gb_ops.specs.declared.machine.Kind.{Kind}
 use Rattle.gb_ops.specs.declared.machine.Kind.TheVariants as kind
 use Rattle.gb_product.specs.Below.gb_pairs.declared.values.Values.{Values}
@@ -49,7 +49,7 @@ use Rattle.gb_product.proofs.Below.gb_pairs_laws.ReducedLaws.{reduced_sound}
 use Rattle.gb_product.specs.Below.gb_relations.Places.{is_free}
 use Rattle.gb_product.specs.Below.gb_summaries.Below.gb_ram_bounds.Returned.{is_in_ranges as lies_in_ranges}
 use Rattle.gb_product.specs.Below.gb_summaries.Returning.{is_given, is_byte_kept, GivesBack}
-use Rattle.gb_calls.specs.Resuming.{given_by}
+use Rattle.gb_calls.specs.Resuming.{given_by, with_controller, with_banks_cut, summary_back}
 use Rattle.gb_calls.proofs.CellsBackLaws.{same_ranges}
 use Rattle.gb_calls.proofs.SummaryBackLaws.{same_window, HoldSummary-back}
 use Rattle.gb_product.specs.Below.gb_relations.declared.returned.Kept.{Kept}
@@ -90,6 +90,11 @@ use Rattle.gb_calls.proofs.EnteringLaws.{MeansCore-with_word}
 use Rattle.gb_calls.proofs.TakenOverLaws.{given_back-items, given_back-pointer, given_back-count}
 use Rattle.gb_calls.proofs.ToldLaws.{IsCaller, IsTold, IsTold-exit, Tells, own-value, Holds-place_back, AreItems-back, AreCells-back, IsGiven-back}
 use Rattle.gb_calls.proofs.CellLaws.{AllByRecursion-merged, AllByRecursion-take}
+use Rattle.gb_product.specs.Covering.{values_in}
+use Rattle.gb_product.specs.Reduced.{reduced_controller}
+use Rattle.gb_product.specs.Sound.{HoldsControllerIf}
+use Rattle.gb_product.proofs.ControllerLaws.{reduced_controller_sound}
+use Rattle.gb_product.proofs.CoveringLaws.{HoldsKnown-means}
 
 -- ---- what is given back
 
@@ -609,10 +614,41 @@ Means-with_values s v entry base x cuts holds m =
       summary = m.summary;
     }
 
+-- so do its banks
+Means-with_controller : (s : AbsState) (c : Ctl) (entry : Activation) (base : ℕ) (x : MState) → HoldsController c entry x.storage.banks → Means s entry base x → Means (with_controller s c) entry base x
+Means-with_controller s c entry base x h m =
+    let core : MeansCore (record s.core { ctl = c }) entry x = record {
+      registers = m.parts.core.registers;
+      flags = m.parts.core.flags;
+      ie = m.parts.core.ie;
+      ime = m.parts.core.ime;
+      controller = h;
+      count = m.parts.core.count;
+      locked = m.parts.core.locked;
+      stopped = m.parts.core.stopped;
+    } in
+    record {
+      parts = record { core = core; memory = m.parts.memory; sp = m.parts.sp; stack = m.parts.stack; items = m.parts.items; cells = m.parts.cells };
+      related = m.related;
+      summary = m.summary;
+    }
+
+Means-with_banks_cut : (s : AbsState) (entry : Activation) (base : ℕ) (x : MState) → AreBytes x.processor.registers → Means s entry base x → MeansIf (with_banks_cut entry.program s) entry base x
+unfolding with_banks_cut
+Means-with_banks_cut s entry base x bytes m =
+    let known = HoldsKnown-means s entry base x m in
+    choose (reduced_controller entry.program (values_in s) s.cells s.summary s.core.ctl)
+    ((reduced_controller_sound entry.program (values_in s) s.cells s.summary s.core.ctl _ refl).gives entry x.processor (peek x.storage) x.storage.banks refl bytes known.values known.bytes known.cells_hold
+    known.summary m.parts.core.controller)
+  where
+    choose : (o : Option Ctl) → HoldsControllerIf o entry x.storage.banks → MeansIf (option_map (with_controller s) o) entry base x
+    choose None h = h
+    choose (Some c) h = Means-with_controller s c entry base x h m
+
 -- cut, they mean the same; where nothing is left, none is meant
 pub Means-reduced :
     (s : AbsState) (entry : Activation) (base : ℕ) (x : MState)
-    → ReducesSoundly s → AreBytes x.processor.registers → Means s entry base x → MeansIf (reduced_state s) entry base x
+    → ReducesSoundly s → AreBytes x.processor.registers → Means s entry base x → MeansIf (reduced_state entry.program s) entry base x
 unfolding reduced_state
 Means-reduced s entry base x sound bytes m =
     choose (reduced v) (reduced_cuts v (reduced v) refl) (sound.gives x.processor.registers bytes holds)
@@ -626,18 +662,19 @@ Means-reduced s entry base x sound bytes m =
       pairs = m.related.pairs;
     }
 
-    choose : (o : Option Values) → IfSome o (IsCut v) → HoldsIn o x.processor.registers → MeansIf (with_values_if s o) entry base x
+    choose : (o : Option Values) → IfSome o (IsCut v) → HoldsIn o x.processor.registers → MeansIf (option_and_then (with_banks_cut entry.program) (with_values_if s o)) entry base x
     choose None cuts h = h
-    choose (Some w) cuts h = Means-with_values s w entry base x cuts h m
+    choose (Some w) cuts h = Means-with_banks_cut (with_values s w) entry base x bytes (Means-with_values s w entry base x cuts h m)
 
 Means-rejoined_reduced :
     (program : Program) (whole : Bool) (k : ℕ) (region : Region) (ranges : List Range) (names : List ℕ) (s exit : AbsState) (entry : Activation) (base : ℕ) (called : Activation) (x : MState)
     → ReducesSoundly (rejoined program whole k ranges names s exit) → HandsBack program k region ranges names s exit entry base called x
-    → MeansIf (reduced_state (rejoined program whole k ranges names s exit)) entry base x
+    → MeansIf (reduced_state program (rejoined program whole k ranges names s exit)) entry base x
 Means-rejoined_reduced program whole k region ranges names s exit entry base called x sound h =
-    Means-reduced (rejoined program whole k ranges names s exit) entry base x sound
+    subst (λ q. MeansIf (reduced_state q (rejoined program whole k ranges names s exit)) entry base x) h.caller_program
+    (Means-reduced (rejoined program whole k ranges names s exit) entry base x sound
     (registers_are_bytes exit.core called x h.exit_core h.exits.parts.core)
-    (Means-rejoined program whole k region ranges names s exit entry base called x h)
+    (Means-rejoined program whole k region ranges names s exit entry base called x h))
 
 -- where the callee comes back something is meant, and that holds
 Means-something :
@@ -648,28 +685,36 @@ Means-something :
 unfolding resumed
 Means-something program whole k region ranges names s exit entry base called x sound h =
     let some = something_left program whole k region ranges names s exit entry base called x h in
-    subst (λ b. MeansIf (cond b (reduced_state (rejoined program whole k ranges names s exit)) None) entry base x) (sym some)
+    subst (λ b. MeansIf (cond b (reduced_state program (rejoined program whole k ranges names s exit)) None) entry base x) (sym some)
     (Means-rejoined_reduced program whole k region ranges names s exit entry base called x (sound some) h)
 
 -- ---- what was computed
 
 -- with more items than a state holds
 pub too_deep :
-    (program : Program) (whole : Bool) (k : ℕ) (ranges : List Range) (names addresses : List ℕ) (s exit : AbsState) (kept : Kept) (core : Core) (relations : Relations) (v : Values)
+    (program : Program) (whole : Bool) (k : ℕ) (ranges : List Range) (names addresses : List ℕ) (s exit : AbsState) (kept : Kept) (core : Core) (relations : Relations) (v : Values) (cells : List Cell) (said : SummaryParts) (c : Ctl)
     → addresses ≡ given_addresses names exit.cells → kept ≡ kept_by ranges addresses s.relations.byte exit.core → core ≡ core_back program whole names s exit.core
     → relations ≡ returned kept s.relations exit.relations → Some v ≡ reduced (values_of core.registers relations.pairs)
-    → 255 < length (given_back_items k s.items exit.items) → IsTooDeep (reduced_state (rejoined program whole k ranges names s exit))
-unfolding rejoined reduced_state item_room
-too_deep program whole k ranges names addresses s exit kept core relations v given is is_core are e many =
+    → cells ≡ cells_back (cell_room Extended) (cell_back program whole names s) ranges s.cells exit.cells → said ≡ summary_back program whole ranges names s exit
+    → Some c ≡ reduced_controller program v cells said core.ctl
+    → 255 < length (given_back_items k s.items exit.items) → IsTooDeep (reduced_state program (rejoined program whole k ranges names s exit))
+unfolding rejoined reduced_state with_banks_cut item_room
+too_deep program whole k ranges names addresses s exit kept core relations v cells said c given is is_core are e is_cells is_said cuts many =
     let by = kept_by ranges (given_addresses names exit.cells) s.relations.byte exit.core in
     let same : relations ≡ returned by s.relations exit.relations =
     are ∙ ap (λ (o : Kept). returned o s.relations exit.relations) (is ∙ ap (λ (xs : List ℕ). kept_by ranges xs s.relations.byte exit.core) given) in
     let cut : Some v ≡ reduced (values_of (core_back program whole names s exit.core).registers (returned by s.relations exit.relations).pairs) =
-    e ∙ (ap (λ (c : Core). reduced (values_of c.registers relations.pairs)) is_core
+    e ∙ (ap (λ (d : Core). reduced (values_of d.registers relations.pairs)) is_core
     ∙ ap (λ (r : Relations). reduced (values_of (core_back program whole names s exit.core).registers r.pairs)) same) in
+    let t : AbsState = with_values (rejoined program whole k ranges names s exit) v in
+    let banks : Some c ≡ reduced_controller program v t.cells t.summary t.core.ctl =
+    cuts ∙ (ap (λ (xs : List Cell). reduced_controller program v xs said core.ctl) is_cells
+    ∙ (ap (λ (m : SummaryParts). reduced_controller program v t.cells m core.ctl) is_said
+    ∙ ap (λ (d : Core). reduced_controller program v t.cells t.summary d.ctl) is_core)) in
     record {
-      state = with_values (rejoined program whole k ranges names s exit) v;
-      is = ap (with_values_if (rejoined program whole k ranges names s exit)) (sym cut);
+      state = with_controller t c;
+      is = ap (λ o. option_and_then (with_banks_cut program) (with_values_if (rejoined program whole k ranges names s exit) o)) (sym cut)
+          ∙ ap (option_map (with_controller t)) (sym banks);
       deep = subst (λ n. 255 < n) (sym (given_back-count k s.items exit.items (val_back program whole names s))) many;
     }
 

@@ -35,29 +35,11 @@ use Rattle.gb_product.proofs.CoveringLaws.{Holds-byte}
 use Rattle.gb_product.proofs.Below.gb_abs_laws.CoveringLaws.{AreCells, Holds-any, Holds-cell, same_origin}
 use Rattle.gb_product.proofs.Below.gb_abs_laws.OriginLaws.{Holds-without_origin}
 use Rattle.gb_product.proofs.Below.gb_abs_laws.StackLaws.{AreTop, AreTop-youngest, youngest_is}
+use Rattle.gb_product.specs.Below.gb_abs_effects.Pairs.{word_or_any}
 use Rattle.gb_product.proofs.Below.gb_abs_effects_laws.PairLaws.{Holds-pushed}
 use Rattle.gb_calls.specs.Parts.{byte_there}
 use Rattle.gb_calls.specs.Resuming.{given_from, given_addresses}
-use Rattle.gb_calls.specs.Told.{word_or_any, byte_or_any, named, shared, have_some, told_of, told, is_left_of, is_left, given_back, place_back, val_back, cell_back}
-
--- ---- the return word
-
--- of two items or more
-pub last_two :
-    (s : AbsState) (items : List Val) (d : Val) → items ≡ s.items → 2 ≤ length items
-    → word_or_any (youngest s) ≡ record { high = slice_index_or items (length items - 2) d; low = slice_index_or items (length items - 1) d }
-last_two s items d same some = ap word_or_any (youngest_is s items d same some)
-
--- of fewer
-pub fewer_than_two : (s : AbsState) (items : List Val) → items ≡ s.items → length items < 2 → word_or_any (youngest s) ≡ record { high = any_val; low = any_val }
-unfolding youngest
-fewer_than_two s items same few = ap (λ xs. word_or_any (last_word xs)) (sym same) ∙ none
-  where
-    is_few : nat_lt (length items) 2 ≡ true
-    is_few = grind (arith, nat_tests)
-
-    none : word_or_any (last_word items) ≡ record { high = any_val; low = any_val }
-    none = rw is_few refl
+use Rattle.gb_calls.specs.Told.{byte_or_any, named, shared, have_some, told_of, told, is_left_of, is_left, given_back, place_back, val_back, cell_back}
 
 -- ---- what an origin names
 

@@ -1,5 +1,5 @@
 -- What a caller goes on with behind a call (own rules: calls).
-use Rattle.std.specs.Prelude.{◌≡◌, ℕ, ◌+◌, ◌*◌, ◌/◌, ◌<◌, Bool, true, false, not, ◌&&◌, ◌||◌, if◌then◌else◌, nat_lt, nat_le, List, [], ◌∷◌, length, map, take, Option, Some, None}
+use Rattle.std.specs.Prelude.{◌≡◌, ℕ, ◌+◌, ◌*◌, ◌/◌, ◌<◌, Bool, true, false, not, ◌&&◌, ◌||◌, if◌then◌else◌, nat_lt, nat_le, List, [], ◌∷◌, length, map, take, Option, Some, None, option_map, option_and_then}
 use Rattle.std.specs.List.{filter, list_all, list_any}
 use Rattle.gb_ops.specs.declared.machine.Kind.{Kind}
 use Rattle.gb_ops.specs.declared.machine.Kind.TheVariants as kind
@@ -29,6 +29,7 @@ use Rattle.gb_product.specs.Below.gb_abs.Covering.{cell_at}
 use Rattle.gb_product.specs.Below.gb_abs.Origins.{is_own}
 use Rattle.gb_product.specs.Below.gb_abs.Span.{one}
 use Rattle.gb_product.specs.Covering.{values_in}
+use Rattle.gb_product.specs.Reduced.{reduced_controller}
 use Rattle.gb_product.specs.Below.gb_summaries.declared.returning.GivenBack.{GivenBack}
 use Rattle.gb_product.specs.Below.gb_summaries.Returning.{is_byte_kept, summary_returned}
 use Rattle.gb_abs_memory.specs.Access.{is_range}
@@ -225,9 +226,16 @@ abbrev pub with_values_if : AbsState → Option Values → Option AbsState
 with_values_if s None = None
 with_values_if s (Some v) = Some (with_values s v)
 
--- registers and pairs are cut to what they leave each other; none where nothing is meant
-unfoldable pub reduced_state : AbsState → Option AbsState
-reduced_state s = with_values_if s (reduced (values_of s.core.registers s.relations.pairs))
+abbrev pub with_controller : AbsState → Ctl → AbsState
+with_controller s c = record s { core = record s.core { ctl = c } }
+
+-- the controller's banks are cut to what the places of its windows leave
+unfoldable pub with_banks_cut : Program → AbsState → Option AbsState
+with_banks_cut program s = option_map (with_controller s) (reduced_controller program (values_in s) s.cells s.summary s.core.ctl)
+
+-- registers and pairs are cut to what they leave each other, and then the banks; none where nothing is meant
+unfoldable pub reduced_state : Program → AbsState → Option AbsState
+reduced_state program s = option_and_then (with_banks_cut program) (with_values_if s (reduced (values_of s.core.registers s.relations.pairs)))
 
 -- ---- by those of version 4
 
@@ -258,7 +266,7 @@ is_something program true kept ranges s x = are_all_left program kept ranges s x
 unfoldable pub resumed : Program → Rules → Bool → ℕ → List Range → List ℕ → AbsState → AbsState → Option AbsState
 resumed program Simple whole k ranges kept s x = Some (resumed_alone ranges s x)
 resumed program Extended whole k ranges kept s x =
-    if is_something program whole kept ranges s x then reduced_state (rejoined program whole k ranges kept s x) else None
+    if is_something program whole kept ranges s x then reduced_state program (rejoined program whole k ranges kept s x) else None
 
 -- with more items than any state has
 pub record IsTooDeep (s : Option AbsState) : Type 0 where

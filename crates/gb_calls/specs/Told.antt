@@ -3,7 +3,6 @@ use Rattle.std.specs.Prelude.{ℕ, Bool, true, false, is_some, if◌then◌else�
 use Rattle.gb_domain.specs.declared.types.Origin.{Origin}
 use Rattle.gb_domain.specs.declared.types.Origin.TheVariants as origin
 use Rattle.gb_domain.specs.declared.types.Cell.{Cell}
-use Rattle.gb_domain.specs.declared.types.Halves.{Halves}
 use Rattle.gb_domain.specs.declared.types.Val.{Val}
 use Rattle.gb_domain.specs.Interval.{cut}
 use Rattle.gb_domain.specs.Summaries.{Program}
@@ -14,14 +13,10 @@ use Rattle.gb_product.specs.Below.gb_vals.Strided.{left_of}
 use Rattle.gb_product.specs.Below.gb_vals.Vals.{any_val}
 use Rattle.gb_product.specs.Below.gb_abs.Origins.{without_origin, is_own}
 use Rattle.gb_product.specs.Below.gb_abs.Stack.{youngest}
+use Rattle.gb_product.specs.Below.gb_abs_effects.Pairs.{word_or_any}
 use Rattle.gb_calls.specs.Parts.{byte_there}
 
 -- ---- what an origin of the callee's names
-
--- the bytes of a word; any where there is none
-abbrev pub word_or_any : Option Halves → Halves
-word_or_any None = record { high = any_val; low = any_val }
-word_or_any (Some w) = w
 
 -- the byte at an address; any where there is none
 abbrev pub byte_or_any : Program → AbsState → Option ℕ → Val
@@ -78,12 +73,12 @@ is_left program kept s exit = is_left_of program kept s exit.origin exit
 abbrev pub given_back : Origin → Val → Val → Val
 given_back o caller exit = if is_own o exit then caller else without_origin exit
 
--- what stands in the place of an origin's: in versions 1 to 3 its own copy alone is the caller's
+-- what a register or IE is to the caller, by its own origin: in versions 1 to 3 its own copy alone is the caller's
 abbrev pub place_back : Program → Bool → List ℕ → AbsState → Origin → Val → Val
 place_back program false kept s o exit = given_back o (named program kept s o) exit
 place_back program true kept s o exit = told program kept s exit
 
--- what stands elsewhere: in versions 1 to 3 it is no copy
+-- what an item or the value of a cell is to the caller: in versions 1 to 3 it is no copy
 abbrev pub val_back : Program → Bool → List ℕ → AbsState → Val → Val
 val_back program false kept s exit = without_origin exit
 val_back program true kept s exit = told program kept s exit

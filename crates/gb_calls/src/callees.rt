@@ -114,7 +114,7 @@ pub fn callee_in(
     address: u16,
     state: &Abs,
     room: &mut Abs,
-) -> Option<u8>
+) -> Option<u16>
     ensures exact { result ≡ Calls.callee_of program.now cert.now setting address state.now }
 {
     for i in 1..cert.procedures() {
@@ -133,7 +133,7 @@ pub fn callee(
     setting: Setting,
     address: u16,
     state: &Abs,
-) -> Option<u8>
+) -> Option<u16>
     ensures exact { result ≡ Calls.callee_of program.now cert.now setting address state.now }
 {
     let mut room = Abs::new(*state.core());

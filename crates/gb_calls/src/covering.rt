@@ -1,9 +1,8 @@
 //! Whether a state of a certificate stands for others, in its bytes.
 
 ghost use Rattle.std.specs.Prelude.{◌≡◌, ◌<◌, ◌&&◌, [], is_none};
-ghost use Rattle.std.specs.List.{flat_map};
 ghost use Rattle.gb_domain.specs.RelationRules.{test_alone};
-ghost use Rattle.gb_cert.specs.Below.gb_states.Spelling as spelled;
+ghost use Rattle.gb_cert.specs.Below.gb_states.Checked.{listed_cells};
 ghost use Rattle.gb_product.specs.Below.gb_abs.Covering.{covers_items};
 ghost use Rattle.gb_product.specs.Below.gb_relations.Transfer.{values_of};
 ghost use Rattle.gb_product.specs.Below.gb_summaries.Covering.{covers_summary};
@@ -33,7 +32,7 @@ fn covers_listed(
     claimed: &StateRef<'_>,
     cells: &[u8],
 ) -> bool
-    requires { cells.now ≡ flat_map spelled.cell claimed.now.cells }
+    requires { listed_cells cells.now ≡ claimed.now.cells }
     ensures { result ≡ (covers_items states.now.lists.now.items claimed.now.items && covers_cells program.now (values_of states.now.core.now.registers states.now.relations.now.pairs) states.now.lists.now.cells states.now.summary.now claimed.now.cells) }
 {
     if cells.is_empty() {
@@ -66,24 +65,30 @@ fn covers_nothing(states: &States<'_>) -> bool
 
 /// Whether what a state says of the whole program holds of others.
 #[tactic(auto, using(crate::proofs::CoveringLaws::covers_silence))]
-fn covers_summary_read(program: &Program<'_>, states: &States<'_>, claimed: &StateRef<'_>) -> bool
+fn covers_summary_read(
+    program: &Program<'_>,
+    states: &States<'_>,
+    claimed: &StateRef<'_>,
+    summary: &Summary,
+) -> bool
+    requires { summary.now ≡ claimed.now.summary }
     ensures { result ≡ covers_summary program.now (values_of states.now.core.now.registers states.now.relations.now.pairs) states.now.core.now.ctl states.now.lists.now.cells states.now.summary.now claimed.now.cells claimed.now.summary }
 {
-    let summary = claimed.summary();
     if summary.is_silent() {
         covers_nothing(states)
     } else {
-        covers_some(program, states, claimed, &summary)
+        covers_some(program, states, claimed, summary)
     }
 }
 
-/// Whether all of a state but the core and what it says of the whole program stands for that of others, where it may hold some.
+/// Whether all of a state but the core stands for that of others, where it may hold some.
 fn covers_read(program: &Program<'_>, states: &States<'_>, claimed: &StateRef<'_>) -> bool
-    ensures { result ≡ ((covers_items states.now.lists.now.items claimed.now.items && covers_cells program.now (values_of states.now.core.now.registers states.now.relations.now.pairs) states.now.lists.now.cells states.now.summary.now claimed.now.cells) && covers_relations states.now.core.now.registers states.now.relations.now claimed.now.relations) }
+    ensures { result ≡ (((covers_items states.now.lists.now.items claimed.now.items && covers_cells program.now (values_of states.now.core.now.registers states.now.relations.now.pairs) states.now.lists.now.cells states.now.summary.now claimed.now.cells) && covers_relations states.now.core.now.registers states.now.relations.now claimed.now.relations) && covers_summary program.now (values_of states.now.core.now.registers states.now.relations.now.pairs) states.now.core.now.ctl states.now.lists.now.cells states.now.summary.now claimed.now.cells claimed.now.summary) }
 {
-    let (relations, cells) = claimed.told();
-    covers_listed(program, states, claimed, cells)
-        && covers_relations(&states.core.registers, states.relations, &relations)
+    let told = claimed.told();
+    covers_listed(program, states, claimed, told.cells)
+        && covers_relations(&states.core.registers, states.relations, &told.relations)
+        && covers_summary_read(program, states, claimed, &told.summary)
 }
 
 /// The bounds of pairs are words.
@@ -121,7 +126,7 @@ fn covers_rest(program: &Program<'_>, states: &States<'_>, claimed: &StateRef<'_
     ensures { result ≡ (((covers_items states.now.lists.now.items claimed.now.items && covers_cells program.now (values_of states.now.core.now.registers states.now.relations.now.pairs) states.now.lists.now.cells states.now.summary.now claimed.now.cells) && covers_relations states.now.core.now.registers states.now.relations.now claimed.now.relations) && covers_summary program.now (values_of states.now.core.now.registers states.now.relations.now.pairs) states.now.core.now.ctl states.now.lists.now.cells states.now.summary.now claimed.now.cells claimed.now.summary) }
 {
     if claimed.has_lists() {
-        covers_read(program, states, claimed) && covers_summary_read(program, states, claimed)
+        covers_read(program, states, claimed)
     } else {
         covers_bare(states, claimed.test())
     }
@@ -133,6 +138,7 @@ fn covers_rest(program: &Program<'_>, states: &States<'_>, claimed: &StateRef<'_
 pub fn covers_states(program: &Program<'_>, states: &States<'_>, claimed: &StateRef<'_>) -> bool
     ensures { result ≡ covers program.now (with_parts states.now.core.now states.now.relations.now states.now.summary.now states.now.lists.now) claimed.now }
 {
-    covers_core_in(program.kind, states.core, claimed.bytes())
+    let (is_fourth, bytes) = claimed.core_bytes();
+    covers_core_in(program.kind, states.core, is_fourth, bytes)
         && covers_rest(program, states, claimed)
 }

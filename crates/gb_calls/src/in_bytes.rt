@@ -3,27 +3,24 @@
 ghost use Rattle.std.specs.Prelude.{◌≡◌, ◌+◌, ◌≤◌, ◌<◌, ◌==◌, [], length};
 ghost use Rattle.gb_product.specs.Below.gb_abs.Covering as Covering;
 ghost use Rattle.gb_cert.specs.Below.gb_states.Checked.{core_in, flg_in, val_in, vals_in, listed_items};
-ghost use Rattle.gb_cert.specs.Below.gb_states.Reading.{origin_of};
+ghost use Rattle.gb_cert.specs.Below.gb_states.WholeReading.{to_val};
 
-use gb_cert::{ctl_in, ime_in, origin_of};
+use gb_cert::{ctl_in, ime_in, val_of};
 use gb_domain::types::{Core, Flg, Val};
 use gb_ops::machine::Kind;
 use gb_ops::registers::Registers;
-use gb_product::{covers_controller, covers_ime, covers_origin};
+use gb_product::{covers_controller, covers_ime, covers_val};
 
 /// The bytes of a core.
 const CORE: usize = 40;
 
 /// Whether the value at a place stands for this one.
 #[inline(always)]
-#[tactic(auto, unfolding(crate::specs::Opened::covers_val))]
 fn covers_val_in(s: &Val, bytes: &[u8], place: usize) -> bool
     requires { place + 3 ≤ length bytes.now }
     ensures { result ≡ Covering.covers_val s.now (val_in bytes.now place) }
 {
-    bytes[place] <= s.lo
-        && s.hi <= bytes[place + 1]
-        && covers_origin(s.origin, origin_of(bytes[place + 2]))
+    covers_val(s, &val_of(bytes[place], bytes[place + 1], bytes[place + 2]))
 }
 
 #[inline(always)]
@@ -43,11 +40,10 @@ fn covers_registers_in(s: &Registers<Val>, bytes: &[u8]) -> bool
 
 /// Whether the value of these bytes stands for this one.
 #[inline(always)]
-#[tactic(auto, unfolding(crate::specs::Opened::covers_val))]
-fn covers_val_of(s: &Val, lo: u8, hi: u8, number: u8) -> bool
-    ensures { result ≡ Covering.covers_val s.now (record { lo = lo; hi = hi; low_bits = 0; origin = origin_of number }) }
+fn covers_val_of(s: &Val, lo: u8, hi: u8, tag: u8) -> bool
+    ensures { result ≡ Covering.covers_val s.now (to_val ((lo, hi), tag)) }
 {
-    lo <= s.lo && s.hi <= hi && covers_origin(s.origin, origin_of(number))
+    covers_val(s, &val_of(lo, hi, tag))
 }
 
 /// Whether there are no items.
@@ -99,11 +95,12 @@ fn covers_flags_in(s: &Flg, bits: u8, own: u8) -> bool
         && (own != 2 || s.is_own)
 }
 
-/// Whether the core at the front of bytes that have been checked stands for what this one does, in a cartridge with such a controller.
+/// Whether the core at the front of bytes that have been checked, of version 4 or not, stands for what this one does, in a cartridge with
+/// such a controller.
 #[tactic(auto, unfolding(crate::specs::Opened::covers_core))]
-pub(crate) fn covers_core_in(kind: Kind, s: &Core, bytes: &[u8]) -> bool
+pub(crate) fn covers_core_in(kind: Kind, s: &Core, is_fourth: bool, bytes: &[u8]) -> bool
     requires { 40 ≤ length bytes.now }
-    ensures { result ≡ Covering.covers_core kind s.now (core_in bytes.now) }
+    ensures { result ≡ Covering.covers_core kind s.now (core_in is_fourth bytes.now) }
 {
     // The length is tested once, and not at each byte.
     if bytes.len() < CORE {
@@ -113,7 +110,7 @@ pub(crate) fn covers_core_in(kind: Kind, s: &Core, bytes: &[u8]) -> bool
         && covers_flags_in(&s.flags, bytes[14], bytes[15])
         && covers_val_in(&s.ie, bytes, 16)
         && covers_ime(&s.ime, &ime_in(bytes[0]))
-        && covers_controller(kind, &s.ctl, &ctl_in(bytes))
+        && covers_controller(kind, &s.ctl, &ctl_in(is_fourth, bytes))
         && s.bound <= bytes[1]
         && (bytes[2] != 1 || s.stack_set)
 }

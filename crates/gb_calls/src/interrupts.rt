@@ -90,7 +90,7 @@ pub fn handler(
     i: u8,
     address: u16,
     state: &Abs,
-) -> Option<u8>
+) -> Option<u16>
     requires { i < 5 }
     ensures exact { result ≡ Interrupts.handler_of program.now cert.now setting i address state.now }
 {

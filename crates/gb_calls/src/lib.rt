@@ -29,9 +29,7 @@ mod told;
 pub use resuming::{Resumed, Return};
 
 // What lies below, for the crates above.
-pub use gb_cert::{
-    AnyCert, Cert, CertFault, Found, NodeRef, ProcedureRef, StateRef, begins_fourth, test_alone,
-};
+pub use gb_cert::{Cert, CertFault, Found, NodeRef, ProcedureRef, StateRef, test_alone};
 pub use gb_domain::low_bits::are_congruent;
 pub use gb_domain::summary::{BankShadows, Shadows, Summary};
 pub use gb_product::covering::{covers_relations, covers_said};

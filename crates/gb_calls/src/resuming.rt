@@ -19,6 +19,7 @@ use gb_domain::summary::Summary;
 use gb_domain::types::{Abs, Cell, Core, Ctl, KeptBanks, Origin, Range, Rules, Val};
 use gb_ops::machine::Kind;
 use gb_ops::registers::Registers;
+use gb_product::reduced::reduced_controller;
 use gb_product::{
     GivenBack, Kept, KnownRam, Program, Values, is_byte_kept, is_own, only_of_a, reduce, returned,
     summary_returned,
@@ -338,8 +339,8 @@ fn are_too_many(count: u8, held: &[Val], exit: &[Val]) -> bool
 }
 
 /// What a caller goes on with, in the place of other states: its waiting items and the exit's behind them, and what is known
-/// together on either side, cut to what registers and pairs leave each other.
-#[tactic(auto, unfolding(crate::specs::Resuming::rejoined, crate::specs::Resuming::reduced_state))]
+/// together on either side, cut to what registers and pairs leave each other, and the banks to what their places leave.
+#[tactic(auto, unfolding(crate::specs::Resuming::rejoined, crate::specs::Resuming::reduced_state, crate::specs::Resuming::with_banks_cut))]
 fn put_rejoined(
     caller: &Caller<'_>,
     count: u8,
@@ -347,7 +348,7 @@ fn put_rejoined(
     exit: &Abs,
     resumed: &mut Abs,
 ) -> Return
-    ensures exact { Resuming.IsResumed (Resuming.resumed_to result resumed.new) (Resuming.reduced_state (Resuming.rejoined caller.now.program.now caller.now.is_whole count ranges.now caller.now.kept.now.items caller.now.state.now exit.now)) }
+    ensures exact { Resuming.IsResumed (Resuming.resumed_to result resumed.new) (Resuming.reduced_state caller.now.program.now (Resuming.rejoined caller.now.program.now caller.now.is_whole count ranges.now caller.now.kept.now.items caller.now.state.now exit.now)) }
     ensures reducing { ReducesSoundly (Resuming.rejoined caller.now.program.now caller.now.is_whole count ranges.now caller.now.kept.now.items caller.now.state.now exit.now) }
 {
     let state = caller.state;
@@ -359,14 +360,29 @@ fn put_rejoined(
     if !reduce(&mut core.registers, &mut relations.pairs) {
         return Return::Nothing;
     }
+    let cells = cells_back(Rules::Extended, caller, ranges, exit.cells());
+    let summary = summary_back(caller, ranges, addresses, exit, cells.as_slice());
+    let values = Values {
+        registers: core.registers,
+        pairs: relations.pairs,
+    };
+    let cut = reduced_controller(
+        caller.program,
+        &values,
+        cells.as_slice(),
+        &summary,
+        &core.ctl,
+    );
+    let Some(ctl) = cut else {
+        return Return::Nothing;
+    };
     if are_too_many(count, state.items(), exit.items()) {
         return Return::TooDeep;
     }
-    resumed.set_plain(core);
+    resumed.set_plain(Core { ctl, ..core });
     resumed.set_relations(relations);
     append_given_back(caller, count, state.items(), exit.items(), resumed);
-    let cells = cells_back(Rules::Extended, caller, ranges, exit.cells());
-    resumed.set_summary(summary_back(caller, ranges, addresses, exit, cells.as_slice()));
+    resumed.set_summary(summary);
     resumed.set_cells(cells);
     Return::States
 }

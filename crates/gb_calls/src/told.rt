@@ -1,15 +1,16 @@
 //! What the values of a callee's exit are to its caller: of copies, the caller's own state says what they are copies of.
 
 ghost use Rattle.std.specs.Prelude.{◌≡◌, slice_get};
-ghost use Rattle.gb_product.specs.Below.gb_abs.Stack.{youngest};
 ghost use Rattle.gb_calls.specs.Parts as Parts;
 ghost use Rattle.gb_calls.specs.Told as Told;
 
 use arrayvec::ArrayVec;
 use gb_domain::interval::cut;
-use gb_domain::types::{Abs, Cell, Halves, Origin, Val};
+use gb_domain::types::{Abs, Cell, Origin, Val};
 use gb_domain::values::interval_of;
-use gb_product::{Program, States, any, byte_of, flags_val, is_own, without_origin};
+use gb_product::{
+    Program, States, any, byte_of, flags_val, is_own, left_of, top_word, without_origin,
+};
 
 /// A caller's state as it called, and the addresses that its callee names to be kept.
 #[derive(Clone, Copy)]
@@ -26,23 +27,6 @@ pub(crate) fn byte_there(program: &Program<'_>, state: &Abs, address: u16) -> Va
     ensures { result ≡ Parts.byte_there program.now state.now address }
 {
     byte_of(program, &States::of(state), address)
-}
-
-/// The return word that a state has on the stack; any where there is none.
-#[tactic(auto, using(crate::proofs::ToldLaws::last_two, crate::proofs::ToldLaws::fewer_than_two))]
-fn return_word(state: &Abs) -> Halves
-    ensures { result ≡ Told.word_or_any (youngest state.now) }
-{
-    match state.items() {
-        [.., high, low] => Halves {
-            high: *high,
-            low: *low,
-        },
-        _ => Halves {
-            high: any(),
-            low: any(),
-        },
-    }
 }
 
 /// The byte at the kept address with a number; any where there is none.
@@ -72,8 +56,8 @@ fn named(caller: &Caller<'_>, origin: Origin) -> Val
         Origin::H => registers.h,
         Origin::L => registers.l,
         Origin::Ie => core.ie,
-        Origin::ReturnHigh => return_word(caller.state).high,
-        Origin::ReturnLow => return_word(caller.state).low,
+        Origin::ReturnHigh => top_word(caller.state).high,
+        Origin::ReturnLow => top_word(caller.state).low,
         Origin::Kept(number) => kept_byte(caller, number),
         Origin::MarkHigh | Origin::MarkLow => any(),
     }
@@ -85,15 +69,7 @@ fn named(caller: &Caller<'_>, origin: Origin) -> Val
 fn shared(val: Val, other: Val) -> Val
     ensures { result ≡ Told.shared val other }
 {
-    match cut(interval_of(val), interval_of(other)) {
-        None => val,
-        Some(left) => Val {
-            lo: left.lo,
-            hi: left.hi,
-            low_bits: left.count,
-            origin: val.origin,
-        },
-    }
+    left_of(val, cut(interval_of(val), interval_of(other)))
 }
 
 /// Whether two values have some in common.
@@ -139,7 +115,7 @@ fn given_back(caller: &Caller<'_>, origin: Origin, exit: Val) -> Val
     }
 }
 
-/// What stands in the place of an origin's. In versions 1 to 3 its own copy alone is the caller's.
+/// What a register or IE is to the caller, by its own origin. In versions 1 to 3 its own copy alone is the caller's.
 pub(crate) fn place_back(caller: &Caller<'_>, origin: Origin, exit: Val) -> Val
     ensures { result ≡ Told.place_back caller.now.program.now caller.now.is_whole caller.now.kept.now.items caller.now.state.now origin exit }
 {
@@ -150,7 +126,7 @@ pub(crate) fn place_back(caller: &Caller<'_>, origin: Origin, exit: Val) -> Val
     }
 }
 
-/// What stands elsewhere. In versions 1 to 3 it is no copy.
+/// What an item or the value of a cell is to the caller. In versions 1 to 3 it is no copy.
 pub(crate) fn val_back(caller: &Caller<'_>, exit: Val) -> Val
     ensures { result ≡ Told.val_back caller.now.program.now caller.now.is_whole caller.now.kept.now.items caller.now.state.now exit }
 {

@@ -4,7 +4,7 @@ use Rattle.std.specs.Prelude.{is_some}
 use Rattle.std.proofs.lemmas.List.{drop_all}
 use Rattle.gb_states.specs.Below.gb_fields.declared.fault.CertFault.{CertFault}
 use Rattle.gb_states.specs.WholeReading.{or_else}
-use Rattle.gb_cert.specs.AnyPlaces.{entry_fault_at, entries_fault_at}
+use Rattle.gb_cert.specs.Entries.{entry_fault_at, entries_fault_at}
 
 -- the first of those that are left, and the others
 pub one_entry : (version number i : ℕ) (bytes nodes places ps : List ℕ) → i < length ps

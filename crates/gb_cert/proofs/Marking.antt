@@ -7,7 +7,7 @@ use Rattle.gb_states.specs.WholeRules.{kept_count}
 use Rattle.gb_states.proofs.Formats.{IsBytes, IsFormat, went_on, same_pair}
 use Rattle.gb_states.proofs.Several.{goes_on, ends}
 use Rattle.gb_cert.specs.Places.{IsLeft}
-use Rattle.gb_cert.specs.AnyPlaces.{AreCounted}
+use Rattle.gb_cert.specs.Places.{AreCounted}
 use Rattle.gb_cert.proofs.Placing.{left-behind, drop-left, bytes-left, at-more, UnderWay, way-begins, way-done, mapped_wrong}
 
 map-more : {X Y : Type 0} (f : X → Y) (xs : List X) (x : X) → map f xs ++ f x ∷ [] ≡ map f (xs ++ x ∷ [])

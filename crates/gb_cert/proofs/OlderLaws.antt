@@ -25,10 +25,7 @@ use Rattle.gb_states.specs.Reading.{have_entries_in}
 use Rattle.gb_states.specs.WholeRules.{kept_counts, kept_of, in_order_by, AreFactsBy, IsProcedureBy, IsNodeBy, IsCertificate}
 use Rattle.gb_states.specs.WholeReading.{facts_by, procedure_by, node_by, behind_facts, Parts, procedures_at, nodes_at, entries_fault, entries_fault_in, to_certificate, behind_head, certificate_at, read_certificate, is_fourth, begins_fourth}
 use Rattle.gb_states.proofs.FieldLaws.{same}
-use Rattle.gb_cert.proofs.CertificateLaws.{or_either, found}
-use Rattle.gb_states.proofs.Formats.{IsBytes}
-use Rattle.gb_cert.specs.Places.{AreAt, IsLaid, ok_or, no_certificate, certificate_in}
-use Rattle.gb_cert.specs.AnyPlaces.{any_certificate_in, IsFound}
+use Rattle.gb_cert.proofs.HeadLaws.{or_either}
 use Rattle.gb_cert.proofs.WholeCertificateLaws.{HeadParts, unless, unordered}
 
 abbrev Lists : Type 0
@@ -64,27 +61,9 @@ version-same (Ok (rules, [])) h = refl
 version-same (Ok (Simple, v ∷ rest)) h = refl
 version-same (Ok (Extended, v ∷ rest)) h = one-same Extended (v == 3) (v == 4) v rest h refl
 
-not-older : (rules : Rules) (v : ℕ) → v ≡ 4 → is_version_of rules v ≡ false
-not-older Simple v e = rw e refl
-not-older Extended v e = rw e refl
-
-one-refused : (rules : Rules) (b : Bool) (v : ℕ) (rest : List ℕ) → is_fourth (one_version b rules v rest) ≡ true → one_version (is_version_of rules v) rules v rest ≡ Err fault.Version
-one-refused rules true v rest h = rw (not-older rules v (same v 4 h)) refl
-one-refused rules false v rest h = cc
-
-version-refused : (r : Result (Rules × List ℕ) CertFault) → is_fourth (behind_letters is_any_version_of r) ≡ true → behind_letters is_version_of r ≡ Err fault.Version
-version-refused (Err e) h = cc
-version-refused (Ok (rules, [])) h = cc
-version-refused (Ok (rules, v ∷ rest)) h = one-refused rules (is_any_version_of rules v) v rest h
-
 older-version : (bytes : List ℕ) → begins_fourth bytes ≡ false → any_version_at bytes ≡ version_at bytes
 unfolding any_version_at version_at
 older-version bytes h = version-same (magic_at bytes) h
-
--- What was read before version 4 refuses it.
-pub refuses_fourth : (bytes : List ℕ) → begins_fourth bytes ≡ true → simple.read_certificate bytes ≡ Err fault.Version
-unfolding any_version_at version_at head_at simple.read_certificate simple.certificate_at
-refuses_fourth bytes h = rw (version-refused (magic_at bytes) h) refl
 
 -- ---- what is behind it
 
@@ -174,7 +153,7 @@ reads_older bytes h = ap (λ (r : Rest Certificate). go_on r ended) (versioned-s
 
 -- ---- rules and spelling
 
-not-fourth : (v : ℕ) → is_version v ≡ true → (v == 4) ≡ false
+pub not-fourth : (v : ℕ) → is_version v ≡ true → (v == 4) ≡ false
 not-fourth v h = elim (or_either (v == 1) (v == 2 || v == 3) h) [
   | inl e ↦ (let f = same v 1 e in rw f refl)
   | inr g ↦ elim (or_either (v == 2) (v == 3) g) [
@@ -239,25 +218,3 @@ any_spells bytes c h = record { is_certificate = any_certificate c h.is_certific
 
 pub older_spells : (bytes : List ℕ) (c : Certificate) → spelled.Spells bytes c → (c.version == 4) ≡ false → simple_spelled.Spells bytes c
 older_spells bytes c h k = record { is_certificate = older_certificate c h.is_certificate k; is_spelling = h.is_spelling ∙ spelled_older c k }
-
--- What was found of a certificate that isn't of version 4 is a certificate of versions 1 to 3.
-pub older_laid : (bytes : List ℕ) (version : ℕ) (region : Region) (facts : List Fact) (counts procedures nodes : List ℕ) → IsBytes bytes → begins_fourth bytes ≡ false → IsFound bytes version region facts counts procedures nodes → IsLaid bytes version region procedures nodes (certificate_in bytes)
-older_laid bytes version region facts counts procedures nodes fit older f =
-    let c = any_certificate_in bytes in
-    let laid = f.is_laid in
-    let r : simple.read_certificate bytes ≡ Ok c = sym (reads_older bytes older) ∙ f.is_read in
-    let s = found bytes c fit r in
-    let k = not-fourth c.version s.is_certificate.version in
-    let made : IsLaid bytes version region procedures nodes c = record {
-      spells = s;
-      version_is = laid.version_is;
-      region_is = laid.region_is;
-      procedures_at = subst (λ (b : Bool). AreAt (spelled.procedure_by b c.version) bytes (flat_map (spelled.node_by b c.version) c.nodes) procedures c.procedures) k laid.procedures_at;
-      nodes_at = subst (λ (b : Bool). AreAt (spelled.node_by b c.version) bytes [] nodes c.nodes) k laid.nodes_at;
-    } in
-    subst (λ d. IsLaid bytes version region procedures nodes d) (sym (ap (ok_or no_certificate) r)) made
-
-pub older_read : (bytes : List ℕ) (version : ℕ) (region : Region) (facts : List Fact) (counts procedures nodes : List ℕ) → begins_fourth bytes ≡ false → IsFound bytes version region facts counts procedures nodes → simple.read_certificate bytes ≡ Ok (certificate_in bytes)
-older_read bytes version region facts counts procedures nodes older f =
-    let r : simple.read_certificate bytes ≡ Ok (any_certificate_in bytes) = sym (reads_older bytes older) ∙ f.is_read in
-    r ∙ ap (λ (d : Certificate). Ok d) (sym (ap (ok_or no_certificate) r))

@@ -11,6 +11,7 @@ use Rattle.gb_states.specs.declared.role.Role.{Role}
 use Rattle.gb_states.specs.declared.role.Role.TheVariants as role
 use Rattle.gb_domain.specs.Types.{AbsState, Node}
 use Rattle.gb_states.specs.Below.gb_fields.Format.{Read, go_on, followed, both, mapped, optional, several}
+use Rattle.gb_cert.specs.Borrowed.{front_at}
 use Rattle.gb_cert.specs.Skipping.{skipped, past}
 use Rattle.gb_cert.proofs.Placing.{mapped_wrong}
 use Rattle.gb_states.specs.Rules.{role_of, key}
@@ -123,6 +124,19 @@ unfolding exit_at
 exit_wrong rules is_main region bytes e h = rw h refl
 
 pub ruleset skip_exit = (exit_then, no_exit, exit_wrong)
+
+pub front_then : (rules : Rules) (is_main : Bool) (region : Region) (bytes : List ℕ) → skipped (front_at rules is_main region) bytes ≡ past (skipped (base_at rules is_main region) bytes) (skipped (both (need_at rules is_main region) (ranges_at rules is_main region)))
+front_then rules is_main region bytes = skipped-both (base_at rules is_main region) (both (need_at rules is_main region) (ranges_at rules is_main region)) bytes
+
+pub ruleset skip_front = (front_then)
+
+pub ranges_then : (rules : Rules) (is_main : Bool) (region : Region) (bytes : List ℕ) (need : ℕ) (first : List ℕ) → need_at rules is_main region bytes ≡ Ok (need, first) → skipped (both (need_at rules is_main region) (ranges_at rules is_main region)) bytes ≡ skipped (ranges_at rules is_main region) first
+ranges_then rules is_main region bytes need first e = skipped-followed (need_at rules is_main region) (λ n. ranges_at rules is_main region) bytes need first e
+
+pub no_ranges : (rules : Rules) (is_main : Bool) (region : Region) (bytes : List ℕ) (e : CertFault) → need_at rules is_main region bytes ≡ Err e → skipped (both (need_at rules is_main region) (ranges_at rules is_main region)) bytes ≡ Err e
+no_ranges rules is_main region bytes e h = rw h refl
+
+pub ruleset skip_need = (ranges_then, no_ranges)
 
 pub need_then :
     (rules : Rules) (is_main : Bool) (region : Region) (bytes : List ℕ) (need : ℕ) (first : List ℕ) → need_at rules is_main region bytes ≡ Ok (need, first)

@@ -29,7 +29,7 @@ use Rattle.gb_states.proofs.FieldLaws.{and_both, both_and, same, last_small, spe
 use Rattle.gb_states.proofs.StateLaws.{lt_is, is_lt, IsFormat-procedure, IsFormat-node}
 use Rattle.gb_states.proofs.WholeSummaryLaws.{IsFormat-facts}
 use Rattle.gb_states.proofs.WholeNodeLaws as whole
-use Rattle.gb_cert.proofs.CertificateLaws.{IsRegionFor, IsFormat-region, spelled_magic, IsFormat-magic, or_either, IsFormat-node_count, whole_is}
+use Rattle.gb_cert.proofs.HeadLaws.{IsRegionFor, IsFormat-region, spelled_magic, IsFormat-magic, or_either, IsFormat-node_count, whole_is}
 
 -- ---- the version
 

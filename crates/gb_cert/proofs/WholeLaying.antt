@@ -15,9 +15,10 @@ use Rattle.gb_states.specs.WholeRules.{kept_counts, kept_of}
 use Rattle.gb_states.specs.WholeReading.{facts_by, procedures_at, nodes_at, entries_fault, Parts, to_certificate, certificate_at, read_certificate}
 use Rattle.gb_states.specs.WholeSpelling as spelled
 use Rattle.gb_cert.specs.Places.{IsLeft, AreAt, ArePlaced, ok_or, no_certificate}
-use Rattle.gb_cert.specs.AnyPlaces.{AreCounted, entries_fault_at, any_certificate_in, IsAnyLaid, IsFound}
+use Rattle.gb_cert.specs.Places.{AreCounted, certificate_in, IsLaid, IsFound}
+use Rattle.gb_cert.specs.Entries.{entries_fault_at}
 use Rattle.gb_states.proofs.Formats.{IsBytes}
-use Rattle.gb_cert.proofs.AnyEntries.{AreFound, entries-of, entries-few, keys-few}
+use Rattle.gb_cert.proofs.EntryLaws.{AreFound, entries-of, entries-few, keys-few}
 use Rattle.gb_cert.proofs.Placing.{left-behind, bytes-left}
 use Rattle.gb_cert.proofs.WholeCertificateLaws.{spelled_head, IsHead, IsFormat-head, IsFormat-facts_by, facts-few, last-of, IsFormat-procedures, AreFew, few-counts, IsFormat-nodes, found}
 
@@ -157,7 +158,7 @@ all-read : (bytes : List ℕ) (h : Head) (first : List ℕ) (facts : List Fact) 
 unfolding end_by
 all-read bytes h first facts second procedures counts third nodes fourth w g l = ends bytes h first facts second procedures counts third nodes fourth w ∙ rw (g, l) refl
 
-in-bytes : (bytes : List ℕ) (c : Certificate) → read_certificate bytes ≡ Ok c → any_certificate_in bytes ≡ c
+in-bytes : (bytes : List ℕ) (c : Certificate) → read_certificate bytes ≡ Ok c → certificate_in bytes ≡ c
 in-bytes bytes c e = ap (ok_or no_certificate) e
 
 pub is-found : (bytes : List ℕ) (h : Head) (first : List ℕ) (facts : List Fact) (second procedures counts third nodes fourth : List ℕ) → IsWalked bytes h first facts second procedures counts third nodes fourth → entries_fault_at h.version bytes nodes procedures 0 procedures ≡ None → (length fourth == 0) ≡ true
@@ -173,7 +174,7 @@ is-found bytes h first facts second procedures counts third nodes fourth w g l =
     let few = counts-few bytes h first facts second procedures counts third w.are_bytes w.head w.facts_read w.of_procedures in
     let taken = (IsFormat-nodes h (length facts) counts is small few).takes third ns fourth (bytes-left bytes third w.of_procedures.placed.is_left w.are_bytes) w.of_nodes.is_read in
     let behind : third ≡ flat_map node ns = taken.parts ∙ ap (λ (z : List ℕ). flat_map node ns ++ z) none ∙ append-nil (flat_map node ns) in
-    let laid : IsAnyLaid bytes h.version h.region facts counts procedures nodes (made h facts ps ns) = record {
+    let laid : IsLaid bytes h.version h.region facts counts procedures nodes (made h facts ps ns) = record {
       spells = found bytes (made h facts ps ns) w.are_bytes r;
       version_is = refl;
       region_is = refl;
@@ -184,7 +185,7 @@ is-found bytes h first facts second procedures counts third nodes fourth w g l =
     } in
     record {
       is_read = r ∙ ap (λ (c : Certificate). Ok c) (sym (in-bytes bytes (made h facts ps ns) r));
-      is_laid = subst (λ c. IsAnyLaid bytes h.version h.region facts counts procedures nodes c) (sym (in-bytes bytes (made h facts ps ns) r)) laid;
+      is_laid = subst (λ c. IsLaid bytes h.version h.region facts counts procedures nodes c) (sym (in-bytes bytes (made h facts ps ns) r)) laid;
     }
 
 pub none_of : (o : Option CertFault) → ((e : CertFault) → o ≡ Some e → ⊥) → o ≡ None

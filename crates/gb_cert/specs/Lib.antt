@@ -1,5 +1,5 @@
-pub mod AnyPlaces
 pub mod Borrowed
+pub mod Entries
 pub mod Places
 pub mod Skipping
 pub mod Spelled

@@ -2,13 +2,15 @@
 use Rattle.std.specs.Prelude.{◌≡◌, ℕ, ◌==◌, if◌then◌else◌, List, [], ◌∷◌, ◌++◌, drop, Result, Ok, Err}
 use Rattle.std.specs.List.{flat_map}
 use Rattle.gb_ops.specs.declared.machine.Region.{Region}
+use Rattle.gb_domain.specs.declared.summary.Fact.{Fact}
+use Rattle.gb_domain.specs.Types.{ProcedureParts}
+use Rattle.gb_domain.specs.Certificate.{Certificate}
 use Rattle.gb_states.specs.Below.gb_fields.declared.fault.CertFault.{CertFault}
 use Rattle.gb_states.specs.Below.gb_fields.declared.fault.CertFault.TheVariants as fault
-use Rattle.gb_domain.specs.Certificate.{Certificate}
-use Rattle.gb_domain.specs.Limits.{rules_of}
-use Rattle.gb_states.specs.Reading.{read_certificate}
-use Rattle.gb_states.specs.Spelling as spelled
-use Rattle.gb_states.specs.Spelling.{Spells}
+use Rattle.gb_states.specs.WholeRules.{kept_counts}
+use Rattle.gb_states.specs.WholeReading.{read_certificate}
+use Rattle.gb_states.specs.WholeSpelling as spelled
+use Rattle.gb_states.specs.WholeSpelling.{Spells}
 
 -- The second is what is left of the first behind some bytes.
 pub record IsLeft (bytes rest : List ℕ) : Type 0 where
@@ -38,6 +40,11 @@ abbrev pub FindsUnlessMemory : {X Y : Type 0} → (X → Type 0) → Result X Ce
 FindsUnlessMemory right (Ok x) read = right x
 FindsUnlessMemory right (Err e) read = (e ≡ fault.Memory → ⊥) → read ≡ Err e
 
+-- What reading gives are procedures at these places, and each names so many addresses to be kept.
+pub record AreCounted (write : ProcedureParts → List ℕ) (bytes : List ℕ) (read : Result (List ProcedureParts × List ℕ) CertFault) (places counts rest : List ℕ) : Type 0 where
+  pub placed : ArePlaced write bytes read places rest
+  pub counts_are : counts ≡ kept_counts placed.items
+
 -- ---- certificates
 
 -- a value, where there is one
@@ -53,13 +60,21 @@ no_certificate = record { version = 0; procedures = []; nodes = []; region = rec
 abbrev pub certificate_in : List ℕ → Certificate
 certificate_in bytes = ok_or no_certificate (read_certificate bytes)
 
--- The bytes spell a certificate of this version and region, and its procedures and nodes are at these places.
-pub record IsLaid (bytes : List ℕ) (version : ℕ) (region : Region) (procedures nodes : List ℕ) (c : Certificate) : Type 0 where
+-- The bytes spell a certificate of this version and region, which says these facts; its procedures and nodes are at these places, and of the
+-- procedures each names so many addresses to be kept.
+pub record IsLaid (bytes : List ℕ) (version : ℕ) (region : Region) (facts : List Fact) (counts procedures nodes : List ℕ) (c : Certificate) : Type 0 where
   pub spells : Spells bytes c
   pub version_is : version ≡ c.version
   pub region_is : region ≡ c.region
-  pub procedures_at : AreAt (spelled.procedure c.version) bytes (flat_map (spelled.node (rules_of c.version)) c.nodes) procedures c.procedures
-  pub nodes_at : AreAt (spelled.node (rules_of c.version)) bytes [] nodes c.nodes
+  pub facts_are : facts ≡ c.facts
+  pub counts_are : counts ≡ kept_counts c.procedures
+  pub procedures_at : AreAt (spelled.procedure_by (c.version == 4) c.version) bytes (flat_map (spelled.node_by (c.version == 4) c.version) c.nodes) procedures c.procedures
+  pub nodes_at : AreAt (spelled.node_by (c.version == 4) c.version) bytes [] nodes c.nodes
+
+-- Reading gives this certificate, and its parts were found.
+pub record IsFound (bytes : List ℕ) (version : ℕ) (region : Region) (facts : List Fact) (counts procedures nodes : List ℕ) : Type 0 where
+  pub is_read : read_certificate bytes ≡ Ok (certificate_in bytes)
+  pub is_laid : IsLaid bytes version region facts counts procedures nodes (certificate_in bytes)
 
 -- a version whose numbers of nodes have four bytes, by the same rules: 2 in place of 1
 unfoldable pub upgraded_version : ℕ → ℕ

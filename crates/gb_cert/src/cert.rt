@@ -1,29 +1,43 @@
 //! Certificates, in the bytes of their files.
 
-ghost use Rattle.std.specs.Prelude.{◌≡◌, ◌==◌, ◌<◌, ◌≤◌, ◌-◌, false, length, take, slice_get, Some, IfSome, IfOk};
+ghost use Rattle.std.specs.Prelude.{◌≡◌, ◌==◌, ◌<◌, ◌≤◌, ◌-◌, true, false, ℕ, List, length, take, slice_get, Some, Ok, IfSome, IfOk};
 ghost use Rattle.std.specs.List.{flat_map};
+ghost use Rattle.gb_domain.specs.Certificate.{Certificate};
 ghost use Rattle.gb_domain.specs.Limits.{rules_of};
 ghost use Rattle.gb_cert.specs.Places.{upgraded_version};
+ghost use Rattle.gb_states.specs.Below.gb_fields.Format.{Gives, GivesUnlessMemory, both};
+ghost use Rattle.gb_states.specs.Below.gb_fields.Reading.{word};
+ghost use Rattle.gb_states.specs.Forms.{form_by};
+ghost use Rattle.gb_states.specs.Rules as older;
 ghost use Rattle.gb_states.specs.Spelling as spelled;
-ghost use Rattle.gb_states.specs.Spelling.{Spells};
+ghost use Rattle.gb_states.specs.WholeRules.{IsCertificate, kept_of};
+ghost use Rattle.gb_states.specs.WholeReading.{number_by, read_certificate};
+ghost use Rattle.gb_states.specs.WholeSpelling as whole;
+ghost use Rattle.gb_states.specs.WholeSpelling.{Spells};
 
 use crate::node::NodeRef;
+use crate::parse::{Walked, walk};
 use crate::procedure::ProcedureRef;
-use crate::walk::skip_body;
+use crate::walk::{kept_of, skip_body};
 use gb_domain::summary::Fact;
 use gb_domain::types::Rules;
 use gb_ops::machine::Region;
-use gb_states::{from_place, front_at, node_number};
+use gb_states::form::procedure_at;
+use gb_states::numbers::word;
+use gb_states::{CertFault, Form, from_place, front_at, node_number};
 use std::alloc::{AllocError, Global};
 use std::marker::Model;
 
-/// A certificate, in the bytes of its file, which it borrows. It keeps where each procedure and
-/// each node stands. Contracts see its version, its procedures, its nodes and its stack region.
+/// A certificate of version 1, 2, 3 or 4, in the bytes of its file, which it borrows. It keeps its facts, where each procedure
+/// and each node stands, and how many addresses each procedure names to be kept. Contracts see its version, its procedures, its
+/// nodes, its stack region and its facts.
 #[derive(Drop)]
 pub struct Cert<'a> {
     bytes: &'a [u8],
     version: u8,
     region: Region,
+    facts: Vec<Fact>,
+    counts: Vec<u8>,
     procedures: Vec<usize>,
     nodes: Vec<usize>,
 }
@@ -37,34 +51,88 @@ impl<'a> Model for Cert<'a> {
 
     ghost view = { λ c. certificate_in c.bytes.now };
 
-    ghost invariant = { λ c. IsLaid c.bytes.now c.version c.region c.procedures.items c.nodes.items (certificate_in c.bytes.now) };
+    ghost invariant = { λ c. IsLaid c.bytes.now c.version c.region c.facts.items c.counts.items c.procedures.items c.nodes.items (certificate_in c.bytes.now) };
+}
+
+/// The procedure, the address and the bank of a node.
+#[inline(always)]
+fn front_by(version: u8, bytes: &[u8]) -> Result<((u16, (u16, u16)), &[u8]), CertFault>
+    ensures { Gives (λ x. (x.0, x.1.now)) result (both (number_by (version == 4)) (both word word) bytes.now) }
+{
+    if version == 4 {
+        let (procedure, rest) = word(bytes)?;
+        let (address, rest) = word(rest)?;
+        let (bank, rest) = word(rest)?;
+        Ok(((procedure, (address, bank)), rest))
+    } else {
+        let ((procedure, behind), rest) = front_at(bytes)?;
+        Ok(((procedure as u16, behind), rest))
+    }
+}
+
+/// How the states of the procedure with this number are spelled; each names so many addresses to be kept.
+#[inline(always)]
+fn form_of(version: u8, facts: &[Fact], counts: &[u8], procedure: u16) -> Form
+    requires { length facts.now < 65536 }
+    ensures { result ≡ form_by (version == 4) version (length facts.now) (kept_of counts.now procedure) }
+{
+    if version == 4 {
+        Form::Fourth(facts.len() as u16, kept_of(counts, procedure))
+    } else {
+        Form::Older(Rules::of(version))
+    }
+}
+
+/// The certificate that is all of the bytes.
+fn read(alloc: Global, bytes: &[u8]) -> Result<Cert<'_>, CertFault>
+    ensures { GivesUnlessMemory (λ c. c) result (read_certificate bytes.now) }
+{
+    let found = walk(alloc, bytes)?;
+    Ok(Cert::of_parts(bytes, found))
 }
 
 impl<'a> Cert<'a> {
-    ghost use Rattle.gb_cert.specs.Places.{certificate_in, IsLaid};
-    ghost use Rattle.gb_states.specs.Rules.{IsCertificate};
+    ghost use Rattle.gb_cert.specs.Places.{certificate_in, IsFound};
 
-    /// The certificate in these bytes, its procedures and nodes at these places.
-    pub(crate) fn of_parts(
-        bytes: &'a [u8],
-        version: u8,
-        region: Region,
-        procedures: Vec<usize>,
-        nodes: Vec<usize>,
-    ) -> Cert<'a>
-        requires { IsLaid bytes.now version region procedures.items nodes.items (certificate_in bytes.now) }
+    /// The certificate in these bytes, its parts as they were found.
+    fn of_parts(bytes: &'a [u8], found: Walked) -> Cert<'a>
+        requires { IsFound bytes.now found.version found.region found.facts.items found.counts.items found.procedures.items found.nodes.items }
         ensures { result ≡ certificate_in bytes.now }
     {
+        let Walked {
+            version,
+            region,
+            facts,
+            counts,
+            procedures,
+            nodes,
+        } = found;
         Cert {
             bytes,
             version,
             region,
+            facts,
+            counts,
             procedures,
             nodes,
         }
     }
 
-    /// Its version: 1, 2 or 3.
+    /// The certificate that the bytes spell, or the first fault. It borrows the bytes, and takes a place of 8 bytes for each
+    /// procedure and each node, and room for its facts.
+    pub fn parse(alloc: Global, bytes: &'a [u8]) -> Result<Cert<'a>, CertFault>
+        // What is read is spelled so.
+        ensures found { IfOk result (λ cert. Spells bytes.now cert) }
+        // What is spelled so is read, unless memory runs out.
+        ensures only { (cert : Certificate) → Spells bytes.now cert → GivesUnlessMemory (λ c. c) result (Ok cert) }
+        // Which fault it is.
+        ensures exact { GivesUnlessMemory (λ c. c) result (read_certificate bytes.now) }
+    {
+        let cert = read(alloc, bytes)?;
+        Ok(cert)
+    }
+
+    /// Its version: 1, 2, 3 or 4.
     pub fn version(&self) -> u8
         ensures { result ≡ self.now.version }
     {
@@ -78,11 +146,11 @@ impl<'a> Cert<'a> {
         self.nodes.len() as u32
     }
 
-    /// The number of procedures, at most 255.
-    pub fn procedures(&self) -> u8
+    /// The number of procedures, at most 65,535, or 255 in versions 1 to 3.
+    pub fn procedures(&self) -> u16
         ensures { result ≡ length self.now.procedures }
     {
-        self.procedures.len() as u8
+        self.procedures.len() as u16
     }
 
     /// The declared stack region. Each certificate keeps the rules of certificates.
@@ -97,8 +165,7 @@ impl<'a> Cert<'a> {
     pub fn facts(&self) -> &[Fact]
         ensures { result.now ≡ self.now.facts }
     {
-        let _region = self.region();
-        &[]
+        self.facts.as_slice()
     }
 
     /// A node, by its number.
@@ -108,33 +175,37 @@ impl<'a> Cert<'a> {
         ensures { slice_get self.now.nodes i ≡ Some result }
     {
         let place = self.nodes[i as usize];
-        match front_at(from_place(self.bytes, place)) {
+        let facts = self.facts.as_slice();
+        let counts = self.counts.as_slice();
+        match front_by(self.version, from_place(self.bytes, place)) {
             Ok((front, state)) => {
-                let rules = Rules::of(self.version);
-                NodeRef::of_parts(rules, front.0, front.1.0, front.1.1, self.region, state)
+                let form = form_of(self.version, facts, counts, front.0);
+                NodeRef::of_parts(form, front.0, front.1.0, front.1.1, self.region, state)
             }
             Err(_) => unreachable!(),
         }
     }
 
     /// A procedure, by its number.
-    pub fn procedure(&self, i: u8) -> ProcedureRef<'a>
+    pub fn procedure(&self, i: u16) -> ProcedureRef<'a>
         requires { i < length self.now.procedures }
         ensures { slice_get self.now.procedures i ≡ Some result }
     {
         let place = self.procedures[i as usize];
+        let facts = self.facts.as_slice().len() as u16;
         match node_number(self.version, from_place(self.bytes, place)) {
             Ok((entry, body)) => {
-                let rules = Rules::of(self.version);
-                ProcedureRef::of_parts(rules, i == 0, entry, self.region, body)
+                ProcedureRef::of_parts(self.version, facts, i == 0, entry, self.region, body)
             }
             Err(_) => unreachable!(),
         }
     }
 
-    /// The bytes of a procedure behind its entry: in version 3 its base, then its need, its ranges and its exit.
-    pub fn procedure_body(&self, i: u8) -> &'a [u8]
-        requires { i < length self.now.procedures }
+    /// The bytes of a procedure of version 1, 2 or 3 after its entry: in version 3 its base, then its need, its ranges and its
+    /// exit.
+    pub fn procedure_body(&self, i: u16) -> &'a [u8]
+        requires number { i < length self.now.procedures }
+        requires older { (self.now.version == 4) ≡ false }
         ensures { IfSome (slice_get self.now.procedures i) (λ p. result.now ≡ spelled.body (rules_of self.now.version) p) }
     {
         let start = self.procedures[i as usize];
@@ -157,16 +228,17 @@ impl<'a> Cert<'a> {
 
     /// The bytes of all its nodes.
     pub fn node_bytes(&self) -> &'a [u8]
-        ensures { result.now ≡ flat_map (spelled.node (rules_of self.now.version)) self.now.nodes }
+        ensures { result.now ≡ flat_map (whole.node_by (self.now.version == 4) self.now.version) self.now.nodes }
     {
         let place = self.nodes[0];
         from_place(self.bytes, place)
     }
 
-    /// The head of the same certificate, in version 2 if it is of version 1. Behind it stand for each procedure its entry in
-    /// four bytes and its body, and then the bytes of all nodes.
+    /// The head of the same certificate of version 1, 2 or 3, in version 2 if it is of version 1. After it come for each
+    /// procedure its entry in four bytes and its body, and then the bytes of all nodes.
     #[tactic(auto, unfolding(crate::specs::Places::upgraded_version))]
     pub fn upgraded_head(&self) -> [u8; 14]
+        requires { (self.now.version == 4) ≡ false }
         ensures head { result ≡ spelled.head (record self.now { version = upgraded_version self.now.version }) }
         ensures certificate { IsCertificate (record self.now { version = upgraded_version self.now.version }) }
     {
@@ -174,10 +246,12 @@ impl<'a> Cert<'a> {
         self.head_in(if version == 1 { 2 } else { version })
     }
 
-    /// The head of a certificate of this version, which isn't 1, with the same region and as many procedures and nodes.
-    #[tactic(auto, unfolding(gb_domain::specs::Limits::rules_of, gb_states::specs::Spelling::head, gb_states::specs::Spelling::node_number))]
+    /// The head of a certificate of this version, 2 or 3, with the same region and as many procedures and nodes as one of
+    /// version 1, 2 or 3.
+    #[tactic(auto, unfolding(gb_states::specs::Spelling::head, gb_states::specs::Spelling::node_number))]
     pub fn head_in(&self, version: u8) -> [u8; 14]
-        requires { (version == 1) ≡ false }
+        requires other { (version == 1) ≡ false }
+        requires older { (self.now.version == 4) ≡ false }
         ensures { result ≡ spelled.head (record self.now { version = version }) }
     {
         let region = self.region();
@@ -188,13 +262,16 @@ impl<'a> Cert<'a> {
             b'G',
             b'B',
             b'B',
-            if version == 3 { b'X' } else { b'C' },
+            match Rules::of(version) {
+                Rules::Simple => b'C',
+                Rules::Extended => b'X',
+            },
             version,
             (region.first % 256) as u8,
             (region.first / 256) as u8,
             (region.last % 256) as u8,
             (region.last / 256) as u8,
-            self.procedures(),
+            self.procedures() as u8,
             (low % 256) as u8,
             (low / 256) as u8,
             (high % 256) as u8,
@@ -217,3 +294,17 @@ pub fn encode(alloc: Global, cert: &Cert<'_>) -> Result<Vec<u8>, AllocError>
 {
     Vec::from_slice(alloc, cert.bytes())
 }
+
+/// A certificate has one spelling, and bytes spell at most one certificate.
+pub fn one_spelling()
+    ensures spelling { (a b : List ℕ) (cert : Certificate) → Spells a cert → Spells b cert → a ≡ b }
+    ensures certificate { (bytes : List ℕ) (a b : Certificate) → Spells bytes a → Spells bytes b → a ≡ b }
+{}
+
+/// A certificate of versions 1 to 3 keeps the rules of these, whose definitions don't speak of version 4, and is spelled by them.
+pub fn older_rules()
+    ensures older { (cert : Certificate) → IsCertificate cert → (cert.version == 4) ≡ false → older.IsCertificate cert }
+    ensures whole { (cert : Certificate) → older.IsCertificate cert → IsCertificate cert × ((cert.version == 4) ≡ false) }
+    ensures older_spelling { (bytes : List ℕ) (cert : Certificate) → Spells bytes cert → (cert.version == 4) ≡ false → spelled.Spells bytes cert }
+    ensures whole_spelling { (bytes : List ℕ) (cert : Certificate) → spelled.Spells bytes cert → Spells bytes cert }
+{}

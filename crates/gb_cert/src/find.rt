@@ -27,7 +27,7 @@ impl<'c, 'a> Rows for NodeRows<'c, 'a> {
         cert.nodes()
     }
 
-    fn key(&mut self, i: u32) -> (u8, u16) {
+    fn key(&mut self, i: u32) -> (u16, u16) {
         self.asked = self.asked.saturating_add(1);
         let cert = self.cert;
         let node = cert.node(i);
@@ -63,7 +63,7 @@ impl<'a> Cert<'a> {
 
     /// The numbers of the nodes of a procedure at an address, by `find_in`: at most 32 keys are asked for among
     /// 65,535 nodes, 42 among 1,048,576.
-    pub fn find(&self, procedure: u8, address: u16) -> Search
+    pub fn find(&self, procedure: u16, address: u16) -> Search
         ensures found { IsFound (map key self.now.nodes) (procedure, address) result.found.first result.found.after }
         ensures few { length self.now.nodes ≤ 65535 → result.asked ≤ 32 }
         ensures most { length self.now.nodes ≤ 1048576 → result.asked ≤ 42 }
@@ -80,7 +80,7 @@ impl<'a> Cert<'a> {
     /// The number of the first node of a procedure at an address, by `first_near`: quickly found where it is a little above
     /// `near`. Where there is none it is the number of nodes before. At most 32 keys are asked for among 65,535 nodes, 42
     /// among 1,048,576.
-    pub fn first_near(&self, near: u32, procedure: u8, address: u16) -> First
+    pub fn first_near(&self, near: u32, procedure: u16, address: u16) -> First
         ensures first { IsBetween (map key self.now.nodes) false (procedure, address) result.number result.number }
         ensures few { length self.now.nodes ≤ 65535 → result.asked ≤ 32 }
         ensures most { length self.now.nodes ≤ 1048576 → result.asked ≤ 42 }
@@ -96,7 +96,7 @@ impl<'a> Cert<'a> {
 
     /// The numbers of the nodes of a procedure at an address, the first of which is known, by `found_from`. At most 32 keys
     /// are asked for among 65,535 nodes, 42 among 1,048,576.
-    pub fn found_from(&self, first: u32, procedure: u8, address: u16) -> Search
+    pub fn found_from(&self, first: u32, procedure: u16, address: u16) -> Search
         requires { IsBetween (map key self.now.nodes) false (procedure, address) first first }
         ensures found { IsFound (map key self.now.nodes) (procedure, address) result.found.first result.found.after }
         ensures few { length self.now.nodes ≤ 65535 → result.asked ≤ 32 }

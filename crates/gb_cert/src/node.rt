@@ -1,16 +1,14 @@
 //! A node of a certificate, in the bytes of its file.
 
 ghost use Rattle.std.specs.Prelude.{◌≡◌, false, []};
-ghost use Rattle.std.specs.List.{flat_map};
 ghost use Rattle.gb_domain.specs.Types.{state_of};
 ghost use Rattle.gb_domain.specs.RelationRules.{compared, test_alone};
 ghost use Rattle.gb_domain.specs.Summaries.{no_summary};
-ghost use Rattle.gb_states.specs.Spelling as spelled;
 
 use crate::state::StateRef;
-use gb_domain::types::{Abs, Core, Rules};
+use gb_domain::types::{Abs, Core};
 use gb_ops::machine::Region;
-use gb_states::fields::{core_in, test_in};
+use gb_states::Form;
 use gb_states::relations::test_alone;
 use gb_states::role::Role;
 use std::marker::Model;
@@ -19,8 +17,8 @@ use std::marker::Model;
 /// It borrows the certificate's bytes.
 #[derive(Drop)]
 pub struct NodeRef<'a> {
-    rules: Rules,
-    procedure: u8,
+    form: Form,
+    procedure: u16,
     address: u16,
     bank: u16,
     region: Region,
@@ -35,9 +33,9 @@ impl<'a> Model for NodeRef<'a> {
     ghost use Rattle.gb_states.specs.Rules.{role_of};
     ghost use Rattle.gb_cert.specs.Borrowed.{state_in, StateStands};
 
-    ghost view = { λ n. record { procedure = n.procedure; address = n.address; bank = n.bank; state = state_in n.rules (role_of n.procedure) n.region n.state.now } };
+    ghost view = { λ n. record { procedure = n.procedure; address = n.address; bank = n.bank; state = state_in n.form (role_of n.procedure) n.region n.state.now } };
 
-    ghost invariant = { λ n. StateStands n.rules (role_of n.procedure) n.region n.state.now (state_in n.rules (role_of n.procedure) n.region n.state.now) };
+    ghost invariant = { λ n. StateStands n.form (role_of n.procedure) n.region n.state.now (state_in n.form (role_of n.procedure) n.region n.state.now) };
 }
 
 impl<'a> NodeRef<'a> {
@@ -46,18 +44,18 @@ impl<'a> NodeRef<'a> {
 
     /// The node of these parts, its state at the front of the bytes.
     pub(crate) fn of_parts(
-        rules: Rules,
-        procedure: u8,
+        form: Form,
+        procedure: u16,
         address: u16,
         bank: u16,
         region: Region,
         state: &'a [u8],
     ) -> NodeRef<'a>
-        requires { StateStands rules (role_of procedure) region state.now (state_in rules (role_of procedure) region state.now) }
-        ensures { result ≡ record { procedure = procedure; address = address; bank = bank; state = state_in rules (role_of procedure) region state.now } }
+        requires { StateStands form (role_of procedure) region state.now (state_in form (role_of procedure) region state.now) }
+        ensures { result ≡ record { procedure = procedure; address = address; bank = bank; state = state_in form (role_of procedure) region state.now } }
     {
         NodeRef {
-            rules,
+            form,
             procedure,
             address,
             bank,
@@ -67,7 +65,7 @@ impl<'a> NodeRef<'a> {
     }
 
     /// The number of the procedure that it is a node of.
-    pub fn procedure(&self) -> u8
+    pub fn procedure(&self) -> u16
         ensures { result ≡ self.now.procedure }
     {
         self.procedure
@@ -91,7 +89,7 @@ impl<'a> NodeRef<'a> {
     pub fn core(&self) -> Core
         ensures { result ≡ self.now.state.core }
     {
-        core_in(self.state)
+        self.lent().known_core()
     }
 
     /// What its state's flags say of A where nothing else is known of several parts together: the value that the state's
@@ -100,10 +98,11 @@ impl<'a> NodeRef<'a> {
     pub fn test(&self) -> Option<u8>
         ensures { result ≡ compared self.now.state.relations.byte.test }
     {
-        test_in(self.state)
+        self.lent().test()
     }
 
-    /// Whether its state may hold items or cells, or what is known of several parts together but a test of A.
+    /// Whether its state may hold items or cells, know more of several parts together than a test of A, or say something of the
+    /// whole program.
     #[inline(always)]
     pub fn has_lists(&self) -> bool
         ensures lists { result ≡ false → (self.now.state.items ≡ []) × (self.now.state.cells ≡ []) }
@@ -115,7 +114,7 @@ impl<'a> NodeRef<'a> {
 
     /// Its state, in the place of another one. It takes no memory.
     #[inline(always)]
-    #[tactic(auto, using(crate::proofs::CheckedLaws::plain_state))]
+    #[tactic(auto, using(crate::proofs::StateLending::plain_state))]
     pub fn read(&self, state: &mut Abs)
         ensures { state.new ≡ self.now.state }
     {
@@ -155,25 +154,6 @@ impl<'a> NodeRef<'a> {
     pub fn lent(&self) -> StateRef<'a>
         ensures { result ≡ self.now.state }
     {
-        StateRef::of_parts(
-            self.rules,
-            Role::of(self.procedure),
-            self.region,
-            self.state,
-        )
-    }
-
-    /// The bytes of its state's stack items, three each, the oldest first.
-    pub fn items(&self) -> &'a [u8]
-        ensures { result.now ≡ flat_map spelled.val self.now.state.items }
-    {
-        self.lent().items()
-    }
-
-    /// The bytes of its state's memory cells, five each, in order of address.
-    pub fn cells(&self) -> &'a [u8]
-        ensures { result.now ≡ flat_map spelled.cell self.now.state.cells }
-    {
-        self.lent().cells()
+        StateRef::of_parts(self.form, Role::of(self.procedure), self.region, self.state)
     }
 }

@@ -1,7 +1,7 @@
 //! The entries of procedures, by the places of procedures and nodes.
 
 ghost use Rattle.std.specs.Prelude.{◌≡◌, ◌==◌, Some, slice_get};
-ghost use Rattle.gb_cert.specs.AnyPlaces.{key_at_place, entry_key, entry_address, is_of_number, is_in_order_at, is_uncrowded_at, entry_fault_at, entries_fault_at};
+ghost use Rattle.gb_cert.specs.Entries.{key_at_place, entry_key, entry_address, is_of_number, is_in_order_at, is_uncrowded_at, entry_fault_at, entries_fault_at};
 
 use gb_states::form::procedure_at;
 use gb_states::limits::NAMESAKE_LIMIT;
@@ -22,7 +22,7 @@ fn key_at_place(version: u8, bytes: &[u8], place: usize) -> Option<(u16, u16)>
 }
 
 /// The same of the entry node of the procedure at this place.
-#[tactic(auto, unfolding(crate::specs::AnyPlaces::entry_key))]
+#[tactic(auto, unfolding(crate::specs::Entries::entry_key))]
 fn entry_key(version: u8, bytes: &[u8], nodes: &[usize], place: usize) -> Option<(u16, u16)>
     ensures { result ≡ entry_key version bytes.now nodes.now place }
 {
@@ -55,7 +55,7 @@ fn entry_address(
 }
 
 /// Whether the procedure with this number begins at no lower address than the one before it, main apart.
-#[tactic(auto, unfolding(crate::specs::AnyPlaces::is_in_order_at))]
+#[tactic(auto, unfolding(crate::specs::Entries::is_in_order_at))]
 fn is_in_order_at(
     version: u8,
     bytes: &[u8],
@@ -73,7 +73,7 @@ fn is_in_order_at(
 }
 
 /// Whether another address begins 1,024 procedures before the one with this number, main apart.
-#[tactic(auto, unfolding(crate::specs::AnyPlaces::is_uncrowded_at))]
+#[tactic(auto, unfolding(crate::specs::Entries::is_uncrowded_at))]
 fn is_uncrowded_at(
     version: u8,
     bytes: &[u8],
@@ -102,7 +102,7 @@ fn is_own_at(version: u8, bytes: &[u8], nodes: &[usize], number: usize, place: u
 }
 
 /// What is wrong with the entry of the procedure with this number, at this place.
-#[tactic(auto, unfolding(crate::specs::AnyPlaces::entry_fault_at))]
+#[tactic(auto, unfolding(crate::specs::Entries::entry_fault_at))]
 fn entry_fault_at(
     version: u8,
     bytes: &[u8],

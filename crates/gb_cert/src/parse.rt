@@ -1,25 +1,20 @@
 //! Certificates from their bytes.
 
-ghost use Rattle.std.specs.Prelude.{◌≡◌, ◌==◌, ◌≤◌, ◌<◌, true, false, ℕ, List, IfOk, Ok};
-ghost use Rattle.gb_domain.specs.Certificate.{Certificate};
+ghost use Rattle.std.specs.Prelude.{◌≡◌, ◌==◌, ◌≤◌, ◌<◌, true, ℕ};
 ghost use Rattle.gb_states.specs.Below.gb_fields.Format.{GivesUnlessMemory};
 ghost use Rattle.gb_states.specs.Below.gb_fields.Limits.{node_limit, procedure_limit_by};
 ghost use Rattle.gb_states.specs.Below.gb_fields.Reading.{head_in};
-ghost use Rattle.gb_states.specs.Reading as older;
-ghost use Rattle.gb_states.specs.Spelling.{Spells};
 ghost use Rattle.gb_states.specs.WholeRules.{kept_of};
-ghost use Rattle.gb_states.specs.WholeReading.{facts_by, procedures_at, nodes_at, read_certificate, begins_fourth};
+ghost use Rattle.gb_states.specs.WholeReading.{facts_by, procedures_at, nodes_at, read_certificate};
 ghost use Rattle.gb_states.specs.WholeSpelling as spelled;
-ghost use Rattle.gb_cert.specs.Places.{IsLeft, ArePlaced, FindsUnlessMemory};
-ghost use Rattle.gb_cert.specs.AnyPlaces.{AreCounted, IsFound};
+ghost use Rattle.gb_cert.specs.Places.{IsLeft, ArePlaced, AreCounted, IsFound, FindsUnlessMemory};
 
-use crate::cert::Cert;
 use crate::order::entries_fault_at;
 use crate::walk::{skip_node, skip_procedure_by};
 use gb_domain::summary::Fact;
 use gb_ops::machine::Region;
 use gb_states::whole::facts_at;
-use gb_states::{AnyHead, CertFault, any_head_at, any_version_at};
+use gb_states::{AnyHead, CertFault, any_head_at};
 use std::alloc::Global;
 
 /// The least bytes of a node.
@@ -142,59 +137,3 @@ pub(crate) fn walk(alloc: Global, bytes: &[u8]) -> Result<Walked, CertFault>
         nodes,
     })
 }
-
-/// Whether the bytes begin as those of a certificate of version 4 do.
-pub fn begins_fourth(bytes: &[u8]) -> bool
-    ensures { result ≡ begins_fourth bytes.now }
-{
-    match any_version_at(bytes) {
-        Ok((version, _)) => version == 4,
-        Err(_) => false,
-    }
-}
-
-/// The certificate of version 1, 2 or 3 that is all of the bytes.
-fn read(alloc: Global, bytes: &[u8]) -> Result<Cert<'_>, CertFault>
-    ensures { GivesUnlessMemory (λ c. c) result (older.read_certificate bytes.now) }
-{
-    // The rules that nodes and procedures keep are those of versions 1 to 3.
-    if begins_fourth(bytes) {
-        return Err(CertFault::Version);
-    }
-    let Walked {
-        version,
-        region,
-        procedures,
-        nodes,
-        ..
-    } = walk(alloc, bytes)?;
-    Ok(Cert::of_parts(bytes, version, region, procedures, nodes))
-}
-
-impl<'a> Cert<'a> {
-    /// The certificate of version 1, 2 or 3 that the bytes spell, or the first fault. It borrows the bytes, and takes
-    /// a place of 8 bytes for each procedure and each node.
-    pub fn parse(alloc: Global, bytes: &'a [u8]) -> Result<Cert<'a>, CertFault>
-        // What is read is spelled so.
-        ensures found { IfOk result (λ cert. Spells bytes.now cert) }
-        // What is spelled so is read, unless memory runs out.
-        ensures only { (cert : Certificate) → Spells bytes.now cert → GivesUnlessMemory (λ c. c) result (Ok cert) }
-        // Which fault it is.
-        ensures exact { GivesUnlessMemory (λ c. c) result (older.read_certificate bytes.now) }
-    {
-        let cert = read(alloc, bytes)?;
-        Ok(cert)
-    }
-}
-
-/// A certificate has one spelling, and bytes spell at most one certificate.
-pub fn one_spelling()
-    ensures spelling { (a b : List ℕ) (cert : Certificate) → Spells a cert → Spells b cert → a ≡ b }
-    ensures certificate { (bytes : List ℕ) (a b : Certificate) → Spells bytes a → Spells bytes b → a ≡ b }
-{}
-
-/// Version 4 changes nothing for a certificate of versions 1 to 3: it is one of any version, and has the same spelling.
-pub fn older_spelling()
-    ensures any { (bytes : List ℕ) (cert : Certificate) → Spells bytes cert → spelled.Spells bytes cert }
-    ensures older { (bytes : List ℕ) (cert : Certificate) → spelled.Spells bytes cert → (cert.version == 4) ≡ false → Spells bytes cert }
-{}

@@ -1,25 +1,28 @@
 //! A procedure of a certificate, in the bytes of its file.
 
-ghost use Rattle.std.specs.Prelude.{◌≡◌, ◌<◌, true, is_ok};
-ghost use Rattle.gb_cert.specs.Borrowed.{exit_in};
+ghost use Rattle.std.specs.Prelude.{◌≡◌, ◌<◌, ◌==◌, true, length, is_ok};
+ghost use Rattle.gb_states.specs.Below.gb_fields.Format.{Gives, mapped};
 ghost use Rattle.gb_states.specs.Below.gb_fields.Rules.{usual_base};
-ghost use Rattle.gb_states.specs.Reading.{exit_at};
+ghost use Rattle.gb_states.specs.Forms.{form_by, IsFit};
+ghost use Rattle.gb_cert.specs.Borrowed.{exit_by, exit_in, names_by};
 
 use crate::state::StateRef;
-use crate::walk::{skip_base, skip_ranges};
+use crate::walk::{skip_base, skip_front};
 use arrayvec::ArrayVec;
 use gb_domain::types::{Abs, Range, Rules};
 use gb_ops::machine::Region;
 use gb_states::role::Role;
 use gb_states::states::ranges_at;
-use gb_states::{CertFault, base_at, need_at, returns_at};
+use gb_states::whole::kept_addresses_at;
+use gb_states::{CertFault, Form, base_at, byte, need_at, returns_at};
 use std::marker::Model;
 
-/// A procedure: where it begins, above which address its items end, how many bytes of stack it needs, what it may write,
-/// and in what state it returns, if it does. It borrows the certificate's bytes.
+/// A procedure: where it begins, above which address its items end, how many bytes of stack it needs, what it may write, which
+/// addresses it names to be kept, its mark, and in what state it returns, if it does. It borrows the certificate's bytes.
 #[derive(Drop)]
 pub struct ProcedureRef<'a> {
-    rules: Rules,
+    version: u8,
+    facts: u16,
     is_main: bool,
     entry: u32,
     region: Region,
@@ -31,57 +34,88 @@ impl<'a> Model for ProcedureRef<'a> {
 
     ghost Value = { ProcedureParts };
 
+    ghost use Rattle.std.specs.Prelude.{◌==◌};
     ghost use Rattle.gb_cert.specs.Borrowed.{procedure_in, BodyStands};
 
-    ghost view = { λ p. procedure_in p.rules p.is_main p.entry p.region p.body.now };
+    ghost view = { λ p. procedure_in (p.version == 4) p.version p.facts p.is_main p.entry p.region p.body.now };
 
-    ghost invariant = { λ p. BodyStands p.rules p.is_main p.region p.body.now (procedure_in p.rules p.is_main p.entry p.region p.body.now) };
+    ghost invariant = { λ p. BodyStands (p.version == 4) p.version p.facts p.is_main p.region p.body.now (procedure_in (p.version == 4) p.version p.facts p.is_main p.entry p.region p.body.now) };
 }
 
 /// In what state a procedure returns, if it does, in the bytes.
-fn exit_lent<'a>(
-    rules: Rules,
-    is_main: bool,
-    region: Region,
-    bytes: &'a [u8],
-) -> Option<StateRef<'a>>
-    requires { is_ok (exit_at rules is_main region bytes.now) ≡ true }
-    ensures { result ≡ exit_in rules is_main region bytes.now }
+fn exit_lent<'a>(form: Form, is_main: bool, region: Region, bytes: &'a [u8]) -> Option<StateRef<'a>>
+    requires fit { IsFit form }
+    requires right { is_ok (exit_by form is_main region bytes.now) ≡ true }
+    ensures { result ≡ exit_in form is_main region bytes.now }
 {
     let Ok((returns, exit)) = returns_at(is_main, bytes) else {
         unreachable!();
     };
     if returns {
-        Some(StateRef::of_parts(rules, Role::Exit, region, exit))
+        Some(StateRef::of_parts(form, Role::Exit, region, exit))
     } else {
         None
     }
 }
 
 /// The base that versions 1 and 2 don't say.
-pub(crate) fn usual_base(is_main: bool, region: Region) -> u16
+fn usual_base(is_main: bool, region: Region) -> u16
     requires { region.last < 65535 }
     ensures { result ≡ usual_base is_main region }
 {
     if is_main { region.last + 1 } else { 0 }
 }
 
+/// The addresses whose bytes are to be kept, and the mark: none, and 0, in versions 1 to 3.
+fn names_by(
+    version: u8,
+    is_main: bool,
+    region: Region,
+    bytes: &[u8],
+) -> Result<((ArrayVec<u16, 16>, u8), &[u8]), CertFault>
+    ensures { Gives (λ x. ((x.0.0.items, x.0.1), x.1.now)) result (names_by (version == 4) is_main region bytes.now) }
+{
+    if version == 4 {
+        let (kept, rest) = kept_addresses_at(is_main, region, bytes)?;
+        let (mark, rest) = byte(rest)?;
+        Ok(((kept, mark), rest))
+    } else {
+        Ok(((ArrayVec::new(), 0), bytes))
+    }
+}
+
+/// How the state of an exit is spelled, which may name the addresses that are to be kept, and the exit's bytes.
+fn exit_form(
+    version: u8,
+    facts: u16,
+    is_main: bool,
+    region: Region,
+    bytes: &[u8],
+) -> Result<(Form, &[u8]), CertFault>
+    ensures { Gives (λ x. (x.0, x.1.now)) result (mapped (λ d. form_by (version == 4) version facts (length d.0)) (names_by (version == 4) is_main region) bytes.now) }
+{
+    let ((kept, _mark), rest) = names_by(version, is_main, region, bytes)?;
+    Ok((Form::of(version, facts, kept.len() as u8), rest))
+}
+
 impl<'a> ProcedureRef<'a> {
     ghost use Rattle.gb_cert.specs.Borrowed.{procedure_in, BodyStands};
 
-    /// The procedure with this entry, its other parts at the front of the bytes.
+    /// The procedure with this entry, of a certificate of so many facts, its other parts at the front of the bytes.
     pub(crate) fn of_parts(
-        rules: Rules,
+        version: u8,
+        facts: u16,
         is_main: bool,
         entry: u32,
         region: Region,
         body: &'a [u8],
     ) -> ProcedureRef<'a>
-        requires { BodyStands rules is_main region body.now (procedure_in rules is_main entry region body.now) }
-        ensures { result ≡ procedure_in rules is_main entry region body.now }
+        requires { BodyStands (version == 4) version facts is_main region body.now (procedure_in (version == 4) version facts is_main entry region body.now) }
+        ensures { result ≡ procedure_in (version == 4) version facts is_main entry region body.now }
     {
         ProcedureRef {
-            rules,
+            version,
+            facts,
             is_main,
             entry,
             region,
@@ -100,7 +134,7 @@ impl<'a> ProcedureRef<'a> {
     pub fn base(&self) -> u16
         ensures { result ≡ self.now.base }
     {
-        match self.rules {
+        match Rules::of(self.version) {
             Rules::Simple => usual_base(self.is_main, self.region),
             Rules::Extended => match base_at(self.is_main, self.region, self.body) {
                 Ok((base, _)) => base,
@@ -113,10 +147,11 @@ impl<'a> ProcedureRef<'a> {
     pub fn need(&self) -> u16
         ensures { result ≡ self.now.need }
     {
-        let Ok(rest) = skip_base(self.rules, self.is_main, self.region, self.body) else {
+        let rules = Rules::of(self.version);
+        let Ok(rest) = skip_base(rules, self.is_main, self.region, self.body) else {
             unreachable!();
         };
-        match need_at(self.rules, self.is_main, self.region, rest) {
+        match need_at(rules, self.is_main, self.region, rest) {
             Ok((need, _)) => need,
             Err(_) => unreachable!(),
         }
@@ -126,13 +161,14 @@ impl<'a> ProcedureRef<'a> {
     pub fn ranges(&self) -> ArrayVec<Range, 8>
         ensures { result.items ≡ self.now.ranges }
     {
-        let Ok(rest) = skip_base(self.rules, self.is_main, self.region, self.body) else {
+        let rules = Rules::of(self.version);
+        let Ok(rest) = skip_base(rules, self.is_main, self.region, self.body) else {
             unreachable!();
         };
-        let Ok((_, rest)) = need_at(self.rules, self.is_main, self.region, rest) else {
+        let Ok((_, rest)) = need_at(rules, self.is_main, self.region, rest) else {
             unreachable!();
         };
-        match ranges_at(self.rules, self.is_main, self.region, rest) {
+        match ranges_at(rules, self.is_main, self.region, rest) {
             Ok((ranges, _)) => ranges,
             Err(_) => unreachable!(),
         }
@@ -142,8 +178,31 @@ impl<'a> ProcedureRef<'a> {
     pub fn kept(&self) -> ArrayVec<u16, 16>
         ensures { result.items ≡ self.now.kept }
     {
-        let _entry = self.entry;
-        ArrayVec::new()
+        if self.version != 4 {
+            return ArrayVec::new();
+        }
+        let rules = Rules::of(self.version);
+        let Ok(rest) = skip_front(rules, self.is_main, self.region, self.body) else {
+            unreachable!();
+        };
+        match names_by(self.version, self.is_main, self.region, rest) {
+            Ok(((kept, _), _)) => kept,
+            Err(_) => unreachable!(),
+        }
+    }
+
+    /// Its mark: 0 in versions 1 to 3.
+    pub fn mark(&self) -> u8
+        ensures { result ≡ self.now.mark }
+    {
+        let rules = Rules::of(self.version);
+        let Ok(rest) = skip_front(rules, self.is_main, self.region, self.body) else {
+            unreachable!();
+        };
+        match names_by(self.version, self.is_main, self.region, rest) {
+            Ok(((_, mark), _)) => mark,
+            Err(_) => unreachable!(),
+        }
     }
 
     /// In what state it returns, if it does. It takes no memory.
@@ -157,15 +216,14 @@ impl<'a> ProcedureRef<'a> {
     pub fn lent_exit(&self) -> Option<StateRef<'a>>
         ensures { result ≡ self.now.exit }
     {
-        let Ok(rest) = skip_base(self.rules, self.is_main, self.region, self.body) else {
+        let rules = Rules::of(self.version);
+        let Ok(rest) = skip_front(rules, self.is_main, self.region, self.body) else {
             unreachable!();
         };
-        let Ok((_, rest)) = need_at(self.rules, self.is_main, self.region, rest) else {
+        let exit = exit_form(self.version, self.facts, self.is_main, self.region, rest);
+        let Ok((form, rest)) = exit else {
             unreachable!();
         };
-        let Ok(rest) = skip_ranges(self.rules, self.is_main, self.region, rest) else {
-            unreachable!();
-        };
-        exit_lent(self.rules, self.is_main, self.region, rest)
+        exit_lent(form, self.is_main, self.region, rest)
     }
 }

@@ -1,26 +1,35 @@
 //! A state of a certificate, in the bytes of its file.
 
-ghost use Rattle.std.specs.Prelude.{◌≡◌, ◌≤◌, false, [], length};
-ghost use Rattle.std.specs.List.{flat_map};
+ghost use Rattle.std.specs.Prelude.{◌≡◌, ◌≤◌, ◌*◌, true, false, [], length};
+ghost use Rattle.std.specs.List.{flat_map, list_all};
+ghost use Rattle.gb_domain.specs.declared.rules.Rules.TheVariants.{Extended};
 ghost use Rattle.gb_domain.specs.RelationRules.{compared, test_alone};
 ghost use Rattle.gb_domain.specs.Summaries.{no_summary};
+ghost use Rattle.gb_states.specs.Below.gb_fields.Format.{Gives};
 ghost use Rattle.gb_states.specs.Checked as checked;
+ghost use Rattle.gb_states.specs.Forms.{is_fourth};
+ghost use Rattle.gb_states.specs.Rules.{is_sayable, is_core_sayable, is_cell_sayable};
 ghost use Rattle.gb_states.specs.Spelling as spelled;
-ghost use Rattle.gb_cert.specs.Borrowed.{item_width};
+ghost use Rattle.gb_cert.specs.Borrowed.{item_width, older_kept, told_by};
 
 use gb_domain::relations::Relations;
 use gb_domain::summary::Summary;
 use gb_domain::types::{Abs, Core, Rules};
 use gb_ops::machine::Region;
-use gb_states::fields::{are_none, core_in, put_core, test_in};
+use gb_states::fields::{core_in, put_core, test_in};
+use gb_states::form::are_none;
 use gb_states::listed::{append_cells, append_items};
 use gb_states::relations::relations_by;
 use gb_states::role::Role;
-use gb_states::{counted, from_place};
+use gb_states::whole_states::{may_be_aside, told_at};
+use gb_states::{CertFault, Form, counted, from_place};
 use std::marker::Model;
 
 /// The bytes of a state before its items.
-pub(crate) const CORE: usize = 40;
+const CORE: usize = 40;
+
+/// Where in them stands what is kept of the controller.
+const KEPT: usize = 13;
 
 /// The bytes of a value.
 const VAL: usize = 3;
@@ -28,24 +37,68 @@ const VAL: usize = 3;
 /// The bytes of a cell: its address, the low byte first, and its value.
 const CELL: usize = 5;
 
-/// The bytes of one of what items are counted in: of a word in versions 1 and 2, three for each of its bytes; of a byte in
-/// version 3.
+/// The bytes of one of what items are counted in: of a word in versions 1 and 2, three for each of its bytes; of a byte from
+/// version 3 on.
 #[inline(always)]
 #[tactic(auto, unfolding(crate::specs::Opened::unit))]
-fn item_width(rules: Rules) -> usize
-    ensures exact { result ≡ item_width rules }
+fn item_width(form: Form) -> usize
+    ensures exact { result ≡ item_width form }
     ensures few { result ≤ 6 }
 {
-    match rules {
-        Rules::Simple => 6,
-        Rules::Extended => 3,
+    match form {
+        Form::Older(Rules::Simple) => 6,
+        Form::Older(Rules::Extended) | Form::Fourth(_, _) => 3,
     }
+}
+
+/// What is kept of the controller, where it is all or nothing, as versions 1 to 3 spell it.
+fn older_kept(number: u8) -> u8
+    ensures { result ≡ older_kept number }
+{
+    u8::from(number != 0)
+}
+
+/// What is known of several parts of a state together and what it says of the whole program, after its items; its core is known.
+#[inline(always)]
+fn told_by<'b>(
+    form: Form,
+    role: Role,
+    region: Region,
+    core: &[u8],
+    bytes: &'b [u8],
+) -> Result<((Relations, Summary), &'b [u8]), CertFault>
+    requires { 40 ≤ length core.now }
+    ensures { Gives (λ x. ((x.0.0, x.0.1), x.1.now)) result (told_by form role region (checked.core_in (is_fourth form) core.now) (checked.test_in core.now) bytes.now) }
+{
+    let test = test_in(core);
+    match form {
+        Form::Older(rules) => {
+            let (relations, rest) = relations_by(rules, region, test, bytes)?;
+            Ok(((relations, Summary::none()), rest))
+        }
+        Form::Fourth(facts, _) => {
+            // Only this version asks whether the stack may be put aside.
+            let may_be_aside = may_be_aside(role, &core_in(true, core));
+            told_at(facts, region, may_be_aside, test, bytes)
+        }
+    }
+}
+
+/// What a state says after its items.
+#[derive(Drop)]
+pub struct Told<'a> {
+    /// What is known of several of its parts together.
+    pub relations: Relations,
+    /// What it says of the whole program: nothing in versions 1 to 3.
+    pub summary: Summary,
+    /// The bytes of its memory cells, five each, in order of address.
+    pub cells: &'a [u8],
 }
 
 /// A state, of a node or an exit. It borrows the certificate's bytes.
 #[derive(Drop)]
 pub struct StateRef<'a> {
-    rules: Rules,
+    form: Form,
     role: Role,
     region: Region,
     bytes: &'a [u8],
@@ -58,26 +111,22 @@ impl<'a> Model for StateRef<'a> {
 
     ghost use Rattle.gb_cert.specs.Borrowed.{state_in, StateStands};
 
-    ghost view = { λ s. state_in s.rules s.role s.region s.bytes.now };
+    ghost view = { λ s. state_in s.form s.role s.region s.bytes.now };
 
-    ghost invariant = { λ s. StateStands s.rules s.role s.region s.bytes.now (state_in s.rules s.role s.region s.bytes.now) };
+    ghost invariant = { λ s. StateStands s.form s.role s.region s.bytes.now (state_in s.form s.role s.region s.bytes.now) };
 }
 
 impl<'a> StateRef<'a> {
     ghost use Rattle.gb_cert.specs.Borrowed.{state_in, StateStands};
 
     /// The state at the front of the bytes.
-    pub(crate) fn of_parts(
-        rules: Rules,
-        role: Role,
-        region: Region,
-        bytes: &'a [u8],
-    ) -> StateRef<'a>
-        requires { StateStands rules role region bytes.now (state_in rules role region bytes.now) }
-        ensures { result ≡ state_in rules role region bytes.now }
+    #[inline(always)]
+    pub(crate) fn of_parts(form: Form, role: Role, region: Region, bytes: &'a [u8]) -> StateRef<'a>
+        requires { StateStands form role region bytes.now (state_in form role region bytes.now) }
+        ensures { result ≡ state_in form role region bytes.now }
     {
         StateRef {
-            rules,
+            form,
             role,
             region,
             bytes,
@@ -85,36 +134,43 @@ impl<'a> StateRef<'a> {
     }
 
     /// What its flags say of A where nothing else is known of several parts together: the value that its test compares with.
+    #[inline(always)]
     pub fn test(&self) -> Option<u8>
         ensures { result ≡ compared self.now.relations.byte.test }
     {
         test_in(self.bytes)
     }
 
-    /// The bytes of its core and its test: they are the same in all versions.
-    pub fn core(&self) -> &'a [u8]
-        ensures { result.now ≡ spelled.core self.now.core (compared self.now.relations.byte.test) }
+    /// The bytes of its core and its test, as versions 1 to 3 spell them. They differ from those of version 4 in what is kept of
+    /// the controller alone.
+    pub fn older_core(&self) -> [u8; 40]
+        requires { is_core_sayable Extended self.now.core ≡ true }
+        ensures { result ≡ spelled.core self.now.core (compared self.now.relations.byte.test) }
     {
-        &self.bytes[..CORE]
+        let mut core = [0; CORE];
+        core.copy_from_slice(&self.bytes[..CORE]);
+        core[KEPT] = older_kept(core[KEPT]);
+        core
     }
 
-    /// Its bytes, and what stands behind it.
+    /// Whether its core is spelled as in version 4, and its bytes, and what comes after it.
     #[inline(always)]
-    pub fn bytes(&self) -> &'a [u8]
-        ensures core { checked.core_in result.now ≡ self.now.core }
-        ensures long { 40 ≤ length result.now }
+    pub fn core_bytes(&self) -> (bool, &'a [u8])
+        ensures core { checked.core_in result.0 result.1.now ≡ self.now.core }
+        ensures long { 40 ≤ length result.1.now }
     {
-        self.bytes
+        (self.form.is_fourth(), self.bytes)
     }
 
-    /// Whether it may hold items or cells, or what is known of several parts together but a test of A.
+    /// Whether it may hold items or cells, know more of several parts together than a test of A, or say something of the whole
+    /// program.
     #[inline(always)]
     pub fn has_lists(&self) -> bool
         ensures lists { result ≡ false → (self.now.items ≡ []) × (self.now.cells ≡ []) }
         ensures relations { result ≡ false → self.now.relations ≡ test_alone (compared self.now.relations.byte.test) }
         ensures summary { result ≡ false → self.now.summary ≡ no_summary }
     {
-        !are_none(self.rules, from_place(self.bytes, CORE))
+        !are_none(self.form, from_place(self.bytes, CORE))
     }
 
     /// Its core.
@@ -122,7 +178,7 @@ impl<'a> StateRef<'a> {
     pub fn known_core(&self) -> Core
         ensures { result ≡ self.now.core }
     {
-        core_in(self.bytes)
+        core_in(self.form.is_fourth(), self.bytes)
     }
 
     /// Its core, in the place of another one.
@@ -130,16 +186,18 @@ impl<'a> StateRef<'a> {
     pub(crate) fn put_core(&self, core: &mut Core)
         ensures { core.new ≡ self.now.core }
     {
-        put_core(self.bytes, core);
+        put_core(self.form.is_fourth(), self.bytes, core);
     }
 
     /// The bytes of its stack items, three each, the oldest first.
     pub fn items(&self) -> &'a [u8]
-        ensures items { result.now ≡ flat_map spelled.val self.now.items }
         ensures listed { checked.listed_items result.now ≡ self.now.items }
+        ensures long { length result.now ≡ 3 * length self.now.items }
         ensures few { length self.now.items ≤ 255 }
+        // What versions 1 to 3 can say has the same bytes in all versions.
+        ensures older { list_all (is_sayable Extended) self.now.items ≡ true → result.now ≡ flat_map spelled.val self.now.items }
     {
-        counted(from_place(self.bytes, CORE), item_width(self.rules)).0
+        counted(from_place(self.bytes, CORE), item_width(self.form)).0
     }
 
     /// How many stack items it has.
@@ -149,19 +207,27 @@ impl<'a> StateRef<'a> {
         (self.items().len() / VAL) as u8
     }
 
-    /// What is known of several of its parts together, and the bytes of its memory cells.
-    pub fn told(&self) -> (Relations, &'a [u8])
-        ensures relations { result.0 ≡ self.now.relations }
-        // A state of versions 1 to 3 has no level, fills or places of the bank.
-        ensures summary { self.now.summary ≡ no_summary }
-        ensures cells { result.1.now ≡ flat_map spelled.cell self.now.cells }
-        ensures listed { checked.listed_cells result.1.now ≡ self.now.cells }
+    /// What is known of several of its parts together, what it says of the whole program, and the bytes of its memory cells.
+    pub fn told(&self) -> Told<'a>
+        ensures relations { result.relations ≡ self.now.relations }
+        ensures summary { result.summary ≡ self.now.summary }
+        ensures listed { checked.listed_cells result.cells.now ≡ self.now.cells }
+        ensures long { length result.cells.now ≡ 5 * length self.now.cells }
         ensures few { length self.now.cells ≤ 64 }
+        // What versions 1 to 3 can say has the same bytes in all versions.
+        ensures older { list_all (is_cell_sayable Extended) self.now.cells ≡ true → result.cells.now ≡ flat_map spelled.cell self.now.cells }
     {
-        let (_, told) = counted(from_place(self.bytes, CORE), item_width(self.rules));
-        match relations_by(self.rules, self.region, self.test(), told) {
-            Ok((relations, cells)) => (relations, counted(cells, CELL).0),
-            Err(_) => unreachable!(),
+        let (_, behind) = counted(from_place(self.bytes, CORE), item_width(self.form));
+        let told = told_by(self.form, self.role, self.region, self.bytes, behind);
+        let Ok((said, cells)) = told else {
+            unreachable!();
+        };
+        let cells = counted(cells, CELL).0;
+        let (relations, summary) = said;
+        Told {
+            relations,
+            summary,
+            cells,
         }
     }
 
@@ -169,24 +235,27 @@ impl<'a> StateRef<'a> {
     pub fn relations(&self) -> Relations
         ensures { result ≡ self.now.relations }
     {
-        self.told().0
+        self.told().relations
     }
 
     /// What it says of the whole program: nothing in versions 1 to 3.
     pub fn summary(&self) -> Summary
         ensures { result ≡ self.now.summary }
     {
-        let _told = self.told();
-        Summary::none()
+        match self.form {
+            Form::Older(_) => Summary::none(),
+            Form::Fourth(_, _) => self.told().summary,
+        }
     }
 
     /// The bytes of its memory cells, five each, in order of address.
     pub fn cells(&self) -> &'a [u8]
-        ensures cells { result.now ≡ flat_map spelled.cell self.now.cells }
         ensures listed { checked.listed_cells result.now ≡ self.now.cells }
+        ensures long { length result.now ≡ 5 * length self.now.cells }
         ensures few { length self.now.cells ≤ 64 }
+        ensures older { list_all (is_cell_sayable Extended) self.now.cells ≡ true → result.now ≡ flat_map spelled.cell self.now.cells }
     {
-        self.told().1
+        self.told().cells
     }
 
     /// How many memory cells it has.
@@ -195,14 +264,19 @@ impl<'a> StateRef<'a> {
     {
         (self.cells().len() / CELL) as u8
     }
+
     /// It is put in the place of another state. It takes no memory.
-    #[tactic(auto, using(crate::proofs::CheckedLaws::items_long, crate::proofs::CheckedLaws::cells_long))]
     pub fn read(&self, state: &mut Abs)
         ensures { state.new ≡ self.now }
     {
-        let (relations, cells) = self.told();
+        let Told {
+            relations,
+            summary,
+            cells,
+        } = self.told();
         self.put_core(state.core_mut());
         state.clear_lists(relations);
+        state.set_summary(summary);
         append_items(state, self.items());
         append_cells(state, cells);
     }

@@ -2,10 +2,11 @@
 
 ghost use Rattle.std.specs.Prelude.{◌≡◌, ◌==◌, ◌≤◌};
 ghost use Rattle.gb_states.specs.Below.gb_fields.Format.{Gives, both, mapped, several};
-ghost use Rattle.gb_states.specs.Below.gb_fields.Reading.{base_at};
+ghost use Rattle.gb_states.specs.Below.gb_fields.Reading.{base_at, need_at};
+ghost use Rattle.gb_cert.specs.Borrowed.{front_at};
 ghost use Rattle.gb_cert.specs.Skipping.{skipped, count_named};
 ghost use Rattle.gb_domain.specs.Rules.{after_cell};
-ghost use Rattle.gb_states.specs.Rules.{after_range, role_of, key};
+ghost use Rattle.gb_states.specs.Rules.{after_range, key};
 ghost use Rattle.gb_states.specs.RelationReading.{relations_by};
 ghost use Rattle.gb_states.specs.Reading.{items_at, cells_at, state_at, range_at, ranges_at, exit_at, needed_at, body_at, procedure_at};
 ghost use Rattle.gb_states.specs.Forms.{cell_by, vals_by, state_by};
@@ -158,6 +159,29 @@ pub fn skip_base(
             Ok(rest)
         }
     }
+}
+
+/// Passes over a need and ranges.
+#[tactic(auto, using(crate::proofs::Skipping::skip_need))]
+fn skip_need(rules: Rules, is_main: bool, region: Region, bytes: &[u8]) -> Result<&[u8], CertFault>
+    ensures { Gives (λ x. x.now) result (skipped (both (need_at rules is_main region) (ranges_at rules is_main region)) bytes.now) }
+{
+    let (_need, rest) = need_at(rules, is_main, region, bytes)?;
+    skip_ranges(rules, is_main, region, rest)
+}
+
+/// Passes over a base, where there is one, a need and ranges.
+#[tactic(auto, using(crate::proofs::Skipping::skip_front))]
+pub fn skip_front(
+    rules: Rules,
+    is_main: bool,
+    region: Region,
+    bytes: &[u8],
+) -> Result<&[u8], CertFault>
+    ensures { Gives (λ x. x.now) result (skipped (front_at rules is_main region) bytes.now) }
+{
+    let rest = skip_base(rules, is_main, region, bytes)?;
+    skip_need(rules, is_main, region, rest)
 }
 
 /// Passes over a need, ranges and an exit.
@@ -340,17 +364,6 @@ pub fn skip_procedure_by(
     Ok((0, rest))
 }
 
-/// What a node of this procedure is for.
-pub fn role_of(procedure: u16) -> Role
-    ensures { result ≡ role_of procedure }
-{
-    if procedure == 0 {
-        Role::Main
-    } else {
-        Role::Other
-    }
-}
-
 /// How many addresses the procedure with this number names to be kept.
 pub fn kept_of(counts: &[u8], number: u16) -> u8
     ensures { result ≡ kept_of counts.now number }
@@ -375,6 +388,6 @@ pub fn skip_node<'a>(
     let (key, rest) = key_by(head.version, head.procedures, before, bytes)?;
     let (_bank, state) = word_between(0, 511, rest)?;
     let form = Form::of(head.version, facts, kept_of(kept, key.0));
-    let after = skip_state_by(form, role_of(key.0), head.region, state)?;
+    let after = skip_state_by(form, Role::of(key.0), head.region, state)?;
     Ok((key, after))
 }

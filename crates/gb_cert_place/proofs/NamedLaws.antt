@@ -14,7 +14,7 @@ use Rattle.gb_states.specs.WholeRules.{after_address}
 use Rattle.gb_states.specs.WholeReading.{fact_at, facts_at, facts_by, free_address_at, kept_addresses_at, exit_at, named_at}
 use Rattle.gb_states.proofs.Formats.{went_on, same_pair}
 use Rattle.gb_cert.specs.Skipping.{skipped, count_named}
-use Rattle.gb_cert.specs.AnyPlaces.{exit_by}
+use Rattle.gb_cert.specs.Borrowed.{exit_by}
 use Rattle.gb_cert_place.specs.declared.block.Stop.{Stop}
 use Rattle.gb_cert_place.specs.declared.block.Part.{Part}
 use Rattle.gb_cert_place.specs.declared.block.Part.TheVariants as part

@@ -26,7 +26,7 @@ use Rattle.gb_states.specs.Reading.{Tested, item_count_at, range_at, ranges_at}
 use Rattle.gb_states.specs.WholeRules.{may_be_aside}
 use Rattle.gb_states.specs.WholeReading as whole
 use Rattle.gb_cert.specs.Skipping.{skipped, past}
-use Rattle.gb_cert.specs.AnyPlaces.{exit_by}
+use Rattle.gb_cert.specs.Borrowed.{exit_by}
 use Rattle.gb_cert.proofs.Skipping.{skipped-mapped, skipped-both, skipped-followed}
 use Rattle.gb_cert_place.specs.declared.block.Stop.{Stop}
 use Rattle.gb_cert_place.specs.declared.block.Block.TheVariants as block

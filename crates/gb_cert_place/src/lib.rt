@@ -19,5 +19,5 @@ pub use field::{Field, Owner};
 pub use place::{FaultPlace, Sought};
 
 // What lies below, for the crates above.
-pub use gb_cert::{Cert, begins_fourth};
+pub use gb_cert::Cert;
 pub use gb_fields::CertFault;

@@ -8,7 +8,7 @@ ghost use Rattle.gb_cert_place.specs.Places.{is_memory, place_of, behind, IsFaul
 use crate::block::{Part, Stop, is_missing};
 use crate::field::{Field, field_at};
 use crate::walk::walk_parts;
-use gb_cert::{AnyCert, CertFault};
+use gb_cert::{Cert, CertFault};
 use std::alloc::{AllocError, Global};
 
 /// Where in the file a certificate's fault is.
@@ -88,7 +88,7 @@ fn is_memory(fault: CertFault) -> bool
 fn fault_of(alloc: Global, bytes: &[u8]) -> Option<CertFault>
     ensures { IsFaultOf bytes.now result }
 {
-    match AnyCert::parse(alloc, bytes) {
+    match Cert::parse(alloc, bytes) {
         Ok(_) => None,
         Err(fault) => Some(fault),
     }

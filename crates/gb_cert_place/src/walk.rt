@@ -11,7 +11,7 @@ ghost use Rattle.gb_states.specs.Reading.{range_at, ranges_at};
 ghost use Rattle.gb_states.specs.WholeRules.{after_address, kept_count, kept_counts, kept_of};
 ghost use Rattle.gb_states.specs.WholeReading.{fact_at, facts_by, free_address_at, kept_addresses_at, named_at, procedure_by, procedures_at, node_by, nodes_at};
 ghost use Rattle.gb_cert.specs.Skipping.{count_named};
-ghost use Rattle.gb_cert.specs.AnyPlaces.{exit_by};
+ghost use Rattle.gb_cert.specs.Borrowed.{exit_by};
 ghost use Rattle.gb_cert_place.specs.declared.block.Part.TheVariants as the_part;
 ghost use Rattle.gb_cert_place.specs.Forms.{items_by, told_by, cells_by, ending_count, ending_by, needed_count, needed_by, body_count, body_by};
 ghost use Rattle.gb_cert_place.specs.Standing.{Of, AmongItems, InItems, InTold, AmongCells, InCells, InLists, InState, AmongRanges, InRanges, AmongKept, InKept, InExit, InNamed, InEnding, InBase, InNeeded, InBody, InProcedure, InProcedures, InNode, InNodes, AmongFacts, InFacts, InCertificate};

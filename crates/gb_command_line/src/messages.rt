@@ -4,7 +4,6 @@ ghost use Rattle.std.specs.Prelude.{◌≡◌};
 ghost use Rattle.gb_command_line.specs.declared.status.Status.TheVariants as status;
 
 use crate::status::{Status, verify_status};
-use gb_cert_place::begins_fourth;
 use gb_cert_place::place::{Sought, fault_place};
 use gb_explain::{HeaderFault, Outcome, Plain, Rom, verify_bytes};
 use gb_files::{Trouble, shown_name};
@@ -97,15 +96,9 @@ pub fn tell_output<R: Eprint>(rt: &R, program: &str) -> Status
     Status::Failed
 }
 
-/// Says where in a certificate's file its fault is, if it has one, or that it is of version 4. The bytes are read again; where that
-/// takes more memory than there is, nothing is said.
+/// Says where in a certificate's file its fault is, if it has one. The bytes are read again; where that takes more memory than
+/// there is, nothing is said.
 pub fn tell_fault<R: Eprint + AllocGlobal>(rt: &R, program: &str, name: &str, cert: &[u8]) {
-    // No rule judges by version 4 yet, so what else is wrong there doesn't matter.
-    if begins_fourth(cert) {
-        let name = shown_name(name);
-        let _ = eprintln!(rt; "{program}: {name}: version 4 isn't supported yet");
-        return;
-    }
     if let Sought::Fault(place) = fault_place(rt.alloc(), cert) {
         let name = shown_name(name);
         let _ = eprintln!(rt; "{program}: {name}: {place}");

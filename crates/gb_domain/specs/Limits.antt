@@ -1,11 +1,11 @@
 -- By which rules the states of a certificate are taken on, and how much a state holds (own format).
-use Rattle.std.specs.Prelude.{ℕ, ◌==◌, if◌then◌else◌}
+use Rattle.std.specs.Prelude.{ℕ, ◌==◌, ◌||◌, if◌then◌else◌}
 use Rattle.gb_domain.specs.declared.rules.Rules.{Rules}
 use Rattle.gb_domain.specs.declared.rules.Rules.TheVariants.{Simple, Extended}
 
--- those of version 3, or of versions 1 and 2
+-- those of versions 3 and 4, or of versions 1 and 2
 unfoldable pub rules_of : ℕ → Rules
-rules_of version = if version == 3 then Extended else Simple
+rules_of version = if version == 3 || version == 4 then Extended else Simple
 
 -- the most bytes of the stack
 unfoldable pub item_room : Rules → ℕ

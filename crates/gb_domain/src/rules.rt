@@ -3,7 +3,7 @@
 ghost use Rattle.std.specs.Prelude.{◌≡◌, ◌≤◌};
 ghost use Rattle.gb_domain.specs.Limits.{rules_of, item_room, cell_room};
 
-/// The rules of certificates of versions 1 and 2, whose parts are known each by itself, or those of version 3.
+/// The rules of certificates of versions 1 and 2, whose parts are known each by itself, or those of versions 3 and 4.
 #[derive(Clone, Copy, PartialEq, Eq)]
 pub enum Rules {
     Simple,
@@ -16,7 +16,7 @@ impl Rules {
     pub fn of(version: u8) -> Rules
         ensures { result ≡ rules_of version }
     {
-        if version == 3 {
+        if version == 3 || version == 4 {
             Rules::Extended
         } else {
             Rules::Simple

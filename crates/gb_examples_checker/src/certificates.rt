@@ -29,8 +29,8 @@ fn has_three_nodes(cert: &Cert<'_>) -> bool {
     node.procedure() == 0
         && node.address() == 0x0150
         && node.bank() == 0
-        && node.items().is_empty()
-        && node.cells().is_empty()
+        && node.lent().items().is_empty()
+        && node.lent().cells().is_empty()
         && state.items().is_empty()
         && state.cells().is_empty()
         && registers.a.lo == 0x01
@@ -72,7 +72,7 @@ fn equal_keys_are_in_order(rt: HostRuntime) {
 }
 
 /// A procedure, an address, and the numbers of its first node there and behind its last.
-const FOUND: [(u8, u16, u32, u32); 6] = [
+const FOUND: [(u16, u16, u32, u32); 6] = [
     (0, 0x0100, 0, 1),
     (0, 0x0101, 1, 3),
     (0, 0x0102, 3, 3),
@@ -115,8 +115,8 @@ fn has_item_and_cell(cert: &Cert<'_>) -> bool {
         address: 0xC123,
         val: copy_of(Register::A, 5, 6),
     };
-    node.items() == ITEM.as_slice()
-        && node.cells() == CELL.as_slice()
+    node.lent().items() == ITEM.as_slice()
+        && node.lent().cells() == CELL.as_slice()
         && state.items() == word.as_slice()
         && state.cells() == [byte].as_slice()
 }
@@ -253,7 +253,7 @@ fn reads_the_most_of_each(rt: HostRuntime) -> Result<(), Fail> {
     Ok(())
 }
 
-fn finds_none(cert: &Cert<'_>, procedure: u8, address: u16) -> bool {
+fn finds_none(cert: &Cert<'_>, procedure: u16, address: u16) -> bool {
     let found = cert.find(procedure, address).found;
     found.first == found.after
 }

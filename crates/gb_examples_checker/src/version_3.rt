@@ -40,8 +40,8 @@ const LEAST: [u8; 168] = [
 type Change = (usize, usize, &'static [u8], u8);
 
 const CHANGES: [Change; 27] = [
-    // The version: 4, and those that another letter goes with.
-    (4, 1, &[0x04], 3),
+    // The version: 5, and those that another letter goes with.
+    (4, 1, &[0x05], 3),
     (4, 1, &[0x01], 3),
     (4, 1, &[0x02], 3),
     // Main's base, a range of main, and a need over the region's bytes.
@@ -325,8 +325,8 @@ fn is_first(cert: &Cert<'_>) -> bool {
         val: from_to(7, 8),
     };
     node.test() == Some(0x42)
-        && node.items() == FIRST_ITEMS
-        && node.cells() == FIRST_CELLS
+        && node.lent().items() == FIRST_ITEMS
+        && node.lent().cells() == FIRST_CELLS
         && state.items() == items.as_slice()
         && state.cells() == [cell].as_slice()
         && are_same(state.relations(), &known_first())
@@ -341,8 +341,8 @@ fn is_second(cert: &Cert<'_>) -> bool {
     let state = node.state();
     let items = [returned(Origin::ReturnHigh), returned(Origin::ReturnLow)];
     node.test().is_none()
-        && node.items() == SECOND_ITEMS
-        && node.cells().is_empty()
+        && node.lent().items() == SECOND_ITEMS
+        && node.lent().cells().is_empty()
         && state.items() == items.as_slice()
         && are_same(state.relations(), &known_second())
 }
@@ -392,7 +392,7 @@ fn each_part_is_read(rt: HostRuntime) -> Result<(), Fail> {
 /// A node's plan, its state given.
 fn plan_of<'a>(node: &NodeRef<'_>, state: &'a Abs) -> NodePlan<'a> {
     NodePlan {
-        procedure: u16::from(node.procedure()),
+        procedure: node.procedure(),
         address: node.address(),
         bank: node.bank(),
         state,

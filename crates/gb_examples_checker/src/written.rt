@@ -132,7 +132,7 @@ struct PlannedProcedure {
 }
 
 struct PlannedNode {
-    procedure: u8,
+    procedure: u16,
     address: u16,
     bank: u16,
     state: State,
@@ -272,7 +272,7 @@ fn node_plans(alloc: Global, states: &[Abs]) -> Result<Vec<NodePlan<'_>>, AllocE
     let mut plans = Vec::new(alloc);
     for (node, state) in NODES.iter().zip(states) {
         plans.push(NodePlan {
-            procedure: u16::from(node.procedure),
+            procedure: node.procedure,
             address: node.address,
             bank: node.bank,
             state,

@@ -1,10 +1,10 @@
 //! Certificates of version 4, made by an independent implementation, which are read and written again.
 
+use arrayvec::ArrayVec;
 use gb_cert::{
-    AnyCert, AnyProcedure, CertificatePlan, NodePlan, ProcedurePlan, Version, WriteFault,
-    write_certificate,
+    Cert, CertificatePlan, NodePlan, ProcedurePlan, Version, WriteFault, write_certificate,
 };
-use gb_domain::types::Abs;
+use gb_domain::types::{Abs, Range};
 use gb_samples::certificates::{least, least_in_version_2};
 use gb_samples::spelled::bytes_of;
 use std::alloc::{AllocError, Global};
@@ -98,6 +98,18 @@ const ASIDE: &str = "\
     0301030000005d0100000100010000010001000000010100ad0000000900010000000313130412780012340003030000010000750441ff\
     1300130000121234780000030103000203030300";
 
+/// A procedure that was read.
+#[derive(Drop)]
+struct ReadProcedure {
+    entry: u32,
+    base: u16,
+    need: u16,
+    ranges: ArrayVec<Range, 8>,
+    kept: ArrayVec<u16, 16>,
+    mark: u8,
+    exit: Option<Abs>,
+}
+
 /// A node that was read.
 #[derive(Drop)]
 struct ReadNode {
@@ -107,7 +119,7 @@ struct ReadNode {
     state: Abs,
 }
 
-fn version_of(cert: &AnyCert<'_>) -> Version {
+fn version_of(cert: &Cert<'_>) -> Version {
     match cert.version() {
         1 => Version::One,
         2 => Version::Two,
@@ -116,23 +128,32 @@ fn version_of(cert: &AnyCert<'_>) -> Version {
     }
 }
 
-fn read_procedures(alloc: Global, cert: &AnyCert<'_>) -> Result<Vec<AnyProcedure>, AllocError> {
+fn read_procedures(alloc: Global, cert: &Cert<'_>) -> Result<Vec<ReadProcedure>, AllocError> {
     let mut procedures = Vec::new(alloc);
     for number in 0..cert.procedures() {
-        procedures.push(cert.procedure(number))?;
+        let procedure = cert.procedure(number);
+        procedures.push(ReadProcedure {
+            entry: procedure.entry(),
+            base: procedure.base(),
+            need: procedure.need(),
+            ranges: procedure.ranges(),
+            kept: procedure.kept(),
+            mark: procedure.mark(),
+            exit: procedure.exit(),
+        })?;
     }
     Ok(procedures)
 }
 
-fn read_nodes(alloc: Global, cert: &AnyCert<'_>) -> Result<Vec<ReadNode>, AllocError> {
+fn read_nodes(alloc: Global, cert: &Cert<'_>) -> Result<Vec<ReadNode>, AllocError> {
     let mut nodes = Vec::new(alloc);
     for number in 0..cert.nodes() {
-        let ((procedure, address), (bank, state)) = cert.node(number);
+        let node = cert.node(number);
         nodes.push(ReadNode {
-            procedure,
-            address,
-            bank,
-            state,
+            procedure: node.procedure(),
+            address: node.address(),
+            bank: node.bank(),
+            state: node.state(),
         })?;
     }
     Ok(nodes)
@@ -140,7 +161,7 @@ fn read_nodes(alloc: Global, cert: &AnyCert<'_>) -> Result<Vec<ReadNode>, AllocE
 
 fn procedure_plans(
     alloc: Global,
-    procedures: &[AnyProcedure],
+    procedures: &[ReadProcedure],
 ) -> Result<Vec<ProcedurePlan<'_>>, AllocError> {
     let mut plans = Vec::new(alloc);
     for procedure in procedures {
@@ -171,7 +192,7 @@ fn node_plans(alloc: Global, nodes: &[ReadNode]) -> Result<Vec<NodePlan<'_>>, Al
 }
 
 /// What is written of what was read.
-fn written_again(alloc: Global, cert: &AnyCert<'_>) -> Result<Vec<u8>, WriteFault> {
+fn written_again(alloc: Global, cert: &Cert<'_>) -> Result<Vec<u8>, WriteFault> {
     let procedures = read_procedures(alloc, cert)?;
     let nodes = read_nodes(alloc, cert)?;
     let procedures = procedure_plans(alloc, procedures.as_slice())?;
@@ -191,7 +212,7 @@ fn what_is_read_is_written_again(rt: HostRuntime) -> Result<(), Fail> {
     let certificates = [LOW_BITS, FACTS, KEPT, SHADOWS, FILLS, ASIDE];
     for (i, digits) in certificates.iter().enumerate() {
         let bytes = bytes_of(rt.alloc(), digits);
-        let cert = AnyCert::parse(rt.alloc(), &bytes)?;
+        let cert = Cert::parse(rt.alloc(), &bytes)?;
         assert!(rt; cert.version() == 4, "certificate {i}");
         let again = written_again(rt.alloc(), &cert)?;
         assert!(rt; again.as_slice() == bytes.as_slice(), "certificate {i}");
@@ -203,7 +224,7 @@ fn what_is_read_is_written_again(rt: HostRuntime) -> Result<(), Fail> {
 fn older_ones_are_written_again(rt: HostRuntime) -> Result<(), Fail> {
     let (first, second) = (least(), least_in_version_2());
     for bytes in [first.as_slice(), second.as_slice()] {
-        let cert = AnyCert::parse(rt.alloc(), bytes)?;
+        let cert = Cert::parse(rt.alloc(), bytes)?;
         let again = written_again(rt.alloc(), &cert)?;
         assert!(rt; again.as_slice() == bytes);
     }

@@ -7,7 +7,7 @@ use gb_domain::types::{Core, Flg};
 use gb_ops::op::{AluOp, Condition, Op, Operand, Register};
 use gb_product::sides::{sides_of, taken_side};
 use gb_samples::relations::compared;
-use gb_samples::states::{CLEAR, EITHER, SET, copy_of, entered, with_carry};
+use gb_samples::states::{ANY, CLEAR, EITHER, SET, copy_of, entered, with_carry};
 use gb_vals::branch::side;
 use std::process::Abort;
 
@@ -73,7 +73,7 @@ fn tests_narrow_a(rt: HostRuntime) {
     for (i, (n, condition, lo, hi, want)) in ROWS.into_iter().enumerate() {
         let core = with_a(lo, hi);
         let jump = Op::JumpRelativeIf(condition, 5);
-        let taken = taken_side(jump, &[], &core, &compared(Some(n)));
+        let taken = taken_side(jump, ANY, &core, &compared(Some(n)));
         let narrowed = taken.map(|side| side.core.registers.a);
         let want = want.map(|(lo, hi)| copy_of(Register::A, lo, hi));
         assert!(rt; narrowed == want, "row {i}");
@@ -99,7 +99,7 @@ fn narrowed(core: Core, lo: u8, hi: u8, flags: Flg) -> Option<Core> {
 
 /// An instruction's two sides, where A was compared with 10.
 fn has_sides(rt: &impl Abort, op: Op, core: &Core, taken: Option<Core>, not_taken: Option<Core>) {
-    let sides = sides_of(op, &[], core, &compared(Some(10)));
+    let sides = sides_of(op, ANY, core, &compared(Some(10)));
     assert!(rt; sides.taken.map(|side| side.core) == taken);
     assert!(rt; sides.not_taken.map(|side| side.core) == not_taken);
 }

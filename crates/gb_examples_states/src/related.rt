@@ -13,8 +13,8 @@ use gb_pairs::moved::added;
 use gb_pairs::reduced::reduce;
 use gb_product::Program;
 use gb_product::covering::covers;
-use gb_product::parts::Branch;
-use gb_product::reduced::reduced_branch;
+use gb_product::parts::{Branch, Product};
+use gb_product::reduced::reduced;
 use gb_product::sides::{not_taken_side, taken_side};
 use gb_relations::pointers::{known_carry, pointer_bounds};
 use gb_samples::relations::are_pairs_same;
@@ -89,17 +89,18 @@ fn meets(condition: Condition, before: Facts, after: Option<Facts>) -> bool {
         memory: known.memory,
     };
     let jump = Op::JumpIf(condition, 0x4000);
-    let side = taken_side(jump, state.cells(), state.core(), state.relations());
+    let side = taken_side(jump, known.memory, state.core(), state.relations());
     has_contents(narrowed(&known.relations.byte, condition, &contents), after)
         && has_side(side, before, after)
 }
 
 /// What a jump that isn't taken leaves, reduced.
-fn passed(condition: Condition, before: Facts) -> Option<Branch> {
-    let state = KnownFact::new(before).state();
+fn passed(condition: Condition, before: Facts) -> Option<Product> {
+    let known = KnownFact::new(before);
+    let state = known.state();
     let jump = Op::JumpRelativeIf(condition, 5);
-    let side = not_taken_side(jump, state.cells(), state.core(), state.relations())?;
-    reduced_branch(Rules::Extended, side)
+    let side = not_taken_side(jump, known.memory, state.core(), state.relations())?;
+    reduced(Rules::Extended, &side.core, &side.relations)
 }
 
 /// Whether a jump that isn't taken leaves this of registers and pairs.

@@ -242,7 +242,7 @@ fn are_numbers(facts: &Facts) -> bool {
 }
 
 /// The next procedure on the deepest way.
-fn next_of(facts: &Facts, procedure: u8) -> Option<u8> {
+fn next_of(facts: &Facts, procedure: u16) -> Option<u16> {
     facts.step(procedure)?.link?.callee
 }
 

@@ -2,7 +2,7 @@
 use Rattle.std.proofs.Common.{◌≡◌, ℕ, List, Ok, Option, Some, None, IfSome, sym, ◌∙◌, ap}
 use Rattle.gb_verify.specs.Below.gb_header.Header as Header
 use Rattle.gb_verify.specs.Below.gb_domain.Certificate.{Certificate}
-use Rattle.gb_verify.specs.Below.gb_states.Reading.{read_certificate}
+use Rattle.gb_verify.specs.Below.gb_states.WholeReading.{read_certificate}
 use Rattle.gb_verify.specs.Verdict.{verdict_of}
 use Rattle.gb_verify.specs.Text.{answer_of, answered, judged}
 use Rattle.gb_verify.specs.declared.verdict.Verdict.{Verdict}

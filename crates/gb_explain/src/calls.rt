@@ -11,7 +11,7 @@ use gb_verify::{
 };
 
 /// The node where a procedure begins, if that has the address.
-fn entry_at(cert: &Cert<'_>, procedure: u8, address: u16) -> Option<u32>
+fn entry_at(cert: &Cert<'_>, procedure: u16, address: u16) -> Option<u32>
     ensures { IfSome result (λ node. node < length cert.now.nodes) }
 {
     if procedure >= cert.procedures() {
@@ -30,7 +30,7 @@ fn entry_at(cert: &Cert<'_>, procedure: u8, address: u16) -> Option<u32>
 fn wrong_base(
     cert: &Cert<'_>,
     setting: Setting,
-    procedure: u8,
+    procedure: u16,
     address: u16,
     below: usize,
 ) -> Option<Uncallable>
@@ -54,7 +54,7 @@ fn wrong_base(
 }
 
 /// A procedure that takes more items over than its caller has. It is farther than each that doesn't.
-fn taking_too_many(procedure: u8, address: u16, count: usize, held: usize) -> NearGap {
+fn taking_too_many(procedure: u16, address: u16, count: usize, held: usize) -> NearGap {
     NearGap {
         procedure,
         distance: u32::MAX,
@@ -73,7 +73,7 @@ fn near_entry(
     program: &Program<'_>,
     cert: &Cert<'_>,
     setting: Setting,
-    procedure: u8,
+    procedure: u16,
     node: u32,
     state: &Abs,
 ) -> NearGap
@@ -137,7 +137,7 @@ pub(crate) fn entered_at(
     setting: Setting,
     address: u16,
     state: &Abs,
-) -> Option<u8> {
+) -> Option<u16> {
     match nearest_entry(program, cert, setting, address, state) {
         Some(near) if near.distance == 0 => Some(near.procedure),
         _ => None,
@@ -164,7 +164,7 @@ pub(crate) fn inlined_gaps(
     program: &Program<'_>,
     cert: &Cert<'_>,
     setting: Setting,
-    procedure: u8,
+    procedure: u16,
     address: u16,
     state: &Abs,
 ) -> Option<Gaps> {
@@ -184,7 +184,7 @@ pub(crate) fn inlined_gaps(
 pub(crate) fn called_gaps(
     program: &Program<'_>,
     cert: &Cert<'_>,
-    procedure: u8,
+    procedure: u16,
     address: u16,
     successor: &Successor<'_>,
 ) -> Option<Gaps> {
@@ -209,8 +209,8 @@ pub(crate) fn called_gaps(
 pub(crate) fn range_gaps(
     cert: &Cert<'_>,
     setting: Setting,
-    procedure: u8,
-    callee: u8,
+    procedure: u16,
+    callee: u16,
 ) -> Option<Gaps> {
     if setting.rules == Rules::Extended && setting.is_main {
         return None;
@@ -233,7 +233,7 @@ pub(crate) fn range_gaps(
 pub(crate) fn callee_gaps(
     program: &Program<'_>,
     cert: &Cert<'_>,
-    procedure: u8,
+    procedure: u16,
     successor: &Successor<'_>,
 ) -> Option<Gaps> {
     let Target::Call(address) = successor.target else {

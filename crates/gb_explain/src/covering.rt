@@ -10,7 +10,7 @@ use gb_verify::{
 /// What comes near to what is wanted: of which procedure it is, in how many parts it differs, and what is missing.
 #[derive(Clone, Copy)]
 pub(crate) struct NearGap {
-    pub(crate) procedure: u8,
+    pub(crate) procedure: u16,
     pub(crate) distance: u32,
     pub(crate) gap: Gap,
 }
@@ -27,7 +27,7 @@ pub(crate) fn nearer(first: Option<NearGap>, second: NearGap) -> Option<NearGap>
 fn nearest_node(
     program: &Program<'_>,
     cert: &Cert<'_>,
-    procedure: u8,
+    procedure: u16,
     way: GoesOn,
     state: &Abs,
 ) -> Option<NearGap> {
@@ -54,7 +54,7 @@ fn nearest_node(
 pub(crate) fn way_gap(
     program: &Program<'_>,
     cert: &Cert<'_>,
-    procedure: u8,
+    procedure: u16,
     way: GoesOn,
     state: &Abs,
 ) -> Option<Gap> {
@@ -72,7 +72,7 @@ pub(crate) fn way_gap(
 pub(crate) fn way_gaps(
     program: &Program<'_>,
     cert: &Cert<'_>,
-    procedure: u8,
+    procedure: u16,
     way: GoesOn,
     state: &Abs,
 ) -> Option<Gaps> {
@@ -84,8 +84,8 @@ pub(crate) fn way_gaps(
 pub(crate) fn back_gaps(
     program: &Program<'_>,
     cert: &Cert<'_>,
-    procedure: u8,
-    callee: u8,
+    procedure: u16,
+    callee: u16,
     way: GoesOn,
     state: &Abs,
 ) -> Option<Gaps> {

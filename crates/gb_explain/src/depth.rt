@@ -10,7 +10,7 @@ use gb_verify::{Abs, Cert, Program, Rules, Successor, callee_at, need_of, settin
 pub(crate) fn held_too_deep(
     rules: Rules,
     cert: &Cert<'_>,
-    procedure: u8,
+    procedure: u16,
     bytes: usize,
 ) -> Option<TooDeep> {
     let held = Amount::of(rules, bytes);
@@ -34,7 +34,7 @@ pub(crate) fn held_too_deep(
 
 /// The bytes of a caller that wait below a callee, of so many that it holds, and how many the return address takes
 /// besides. By the rules of version 3 it is among those that are held and that the callee takes over.
-fn waiting_below(rules: Rules, cert: &Cert<'_>, held: usize, callee: u8) -> (usize, usize) {
+fn waiting_below(rules: Rules, cert: &Cert<'_>, held: usize, callee: u16) -> (usize, usize) {
     match rules {
         Rules::Simple => (held, 2),
         Rules::Extended => (held.saturating_sub(usize::from(taken_by(cert, callee))), 0),
@@ -45,9 +45,9 @@ fn waiting_below(rules: Rules, cert: &Cert<'_>, held: usize, callee: u8) -> (usi
 pub(crate) fn called_too_deep(
     rules: Rules,
     cert: &Cert<'_>,
-    procedure: u8,
+    procedure: u16,
     held: usize,
-    callee: u8,
+    callee: u16,
 ) -> Option<TooDeep> {
     let need = usize::from(need_of(cert, procedure));
     let wanted = usize::from(need_of(cert, callee));
@@ -94,7 +94,7 @@ fn bytes_left(rules: Rules, op: Op, held: usize) -> Option<usize>
 /// The bytes that an instruction leaves on the stack, where they are too many.
 pub(crate) fn moved_gaps(
     cert: &Cert<'_>,
-    procedure: u8,
+    procedure: u16,
     state: &Abs,
     op: Op,
     taken: &Option<Successor<'_>>,
@@ -112,7 +112,7 @@ pub(crate) fn moved_gaps(
 pub(crate) fn call_gaps(
     program: &Program<'_>,
     cert: &Cert<'_>,
-    procedure: u8,
+    procedure: u16,
     successor: &Successor<'_>,
 ) -> Option<Gaps> {
     let setting = setting_of(cert, procedure);

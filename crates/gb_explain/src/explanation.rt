@@ -16,7 +16,7 @@ use std::fmt;
 #[derive(Clone, Copy)]
 pub struct Explanation {
     pub node: u32,
-    pub procedure: u8,
+    pub procedure: u16,
     pub address: u16,
     /// The bank that the certificate claims to be shown at the address.
     pub bank: u16,

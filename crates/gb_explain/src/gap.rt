@@ -16,13 +16,13 @@ pub enum After {
     /// The instruction itself.
     Instruction,
     /// The procedure that it calls.
-    Call(u8),
+    Call(u16),
     /// The procedure that handles the interrupt.
-    Handler(u8),
+    Handler(u16),
     /// The instruction that sets SP in a routine, so that main starts again.
     Restart,
     /// What is called, where it goes on in this procedure, since none is entered.
-    Inlined(u8),
+    Inlined(u16),
 }
 
 /// Where the program goes on, and after what. It prints as the beginning of a sentence.
@@ -38,7 +38,7 @@ pub enum TooDeep {
     /// More would be held than the procedure needs.
     Need {
         held: Amount,
-        procedure: u8,
+        procedure: u16,
         need: Amount,
     },
     /// More would be held than a state can.
@@ -50,10 +50,10 @@ pub enum TooDeep {
     Callee {
         /// What waits below it.
         waiting: Amount,
-        callee: u8,
+        callee: u16,
         wanted: Amount,
         sum: Amount,
-        procedure: u8,
+        procedure: u16,
         need: Amount,
     },
 }
@@ -62,7 +62,7 @@ pub enum TooDeep {
 #[derive(Clone, Copy)]
 pub enum Uncovered {
     /// The procedure has none where it goes on.
-    NoNode { way: GoesOn, procedure: u8 },
+    NoNode { way: GoesOn, procedure: u16 },
     /// This one comes nearest.
     Node { way: GoesOn, node: u32 },
     /// A callee gives back more bytes than a state holds besides those that wait.
@@ -78,28 +78,28 @@ pub enum Uncallable {
     },
     /// One does, but in another state.
     Entry {
-        procedure: u8,
+        procedure: u16,
         address: u16,
     },
     /// One does, and takes more items over than its caller has.
     Items {
-        procedure: u8,
+        procedure: u16,
         address: u16,
         count: usize,
         held: usize,
     },
     /// One does, and says a base that isn't so many bytes below its caller's, if that is known.
     Base {
-        procedure: u8,
+        procedure: u16,
         address: u16,
         base: u16,
         below: Option<usize>,
     },
     /// One may write where its caller may not.
     Range {
-        callee: u8,
+        callee: u16,
         range: Range,
-        procedure: u8,
+        procedure: u16,
     },
 }
 
@@ -109,11 +109,11 @@ pub enum Unreturnable {
     /// Main returns.
     Main,
     /// A procedure returns that is said not to.
-    NoExit { procedure: u8 },
+    NoExit { procedure: u16 },
     /// Words are left on the stack.
     Held { held: Amount },
     /// A procedure returns in another state.
-    Exit { procedure: u8 },
+    Exit { procedure: u16 },
     /// There is no word to pop.
     NoWord { held: Amount },
     /// The word that is popped says neither that the procedure returns nor where it goes on.

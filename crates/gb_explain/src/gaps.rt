@@ -17,7 +17,7 @@ use gb_verify::{
 fn uncovered_gaps(
     program: &Program<'_>,
     cert: &Cert<'_>,
-    procedure: u8,
+    procedure: u16,
     successor: &Successor<'_>,
 ) -> Option<Gaps> {
     match successor.target {
@@ -50,7 +50,7 @@ fn uncovered_gaps(
 fn successor_gaps(
     program: &Program<'_>,
     cert: &Cert<'_>,
-    procedure: u8,
+    procedure: u16,
     reason: Reason,
     state: &Abs,
     way: &Option<Successor<'_>>,
@@ -69,7 +69,7 @@ fn successor_gaps(
 fn successors_gaps(
     program: &Program<'_>,
     cert: &Cert<'_>,
-    procedure: u8,
+    procedure: u16,
     reason: Reason,
     state: &Abs,
     ways: &Successors<'_>,

@@ -13,7 +13,7 @@ use gb_verify::{
 #[derive(Clone, Copy)]
 struct Dispatch<'a> {
     setting: Setting,
-    procedure: u8,
+    procedure: u16,
     address: u16,
     state: &'a Abs,
     interrupt: u8,
@@ -68,7 +68,7 @@ fn handler_gaps(
     cert: &Cert<'_>,
     dispatch: &Dispatch<'_>,
     left: &Abs,
-    handler: u8,
+    handler: u16,
 ) -> Option<Gaps> {
     let Dispatch {
         setting,

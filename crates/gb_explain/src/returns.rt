@@ -14,7 +14,7 @@ fn plain(unreturnable: Unreturnable) -> Gaps {
 fn exit_gaps(
     program: &Program<'_>,
     rules: Rules,
-    procedure: u8,
+    procedure: u16,
     state: &Abs,
     exit: &Abs,
 ) -> Option<Gaps> {
@@ -38,7 +38,7 @@ fn back_gaps(
     program: &Program<'_>,
     cert: &Cert<'_>,
     setting: Setting,
-    procedure: u8,
+    procedure: u16,
     successor: &Successor<'_>,
 ) -> Option<Gaps> {
     if setting.is_main {
@@ -74,7 +74,7 @@ fn lost_gaps(setting: Setting, state: &Abs) -> Gaps {
 pub(crate) fn return_gaps(
     program: &Program<'_>,
     cert: &Cert<'_>,
-    procedure: u8,
+    procedure: u16,
     state: &Abs,
     successor: &Successor<'_>,
 ) -> Option<Gaps> {

@@ -99,7 +99,7 @@ impl fmt::Display for TooDeep {
 
 fn fmt_no_node<W: fmt::Write>(
     goes_on: GoesOn,
-    procedure: u8,
+    procedure: u16,
     f: &mut fmt::Formatter<W>,
 ) -> fmt::Result {
     match goes_on.after {
@@ -139,7 +139,7 @@ fn fmt_below<W: fmt::Write>(below: Option<usize>, f: &mut fmt::Formatter<W>) -> 
 
 /// That a procedure begins at an address.
 fn fmt_begins<W: fmt::Write>(
-    procedure: u8,
+    procedure: u16,
     address: u16,
     f: &mut fmt::Formatter<W>,
 ) -> fmt::Result {

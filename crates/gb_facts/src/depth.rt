@@ -16,12 +16,12 @@ pub enum Bound {
 /// A step of the way to the greatest depth: a procedure, and the link by which it goes on, or none where it holds the most itself.
 #[derive(Clone, Copy, PartialEq, Eq)]
 pub struct StackStep {
-    pub procedure: u8,
+    pub procedure: u16,
     pub link: Option<CallLink>,
 }
 
 /// What a procedure's depth is, if there is one by that number.
-fn depth_of(procedures: &[ProcedureFacts], number: u8) -> Option<u32> {
+fn depth_of(procedures: &[ProcedureFacts], number: u16) -> Option<u32> {
     let procedure = procedures.get(usize::from(number))?;
     Some(procedure.depth)
 }
@@ -102,7 +102,7 @@ pub(crate) fn settle(procedures: &mut Vec<ProcedureFacts>, links: &[CallLink]) -
 pub fn steps_from(
     procedures: &[ProcedureFacts],
     links: &[CallLink],
-    number: u8,
+    number: u16,
 ) -> Option<StackStep> {
     let procedure = procedures.get(usize::from(number))?;
     let link = match procedure.deepest {
@@ -123,10 +123,10 @@ pub fn steps_from(
 /// # Errors
 ///
 /// Where memory ran out.
-pub fn way_from(alloc: Global, facts: &Facts, number: u8) -> Result<Vec<u8>, AllocError> {
+pub fn way_from(alloc: Global, facts: &Facts, number: u16) -> Result<Vec<u16>, AllocError> {
     let mut way = Vec::new(alloc);
     let mut next = Some(number);
-    for _ in 0..256 {
+    for _ in 0..facts.longest_way() {
         let Some(number) = next else { break };
         way.push(number)?;
         next = next_from(facts, number);
@@ -135,6 +135,6 @@ pub fn way_from(alloc: Global, facts: &Facts, number: u8) -> Result<Vec<u8>, All
 }
 
 /// The procedure that comes next on a procedure's deepest way.
-fn next_from(facts: &Facts, number: u8) -> Option<u8> {
+fn next_from(facts: &Facts, number: u16) -> Option<u16> {
     facts.step(number)?.link?.callee
 }

@@ -101,8 +101,14 @@ impl Facts {
     }
 
     /// The step that a procedure's deepest way begins with; the next one is that of the link's callee.
-    pub fn step(&self, procedure: u8) -> Option<StackStep> {
+    pub fn step(&self, procedure: u16) -> Option<StackStep> {
         steps_from(self.procedures.as_slice(), self.links.as_slice(), procedure)
+    }
+
+    /// How many steps of a way to a procedure's greatest depth are followed: as many as there are procedures, or as there can be in
+    /// versions 1 to 3. Only a way through a circle has more.
+    pub fn longest_way(&self) -> usize {
+        self.procedures.len().max(256)
     }
 
     /// The addresses of the stack region.

@@ -18,9 +18,9 @@ pub enum EnteredBy {
 /// A procedure enters another one, from some of its nodes.
 #[derive(Clone, Copy, PartialEq, Eq)]
 pub struct CallLink {
-    pub caller: u8,
+    pub caller: u16,
     /// Which is entered; none where the caller goes on itself at the address, as version 3 allows.
-    pub callee: Option<u8>,
+    pub callee: Option<u16>,
     pub by: EnteredBy,
     /// From how many nodes.
     pub nodes: u32,
@@ -75,7 +75,7 @@ impl Links {
     }
 
     /// Where those of a caller begin, which is the last one or a new one.
-    fn begin(&mut self, caller: u8) {
+    fn begin(&mut self, caller: u16) {
         let is_new = match self.all.last() {
             Some(link) => link.caller != caller,
             None => true,
@@ -102,7 +102,7 @@ impl Links {
 }
 
 /// The bytes that wait below a callee's own.
-fn waiting_below(cert: &Cert<'_>, held: u16, callee: Option<u8>) -> u16 {
+fn waiting_below(cert: &Cert<'_>, held: u16, callee: Option<u16>) -> u16 {
     let taken = match callee {
         Some(callee) => u16::from(taken_by(cert, callee)),
         None => held,
@@ -112,7 +112,7 @@ fn waiting_below(cert: &Cert<'_>, held: u16, callee: Option<u8>) -> u16 {
 
 /// The bytes that wait below what is called: by the rules of versions 1 and 2 those that are held and the return word, by
 /// those of version 3, where the return word is among the bytes that are held, those that the callee doesn't take over.
-fn waiting_in_call(cert: &Cert<'_>, held: u16, callee: Option<u8>) -> u16 {
+fn waiting_in_call(cert: &Cert<'_>, held: u16, callee: Option<u16>) -> u16 {
     match Rules::of(cert.version()) {
         Rules::Simple => held.saturating_add(2),
         Rules::Extended => waiting_below(cert, held, callee),
@@ -120,7 +120,7 @@ fn waiting_in_call(cert: &Cert<'_>, held: u16, callee: Option<u8>) -> u16 {
 }
 
 /// The bytes that wait below a handler: the state is the one before the dispatch.
-fn waiting_in_dispatch(cert: &Cert<'_>, held: u16, callee: Option<u8>) -> u16 {
+fn waiting_in_dispatch(cert: &Cert<'_>, held: u16, callee: Option<u16>) -> u16 {
     let pushed = held.saturating_add(2);
     match Rules::of(cert.version()) {
         Rules::Simple => pushed,
@@ -132,7 +132,7 @@ fn waiting_in_dispatch(cert: &Cert<'_>, held: u16, callee: Option<u8>) -> u16 {
 fn call_of(
     program: &Program<'_>,
     cert: &Cert<'_>,
-    caller: u8,
+    caller: u16,
     node: u32,
     way: &Option<Successor<'_>>,
 ) -> Option<CallLink> {

@@ -49,7 +49,7 @@ fn sketch_at(sketches: &[Sketch], is_main: bool, bank: u16, address: u16) -> Opt
 }
 
 /// The bytes that a procedure is allowed, its return address among them. By the rules of versions 1 and 2 it is counted apart.
-fn need_of(cert: &Cert<'_>, number: u8, need: u16) -> u16 {
+fn need_of(cert: &Cert<'_>, number: u16, need: u16) -> u16 {
     match Rules::of(cert.version()) {
         Rules::Simple if number > 0 => need.saturating_add(2),
         _ => need,
@@ -107,7 +107,7 @@ impl Outline {
         &mut self,
         alloc: Global,
         cert: &Cert<'_>,
-        number: u8,
+        number: u16,
     ) -> Result<(), AllocError> {
         if number >= cert.procedures() {
             return Ok(());
@@ -130,7 +130,7 @@ impl Outline {
     }
 
     /// Says that an interrupt may come in a procedure.
-    fn add_coming(&mut self, procedure: u8, interrupt: Interrupt) -> Result<(), AllocError> {
+    fn add_coming(&mut self, procedure: u16, interrupt: Interrupt) -> Result<(), AllocError> {
         let Some(place) = self.places.get(usize::from(procedure)) else {
             return Ok(());
         };

@@ -88,7 +88,7 @@ pub(crate) fn place_of(cert: &Cert<'_>, number: u32) -> (u16, u16) {
 }
 
 /// What the certificate says of a procedure, before its nodes are looked at.
-fn declared(cert: &Cert<'_>, number: u8) -> Option<ProcedureFacts> {
+fn declared(cert: &Cert<'_>, number: u16) -> Option<ProcedureFacts> {
     if number >= cert.procedures() {
         return None;
     }

@@ -7,7 +7,7 @@ use gb_explain::{
 use gb_ops::decode::decode;
 
 /// The first node of a procedure at an address.
-fn node_at(cert: &Cert<'_>, procedure: u8, address: u16) -> Option<u32> {
+fn node_at(cert: &Cert<'_>, procedure: u16, address: u16) -> Option<u32> {
     let found = cert.find(procedure, address).found;
     if found.first < found.after {
         Some(found.first)
@@ -17,7 +17,7 @@ fn node_at(cert: &Cert<'_>, procedure: u8, address: u16) -> Option<u32> {
 }
 
 /// The first node of a callee.
-fn entry_of(cert: &Cert<'_>, callee: u8) -> Option<u32> {
+fn entry_of(cert: &Cert<'_>, callee: u16) -> Option<u32> {
     if callee < cert.procedures() {
         Some(cert.procedure(callee).entry())
     } else {
@@ -29,7 +29,7 @@ fn entry_of(cert: &Cert<'_>, callee: u8) -> Option<u32> {
 fn target_in(
     program: &Program<'_>,
     cert: &Cert<'_>,
-    procedure: u8,
+    procedure: u16,
     way: &Option<Successor<'_>>,
 ) -> Option<u32> {
     let Some(successor) = way else { return None };

@@ -120,11 +120,11 @@ pub const FAULTY: &[Scenario] = &[
         ..SHOW
     },
     Scenario {
-        about: "a certificate of version 4",
+        about: "the beginning of a certificate of version 4",
         cert: Given::Read(Content::Fourth, ALL, Pace::Whole, StreamEnding::End),
-        written: ExpectedOutput::Text("CERTIFICATE C3\n"),
+        written: ExpectedOutput::Text("CERTIFICATE C1\n"),
         status: 2,
-        told: "game.cert: version 4",
+        told: "game.cert",
         ..VERIFY
     },
     Scenario {

@@ -1,6 +1,5 @@
-//! What lies behind an access that is refused. A run doesn't go on there, so of a loop around it the run knows the first round
-//! alone: here its further rounds are gone through, as if the access were allowed. What is told by this is never part of a
-//! certificate.
+//! What would come after an access that is refused. A run ends there, so of a loop around it the run knows the first round alone: here
+//! its further rounds are gone through, as if the access were allowed. What is told by this is never part of a certificate.
 
 use crate::bounds::box_of;
 use crate::instruction::decoded;
@@ -9,10 +8,10 @@ use crate::types::{Run, RunNode};
 use gb_verify::{Abs, Program, Span, Successor, Target, WordPair, successors_of};
 use std::alloc::AllocError;
 
-/// How many instructions are gone on.
+/// The most instructions that are stepped through.
 const STEPS: u32 = 1024;
 
-/// How many bytes a loop's instructions lie before and behind an access in it at most.
+/// The most bytes between an access and an instruction of the same loop.
 const NEAR: u16 = 48;
 
 /// An instruction behind an access, and a state there.

@@ -1,7 +1,7 @@
 //! Cartridges and certificates that are changed at once: where the one still fits the other, the cartridge runs.
 
 use crate::cartridges::{FEW, runs};
-use crate::certificates::{Told, agree_on_verdict, changed, is_third};
+use crate::certificates::{ToldVerdict, agree_on_verdict, changed, is_third};
 use crate::random::Random;
 use crate::tally::Tally;
 use gb_cert::Cert;
@@ -36,17 +36,17 @@ fn judge(alloc: Global, random: &mut Random, file: &[u8], bytes: &[u8]) -> Tally
         Rom::parse(file),
         agree_on_verdict(alloc, file, bytes, fault),
     ) {
-        (Ok(rom), Some(Told::Accepted)) => {
+        (Ok(rom), Some(ToldVerdict::Accepted)) => {
             tally.count_accepted();
             runs(alloc, random, &rom, FEW)
         }
-        (Ok(_), Some(Told::Refused { reason })) => {
+        (Ok(_), Some(ToldVerdict::Refused { reason })) => {
             if is_third(bytes) {
                 tally.note_reason(reason);
             }
             true
         }
-        (Ok(_), Some(Told::Unreadable)) => true,
+        (Ok(_), Some(ToldVerdict::Unreadable)) => true,
         _ => false,
     };
     tally.count(is_right);

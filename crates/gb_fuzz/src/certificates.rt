@@ -4,7 +4,7 @@ ghost use Rattle.std.specs.Prelude.{◌≡◌, false};
 
 use crate::random::Random;
 use crate::tally::Tally;
-use gb_cert::{AnyCert, Cert, CertFault, encode};
+use gb_cert::{Cert, CertFault, encode};
 use gb_cert_place::place::{Sought, fault_place};
 use gb_printed::{Outcome, UpgradeTo, Upgraded, show_bytes, upgrade_bytes, verify_bytes};
 use gb_text::kept_bytes::KeptBytes;
@@ -49,10 +49,9 @@ fn fault_line(fault: CertFault) -> [u8; 15] {
     line
 }
 
-/// Whether the place of a fault is told in whichever version the bytes are read: reading has that fault, and the place lies in
-/// the file.
+/// Whether the place of a fault is told: reading has that fault, and the place lies in the file.
 fn is_placed(alloc: Global, bytes: &[u8]) -> bool {
-    match (AnyCert::parse(alloc, bytes), fault_place(alloc, bytes)) {
+    match (Cert::parse(alloc, bytes), fault_place(alloc, bytes)) {
         (Ok(_), Sought::Certificate) => true,
         (Err(fault), Sought::Fault(place)) => {
             place.fault == fault && place.offset <= place.end && place.end <= bytes.len()
@@ -127,7 +126,7 @@ fn is_one_line(written: &[u8], beginning: &[u8]) -> bool {
 
 /// What the verdict's line tells.
 #[derive(Clone, Copy)]
-pub enum Told {
+pub enum ToldVerdict {
     Accepted,
     Refused { reason: u8 },
     Unreadable,
@@ -152,20 +151,20 @@ pub fn agree_on_verdict(
     rom: &[u8],
     bytes: &[u8],
     fault: Option<CertFault>,
-) -> Option<Told> {
+) -> Option<ToldVerdict> {
     let mut out = sink();
     let outcome = verify_bytes(alloc, rom, bytes, &mut out).ok()?;
     let reason = last_number(out.kept());
     match (outcome, fault) {
         (Outcome::Accepted, None) if is_one_line(out.kept(), b"ACCEPTED nodes ") => {
-            Some(Told::Accepted)
+            Some(ToldVerdict::Accepted)
         }
         (Outcome::Refused, None)
             if is_one_line(out.kept(), b"REFUSED node ") && (1..=17).contains(&reason) => {
-            Some(Told::Refused { reason })
+            Some(ToldVerdict::Refused { reason })
         }
         (Outcome::Unreadable, Some(fault)) if out.kept() == fault_line(fault).as_slice() => {
-            Some(Told::Unreadable)
+            Some(ToldVerdict::Unreadable)
         }
         _ => None,
     }
@@ -186,9 +185,9 @@ fn judge(alloc: Global, rom: &[u8], bytes: &[u8]) -> Tally {
     };
     let told = agree_on_verdict(alloc, rom, bytes, fault);
     match told {
-        Some(Told::Accepted) => tally.count_accepted(),
-        Some(Told::Refused { reason }) => tally.note_reason(reason),
-        Some(Told::Unreadable) | None => {}
+        Some(ToldVerdict::Accepted) => tally.count_accepted(),
+        Some(ToldVerdict::Refused { reason }) => tally.note_reason(reason),
+        Some(ToldVerdict::Unreadable) | None => {}
     }
     tally.count(agree && told.is_some());
     tally

@@ -64,9 +64,8 @@ pub use gb_events::{
 
 // Certificates.
 pub use gb_cert::{
-    AnyCert, AnyProcedure, Cert, CertFault, CertificatePlan, Found, NodePlan, NodeRef,
-    ProcedurePlan, ProcedureRef, Search, Version, WriteFault, encode, older_spelling, one_spelling,
-    write_certificate,
+    Cert, CertFault, CertificatePlan, Found, NodePlan, NodeRef, ProcedurePlan, ProcedureRef,
+    Search, Version, WriteFault, encode, older_rules, one_spelling, write_certificate,
 };
 pub use gb_trace::{
     Abs, Cell, Core, Ctl, Flg, ImeSet, KeptBanks, May, OneByte, Origin, Range, Relations, Rules,

@@ -33,7 +33,7 @@ fn nodes_of(facts: &Facts, interrupt: Interrupt) -> u32 {
 }
 
 /// Whether an interrupt enters a procedure.
-fn has_handler(facts: &Facts, interrupt: Interrupt, callee: u8) -> bool {
+fn has_handler(facts: &Facts, interrupt: Interrupt, callee: u16) -> bool {
     for link in &facts.links {
         if is_by(link, interrupt) && link.callee == Some(callee) {
             return true;

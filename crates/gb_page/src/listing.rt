@@ -6,7 +6,7 @@ use gb_reports::ProcedureFacts;
 use std::fmt;
 
 /// The first of a procedure's nodes, which follow one another: those before it are counted.
-fn first_of(page: &Page<'_, '_, '_, '_>, number: u8) -> u32 {
+fn first_of(page: &Page<'_, '_, '_, '_>, number: u16) -> u32 {
     let mut first = 0u32;
     for (place, procedure) in page.facts.procedures.iter().enumerate() {
         if place < usize::from(number) {
@@ -34,7 +34,7 @@ fn fmt_nodes<W: fmt::Write>(
 /// The listing of a procedure.
 pub fn fmt_listing<W: fmt::Write>(
     page: &Page<'_, '_, '_, '_>,
-    number: u8,
+    number: u16,
     procedure: &ProcedureFacts,
     f: &mut fmt::Formatter<W>,
 ) -> fmt::Result {

@@ -81,7 +81,7 @@ fn handler_name(interrupt: Interrupt) -> &'static str {
 }
 
 /// The name of a procedure without a symbol at its first address.
-pub(crate) fn usual_name(number: u8, address: u16) -> Option<&'static str> {
+pub(crate) fn usual_name(number: u16, address: u16) -> Option<&'static str> {
     if number == 0 {
         return Some("main");
     }
@@ -95,7 +95,7 @@ pub(crate) fn usual_name(number: u8, address: u16) -> Option<&'static str> {
 
 /// The name of a procedure without a symbol at its first address: the usual one, or else the symbol before, or its address.
 fn fmt_unnamed<W: fmt::Write>(
-    number: u8,
+    number: u16,
     at: Address,
     before: Option<SymbolOffset<'_>>,
     f: &mut fmt::Formatter<W>,
@@ -113,7 +113,7 @@ fn fmt_unnamed<W: fmt::Write>(
 /// The name of a procedure.
 fn fmt_name<W: fmt::Write>(
     symbols: &Symbols<'_>,
-    number: u8,
+    number: u16,
     procedure: &ProcedureFacts,
     f: &mut fmt::Formatter<W>,
 ) -> fmt::Result {
@@ -131,7 +131,7 @@ fn fmt_name<W: fmt::Write>(
 #[derive(Clone, Copy)]
 pub struct ProcedureName<'a, 'p, 'r, 'c, 's> {
     pub page: &'a Page<'p, 'r, 'c, 's>,
-    pub number: u8,
+    pub number: u16,
 }
 
 impl fmt::Display for ProcedureName<'_, '_, '_, '_, '_> {
@@ -148,7 +148,7 @@ impl fmt::Display for ProcedureName<'_, '_, '_, '_, '_> {
 #[derive(Clone, Copy)]
 pub struct ProcedureLink<'a, 'p, 'r, 'c, 's> {
     pub page: &'a Page<'p, 'r, 'c, 's>,
-    pub number: u8,
+    pub number: u16,
 }
 
 impl fmt::Display for ProcedureLink<'_, '_, '_, '_, '_> {

@@ -11,7 +11,7 @@ use std::fmt;
 /// The other end of a link: which procedure, by what, and from how many nodes.
 fn fmt_end<W: fmt::Write>(
     page: &Page<'_, '_, '_, '_>,
-    number: u8,
+    number: u16,
     link: &CallLink,
     f: &mut fmt::Formatter<W>,
 ) -> fmt::Result {
@@ -25,7 +25,7 @@ fn fmt_end<W: fmt::Write>(
 }
 
 /// Whether a procedure is entered from somewhere.
-fn is_entered(facts: &Facts, number: u8) -> bool {
+fn is_entered(facts: &Facts, number: u16) -> bool {
     for link in &facts.links {
         if link.callee == Some(number) {
             return true;
@@ -35,7 +35,7 @@ fn is_entered(facts: &Facts, number: u8) -> bool {
 }
 
 /// Whether a procedure enters something.
-fn has_links(facts: &Facts, number: u8) -> bool {
+fn has_links(facts: &Facts, number: u16) -> bool {
     for link in &facts.links {
         if link.caller == number {
             return true;
@@ -47,7 +47,7 @@ fn has_links(facts: &Facts, number: u8) -> bool {
 /// Who enters it.
 fn fmt_callers<W: fmt::Write>(
     page: &Page<'_, '_, '_, '_>,
-    number: u8,
+    number: u16,
     f: &mut fmt::Formatter<W>,
 ) -> fmt::Result {
     write!(f, "<dt>called from</dt><dd>")?;
@@ -67,7 +67,7 @@ fn fmt_callers<W: fmt::Write>(
 /// Whom it enters, or by whom it is interrupted.
 fn fmt_callees<W: fmt::Write>(
     page: &Page<'_, '_, '_, '_>,
-    number: u8,
+    number: u16,
     f: &mut fmt::Formatter<W>,
 ) -> fmt::Result {
     write!(f, "<dt>calls</dt><dd>")?;
@@ -120,7 +120,7 @@ fn fmt_exit<W: fmt::Write>(exit: Option<Exit>, f: &mut fmt::Formatter<W>) -> fmt
 /// What it may write, and what it needs.
 fn fmt_writes<W: fmt::Write>(
     page: &Page<'_, '_, '_, '_>,
-    number: u8,
+    number: u16,
     procedure: &ProcedureFacts,
     f: &mut fmt::Formatter<W>,
 ) -> fmt::Result {
@@ -139,7 +139,7 @@ fn fmt_writes<W: fmt::Write>(
 /// How deep it gets, and by which way.
 fn fmt_depth<W: fmt::Write>(
     page: &Page<'_, '_, '_, '_>,
-    number: u8,
+    number: u16,
     procedure: &ProcedureFacts,
     f: &mut fmt::Formatter<W>,
 ) -> fmt::Result {
@@ -163,7 +163,7 @@ fn fmt_depth<W: fmt::Write>(
 /// What there is to say of a procedure.
 pub fn fmt_procedure<W: fmt::Write>(
     page: &Page<'_, '_, '_, '_>,
-    number: u8,
+    number: u16,
     procedure: &ProcedureFacts,
     f: &mut fmt::Formatter<W>,
 ) -> fmt::Result {

@@ -26,7 +26,7 @@ impl fmt::Display for Depth {
 /// A procedure's row.
 fn fmt_row<W: fmt::Write>(
     page: &Page<'_, '_, '_, '_>,
-    number: u8,
+    number: u16,
     procedure: &ProcedureFacts,
     f: &mut fmt::Formatter<W>,
 ) -> fmt::Result {

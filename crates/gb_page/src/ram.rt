@@ -54,7 +54,7 @@ pub fn fmt_ranges<W: fmt::Write>(ranges: &[Range], f: &mut fmt::Formatter<W>) ->
 /// A procedure's row.
 fn fmt_row<W: fmt::Write>(
     page: &Page<'_, '_, '_, '_>,
-    number: u8,
+    number: u16,
     procedure: &ProcedureFacts,
     f: &mut fmt::Formatter<W>,
 ) -> fmt::Result {
@@ -71,7 +71,7 @@ fn fmt_row<W: fmt::Write>(
 /// A procedure's row, if it has ranges.
 fn fmt_row_at<W: fmt::Write>(
     page: &Page<'_, '_, '_, '_>,
-    number: u8,
+    number: u16,
     f: &mut fmt::Formatter<W>,
 ) -> fmt::Result {
     match page.facts.procedures.get(usize::from(number)) {

@@ -107,7 +107,7 @@ fn fmt_link<W: fmt::Write>(
 fn fmt_own<W: fmt::Write>(
     page: &Page<'_, '_, '_, '_>,
     name: ProcedureLink<'_, '_, '_, '_, '_>,
-    number: u8,
+    number: u16,
     f: &mut fmt::Formatter<W>,
 ) -> fmt::Result {
     let Some(procedure) = page.facts.procedures.get(usize::from(number)) else {
@@ -129,7 +129,7 @@ fn fmt_step<W: fmt::Write>(
     page: &Page<'_, '_, '_, '_>,
     step: StackStep,
     f: &mut fmt::Formatter<W>,
-) -> Result<Option<u8>, fmt::Error> {
+) -> Result<Option<u16>, fmt::Error> {
     let number = step.procedure;
     let name = ProcedureLink { page, number };
     match step.link {
@@ -145,14 +145,14 @@ fn fmt_step<W: fmt::Write>(
 }
 
 /// The steps of the way to a procedure's greatest depth. Where the certificate is refused there may be a circle, so no more
-/// steps are shown than there can be procedures.
+/// steps are shown than a way has that passes each procedure once.
 fn fmt_steps<W: fmt::Write>(
     page: &Page<'_, '_, '_, '_>,
-    from: u8,
+    from: u16,
     f: &mut fmt::Formatter<W>,
 ) -> fmt::Result {
     let mut next = Some(from);
-    for _ in 0..256 {
+    for _ in 0..page.facts.longest_way() {
         let Some(number) = next else { break };
         let Some(step) = page.facts.step(number) else {
             break;
@@ -165,7 +165,7 @@ fn fmt_steps<W: fmt::Write>(
 /// The way to a procedure's greatest depth, call by call.
 pub fn fmt_way<W: fmt::Write>(
     page: &Page<'_, '_, '_, '_>,
-    from: u8,
+    from: u16,
     f: &mut fmt::Formatter<W>,
 ) -> fmt::Result {
     write!(

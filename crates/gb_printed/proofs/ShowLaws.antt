@@ -8,7 +8,7 @@ use Rattle.gb_watch.specs.Below.gb_console.Below.gb_fields.declared.fault.CertFa
 use Rattle.gb_watch.specs.Below.gb_console.Below.gb_domain.declared.rules.Rules.{Rules}
 use Rattle.gb_watch.specs.Below.gb_console.Below.gb_domain.Types.{ProcedureParts, Node}
 use Rattle.gb_watch.specs.Below.gb_console.Below.gb_domain.Certificate.{Certificate}
-use Rattle.gb_watch.specs.Below.gb_console.Below.gb_states.Reading.{read_certificate}
+use Rattle.gb_watch.specs.Below.gb_console.Below.gb_states.WholeReading.{read_certificate}
 use Rattle.gb_text.specs.Sink.{Gains}
 use Rattle.gb_text.specs.Text.{GainsBeginning}
 use Rattle.gb_text.proofs.Remaining.{Remains, remains_less, remains_cut, remains_none}

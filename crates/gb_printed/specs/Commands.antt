@@ -10,7 +10,7 @@ use Rattle.gb_text.specs.Text.{GainsBeginning}
 use Rattle.gb_watch.specs.Below.gb_console.Below.gb_fields.declared.fault.CertFault.{CertFault}
 use Rattle.gb_watch.specs.Below.gb_console.Below.gb_fields.declared.fault.CertFault.TheVariants.{Memory}
 use Rattle.gb_watch.specs.Below.gb_console.Below.gb_domain.Certificate.{Certificate}
-use Rattle.gb_watch.specs.Below.gb_console.Below.gb_states.Reading.{read_certificate}
+use Rattle.gb_watch.specs.Below.gb_console.Below.gb_states.WholeReading.{read_certificate}
 use Rattle.gb_watch.specs.Below.gb_verify.Text.{memory_line}
 use Rattle.gb_watch.specs.Below.gb_verify.CertificateFile.{text_of}
 use Rattle.gb_printed.specs.HeaderLine.{header_text}

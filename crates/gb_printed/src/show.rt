@@ -78,12 +78,12 @@ fn told_need(rules: Rules, need: u16) -> u16
 
 /// The line of a procedure.
 #[tactic(auto, unfolding(crate::specs::Show::procedure_text))]
-fn procedure_line(rules: Rules, number: u8, procedure: &ProcedureRef<'_>) -> Line
+fn procedure_line(rules: Rules, number: u16, procedure: &ProcedureRef<'_>) -> Line
     ensures { result ≡ procedure_text rules number procedure.now }
 {
     let mut line = Line::new();
     line.push_text(b"procedure ");
-    push_small(&mut line, u16::from(number));
+    push_small(&mut line, number);
     line.push_text(b" entry ");
     line.push_number(u64::from(procedure.entry()));
     push_base(&mut line, rules, procedure.base());
@@ -106,7 +106,7 @@ fn node_line(number: u32, node: &NodeRef<'_>) -> Line
     line.push_text(b"node ");
     line.push_number(u64::from(number));
     line.push_text(b" procedure ");
-    push_small(&mut line, u16::from(node.procedure()));
+    push_small(&mut line, node.procedure());
     line.push_text(b" address ");
     line.push_word(node.address());
     line.push_text(b" bank ");

@@ -22,7 +22,7 @@ use Rattle.gb_domain.specs.Values.{interval_of}
 use Rattle.gb_domain.proofs.ValueLaws.{Has-same, same-Has}
 use Rattle.gb_abs_effects.specs.Below.gb_vals.Meaning.{In}
 use Rattle.gb_abs_effects.specs.Below.gb_abs.Covering.{cell_at, covers_val, covers_core, covers_items, covers_parts, covers_cells as covers_cells_alone}
-use Rattle.gb_abs_effects.specs.Below.gb_abs.Meaning.{Activation, Holds, HoldsLowBank, MeansParts, IsMemory}
+use Rattle.gb_abs_effects.specs.Below.gb_abs.Meaning.{Activation, Holds, MeansParts, IsMemory}
 use Rattle.gb_abs_effects.specs.Below.gb_abs.Storage.{peek}
 use Rattle.gb_abs_effects.proofs.Below.gb_abs_laws.CoveringLaws.{Holds-covered, Holds-cell, MeansParts-covered}
 use Rattle.gb_abs_effects.proofs.CoreLaws.{In-from}
@@ -31,7 +31,7 @@ use Rattle.gb_summaries.proofs.Below.gb_pairs_laws.CoveringLaws.{covers_pairs_so
 use Rattle.gb_summaries.proofs.Below.gb_copies_laws.CoveringLaws.{covers_byte_sound}
 use Rattle.gb_summaries.proofs.Below.gb_ram_bounds_laws.CoveringLaws.{byte_at_sound}
 use Rattle.gb_summaries.proofs.CoveringLaws.{HoldsState-known, covers_summary_sound}
-use Rattle.gb_summaries.proofs.KnownLaws.{PointersIn-known, windows_within}
+use Rattle.gb_summaries.proofs.KnownLaws.{PointersIn-known}
 use Rattle.gb_summaries.specs.Below.gb_pairs.declared.values.Values.{Values}
 use Rattle.gb_summaries.specs.Below.gb_pairs.Meaning.{Holds as HoldValues}
 use Rattle.gb_summaries.specs.Below.gb_ram_bounds.Cells.{cell_at as strided_at, has_cell}
@@ -45,6 +45,7 @@ use Rattle.gb_summaries.specs.Meaning.{pointers_of}
 use Rattle.gb_product.specs.Covering.{covers_zero, covers_relations, uncopied, byte_in, covers_cells, values_in, covers}
 use Rattle.gb_product.specs.Meaning.{IsSummarized, Means}
 use Rattle.gb_product.specs.Sound.{IsPartOf}
+use Rattle.gb_product.proofs.ControllerLaws.{windows_hold}
 
 zero_covered : (s t : Option WordPair) (x : Registers ℕ) (f : Flags) → covers_zero s t ≡ true → IsZero s x f → IsZero t x f
 zero_covered s None x f h z = tt
@@ -131,7 +132,7 @@ AreCells-covered v cells s (c ∷ kept) entry x e memory h state =
 
 -- ---- all of it
 
-HoldsKnown-means :
+pub HoldsKnown-means :
     (s : AbsState) (entry : Activation) (base : ℕ) (x : MState) → Means s entry base x
     → HoldsKnown entry.program (values_in s) s.core.ctl s.cells s.summary x.processor (peek x.storage) x.storage.banks
 HoldsKnown-means s entry base x m =
@@ -140,15 +141,7 @@ HoldsKnown-means s entry base x m =
         registers = λ r. In-from (get r s.core.registers) entry (get r x.processor.registers) (m.parts.core.registers r);
         pairs = m.related.pairs;
       };
-      windows = windows_within entry.program.kind s.core.ctl x.storage.banks (
-          record {
-            bank_least = m.parts.core.controller.bank_least;
-            bank_most = m.parts.core.controller.bank_most;
-            second_least = m.parts.core.controller.second_least;
-            second_most = m.parts.core.controller.second_most;
-            low_least = λ e. (subst (λ k. HoldsLowBank k s.core.ctl x.storage.banks.bank) e m.parts.core.controller.low_bank).0;
-            low_most = λ e. (subst (λ k. HoldsLowBank k s.core.ctl x.storage.banks.bank) e m.parts.core.controller.low_bank).1;
-          });
+      windows = windows_hold s.core.ctl entry x.storage.banks m.parts.core.controller;
       bytes = λ a. let small = m.parts.memory.bytes a in omega arith;
       cells_hold = HoldCells-means s.cells entry x m.parts.cells;
       summary = m.summary;

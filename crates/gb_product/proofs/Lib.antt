@@ -6,5 +6,6 @@ pub mod NothingLaws
 pub mod SilenceLaws
 pub mod CutLaws
 pub mod ReducedLaws
+pub mod ControllerLaws
 pub mod SideLaws
 pub mod Below

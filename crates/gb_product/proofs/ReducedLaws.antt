@@ -23,11 +23,10 @@ use Rattle.gb_summaries.proofs.Below.gb_pairs_laws.CutLaws as pair_cuts
 use Rattle.gb_summaries.proofs.Below.gb_pairs_laws.KeptLaws.{ArePairs-cut}
 use Rattle.gb_summaries.proofs.Below.gb_pairs_laws.ReducedLaws as pair_laws
 use Rattle.gb_summaries.specs.Below.gb_relations.Transfer.{values_of}
-use Rattle.gb_product.specs.declared.parts.Branch.{Branch}
 use Rattle.gb_product.specs.declared.parts.Product.{Product}
 use Rattle.gb_product.specs.Meaning.{AreRelated}
-use Rattle.gb_product.specs.Reduced.{product_of, product_if, with_values_if, reduced_together, with_cell_if, reduced, reduced_branch}
-use Rattle.gb_product.specs.Sound.{IsReduced, IsReducedBranch, IsMeantProduct, IsMeantBranch, MeansBranch, IsSoundReducing, IsSoundBranch}
+use Rattle.gb_product.specs.Reduced.{product_of, product_if, with_values_if, reduced_together, reduced}
+use Rattle.gb_product.specs.Sound.{IsReduced, IsMeantProduct, IsSoundReducing}
 use Rattle.gb_product.proofs.CutLaws.{AreCut, IsCutCore-registers, IsCutCore-itself, IsCore-cut, IsCutTogether-pairs}
 use Rattle.gb_product.proofs.MeaningLaws.{MeansCore-cut, AreRelated-cut}
 
@@ -91,20 +90,6 @@ unfolding reduced
 reduced_sound Simple core r o e are = subst (λ p. IsSoundReducing core r p) (sym e) (same_sound core r)
 reduced_sound Extended core r o e are = with_values_sound core r _ o e refl (pair_laws.reduced_sound (values_of core.registers r.pairs) _ refl are)
 
-IsMeantBranch-with_cell :
-    (b : Branch) (o : Option Product) (entry : Activation) (x : MState) → IsMeantProduct o entry x → MeansBranch b entry x → IsMeantBranch (with_cell_if b.cell o) entry x
-IsMeantBranch-with_cell b None entry x holds m = holds
-IsMeantBranch-with_cell b (Some p) entry x holds m = record { core = holds.core; related = holds.related; cell = m.cell }
-
-pub with_cell_sound : (b : Branch) (o : Option Product) (r : Option Branch) → r ≡ with_cell_if b.cell o → IsSoundReducing b.core b.relations o → IsSoundBranch b r
-with_cell_sound b o r e h =
-    subst (λ s. IsSoundBranch b s) (sym e)
-    (record { gives = λ entry x bytes m. IsMeantBranch-with_cell b o entry x (h.gives entry x bytes m.core m.related) m })
-
-pub reduced_branch_sound : (rules : Rules) (b : Branch) (o : Option Branch) → o ≡ reduced_branch rules b → ArePairs b.relations.pairs → IsSoundBranch b o
-unfolding reduced_branch
-reduced_branch_sound rules b o e are = with_cell_sound b _ o e (reduced_sound rules b.core b.relations _ refl are)
-
 -- ---- what is cut
 
 pub AreCut-values : (v w : Values) → IsCut v w → AreCut v.registers w.registers
@@ -136,14 +121,3 @@ reduced_cuts rules core r o e = subst (λ p. IfSome p (IsReduced core r)) (sym e
 
 pub reduced_to_cuts : (rules : Rules) (core : Core) (r : Relations) (p : Product) → reduced rules core r ≡ Some p → IsReduced core r p
 reduced_to_cuts rules core r p e = reduced_cuts rules core r (Some p) (sym e)
-
-IsReducedBranch-with_cell :
-    (b : Branch) (o : Option Product) → IfSome o (IsReduced b.core b.relations) → IfSome (with_cell_if b.cell o) (IsReducedBranch b)
-IsReducedBranch-with_cell b None h = tt
-IsReducedBranch-with_cell b (Some p) h =
-    record { core = h.core; flags = h.flags; relations = h.relations; inhabited = h.inhabited; cell = refl }
-
-pub reduced_branch_cuts : (rules : Rules) (b : Branch) (o : Option Branch) → o ≡ reduced_branch rules b → IfSome o (IsReducedBranch b)
-unfolding reduced_branch
-reduced_branch_cuts rules b o e =
-    subst (λ p. IfSome p (IsReducedBranch b)) (sym e) (IsReducedBranch-with_cell b _ (IfSome-reduced rules b.core b.relations))

@@ -1,7 +1,6 @@
 -- The side by the machine's own condition is possible, and means what the core means.
-use Rattle.std.proofs.Common.{◌≡◌, ℕ, ◌≤◌, ◌<◌, Bool, true, false, not, ◌==◌, ◌&&◌, cond, nat_le, List, [], ◌∷◌, Option, Some, None, refl, sym, ◌∙◌, subst, arith}
+use Rattle.std.proofs.Common.{◌≡◌, ℕ, ◌≤◌, ◌<◌, Bool, true, false, not, ◌==◌, ◌&&◌, cond, nat_le, Option, Some, None, refl, sym, ◌∙◌, subst, arith}
 use Rattle.std.specs.Prelude.{IfSome}
-use Rattle.std.specs.List.{AllByRecursion}
 use Rattle.std.proofs.lemmas.Bool.{and_parts, eqb-true, not-true}
 use Rattle.std.proofs.lemmas.Bool.Decides.{nat_tests}
 use Rattle.gb_ops.specs.declared.op.Condition.{Condition}
@@ -27,13 +26,11 @@ use Rattle.gb_abs_effects.specs.Below.gb_vals.Meaning.{In}
 use Rattle.gb_abs_effects.specs.Below.gb_vals.Tests.{side, IsKept}
 use Rattle.gb_abs_effects.proofs.Below.gb_vals_laws.BranchLaws.{side_kept}
 use Rattle.gb_product.specs.Meaning.{AreRelated}
-use Rattle.gb_abs_effects.specs.Below.gb_abs.Meaning.{Activation, Holds, MeansCore, IsMemory}
-use Rattle.gb_abs_effects.specs.Below.gb_abs.Covering.{cell_at}
+use Rattle.gb_abs_effects.specs.Below.gb_abs.Meaning.{Activation, Holds, MeansCore}
 use Rattle.gb_abs_effects.specs.Below.gb_abs.Storage.{peek}
-use Rattle.gb_abs_effects.proofs.Below.gb_abs_laws.CoveringLaws.{Holds-cell}
 use Rattle.gb_abs_effects.specs.Sides as Flags
 use Rattle.gb_abs_effects.specs.Sound.{side_by, IsMeant}
-use Rattle.gb_abs_effects.proofs.CoreLaws.{some-is, In-from}
+use Rattle.gb_abs_effects.proofs.CoreLaws.{In-from}
 use Rattle.gb_abs_effects.proofs.SideLaws as flag_sides
 use Rattle.gb_summaries.specs.Below.gb_pairs.declared.values.Values.{Values}
 use Rattle.gb_summaries.specs.Below.gb_pairs.Meaning.{word_of}
@@ -54,7 +51,7 @@ use Rattle.gb_abs_effects.specs.Below.gb_abs.Cells.{IsPlaced}
 use Rattle.gb_summaries.specs.Below.gb_relations.Transfer.{values_of}
 use Rattle.gb_product.specs.declared.parts.Branch.{Branch}
 use Rattle.gb_product.specs.declared.parts.Branches.{Branches}
-use Rattle.gb_product.specs.Sides.{memory_of, contents_of, is_any, known_cell, without_others, with_values_if, with_contents_if, narrowed_side, side_where, taken_side, opposite_of, not_taken_side, sides_of}
+use Rattle.gb_product.specs.Sides.{contents_of, is_any, known_cell, without_others, with_values_if, with_contents_if, narrowed_side, side_where, taken_side, opposite_of, not_taken_side, sides_of}
 use Rattle.gb_product.specs.Sound.{IsKnown, HoldsCell, IsMeantBranch, IsSoundSide, AreSoundSides, IsCutCore, IsSideOf, AreSidesOf}
 use Rattle.gb_product.proofs.CutLaws.{AreCut, AreCut-trans, IsCutCore-registers, IsCutCore-flags, IsCutCore-itself, IsCutCore-trans, IsCore-cut, IsCutTogether-pairs}
 use Rattle.gb_product.proofs.MeaningLaws.{MeansCore-cut, AreRelated-cut, AreWords, AreWords-pairs, are_words}
@@ -96,14 +93,6 @@ without_others_cuts (Some p) condition.NotCarry v = IsCut-itself v
 
 -- ---- the byte in memory
 
-held_in_memory :
-    (address : Option ℕ) (cells : List Cell) (entry : Activation) (x : MState) (a : ℕ) → IsMemory x.storage
-    → AllByRecursion (λ c. Holds c.val entry (peek x.storage c.address)) cells → address ≡ Some a
-    → Holds (memory_of address cells) entry (peek x.storage a)
-held_in_memory None cells entry x a memory h e = cc
-held_in_memory (Some b) cells entry x a memory h e =
-    subst (λ c. Holds (cell_at b cells) entry (peek x.storage c)) (some-is b a e) (Holds-cell cells b entry x.storage memory h)
-
 Holds-cut : (old new : Val) (entry : Activation) (n : ℕ) → IsCutVal old new → In new n → Holds old entry n → Holds new entry n
 Holds-cut old new entry n cut in_new h =
     record { least = in_new.least; most = in_new.most; low = in_new.low; origin = λ o e. h.origin o (sym cut.origin ∙ e) }
@@ -133,21 +122,6 @@ known_cell_val (Some a) v h = choose (is_any v)
     choose : (b : Bool) → IfSome (cond b None (Some (record { address = a; val = v }))) (λ (c : Cell). IsVal c.val)
     choose true = tt
     choose false = h
-
-IsVal-any : IsVal (record { lo = 0; hi = 255; low_bits = 0; origin = None })
-IsVal-any = record { order = omega arith; hi = omega arith; strided = refl }
-
-IsVal-cell_at : (a : ℕ) (cells : List Cell) → AllByRecursion (λ c. IsVal c.val) cells → IsVal (cell_at a cells)
-IsVal-cell_at a [] h = IsVal-any
-IsVal-cell_at a (c ∷ rest) h = choose (c.address == a) (IsVal-cell_at a rest h.1)
-  where
-    choose : (b : Bool) → IsVal (cell_at a rest) → IsVal (cond b c.val (cell_at a rest))
-    choose true k = h.0
-    choose false k = k
-
-IsVal-memory_of : (address : Option ℕ) (cells : List Cell) → AllByRecursion (λ c. IsVal c.val) cells → IsVal (memory_of address cells)
-IsVal-memory_of None cells h = IsVal-any
-IsVal-memory_of (Some a) cells h = IsVal-cell_at a cells h
 
 IsVal-cut : (old new : Val) → IsCutVal old new → IsVal old → IsVal new
 IsVal-cut old new cut is =
@@ -181,33 +155,33 @@ IsMeantBranch-with_values core r vals cell (Some v) entry x holds byte cut m n h
     }
 
 IsMeantBranch-with_contents :
-    (k : Condition) (cells : List Cell) (core : Core) (r : Relations) (o : Option PlaceContents) (entry : Activation) (x : MState)
-    → AreWords r.pairs → is_met k x.processor.flags ≡ true → IsKnown cells r entry x → MeansCore core entry x
-    → HoldContentsIn r.byte o x.processor.registers (peek x.storage) → IfSome o (IsCut r.byte (contents_of r.byte core cells))
+    (k : Condition) (memory : Val) (core : Core) (r : Relations) (o : Option PlaceContents) (entry : Activation) (x : MState)
+    → AreWords r.pairs → is_met k x.processor.flags ≡ true → IsKnown memory r entry x → MeansCore core entry x
+    → HoldContentsIn r.byte o x.processor.registers (peek x.storage) → IfSome o (IsCut r.byte (contents_of core memory))
     → IsMeantBranch (with_contents_if k core r o) entry x
-IsMeantBranch-with_contents k cells core r None entry x are met known m in_o cut = in_o
-IsMeantBranch-with_contents k cells core r (Some left) entry x are met known m in_o cut =
+IsMeantBranch-with_contents k memory core r None entry x are met known m in_o cut = in_o
+IsMeantBranch-with_contents k memory core r (Some left) entry x are met known m in_o cut =
     let v = values_of left.registers r.pairs in
     IsMeantBranch-with_values core r left.registers (known_cell r.byte.address left.memory) (without_others r.zero k v) entry x
     (HoldsIn-without_others r.zero k v x.processor.registers x.processor.flags are met known.related.zero
     (record { registers = in_o.0; pairs = known.related.pairs }))
-    (AreCut-contents r.byte (contents_of r.byte core cells) left cut)
+    (AreCut-contents r.byte (contents_of core memory) left cut)
     (without_others_cuts r.zero k v) m known.related
     (known_cell_holds r.byte.address left.memory entry x
-    (λ a e. Holds-cut _ left.memory entry _ cut.memory (in_o.1 a e) (held_in_memory r.byte.address cells entry x a known.memory known.cells e)))
+    (λ a e. Holds-cut _ left.memory entry _ cut.memory (in_o.1 a e) (known.byte a e)))
 
 IsMeantBranch-narrowed_side :
-    (k : Condition) (cells : List Cell) (r : Relations) (core : Core) (entry : Activation) (x : MState)
-    → AreWords r.pairs → is_met k x.processor.flags ≡ true → IsKnown cells r entry x → MeansCore core entry x
-    → IsMeantBranch (narrowed_side k cells r core) entry x
+    (k : Condition) (memory : Val) (r : Relations) (core : Core) (entry : Activation) (x : MState)
+    → AreWords r.pairs → is_met k x.processor.flags ≡ true → IsKnown memory r entry x → MeansCore core entry x
+    → IsMeantBranch (narrowed_side k memory r core) entry x
 unfolding narrowed_side
-IsMeantBranch-narrowed_side k cells r core entry x are met known m =
-    let c = contents_of r.byte core cells in
+IsMeantBranch-narrowed_side k memory r core entry x are met known m =
+    let c = contents_of core memory in
     let holds : HoldContents r.byte c x.processor.registers (peek x.storage) = (
       λ q. In-from (get q core.registers) entry (get q x.processor.registers) (m.registers q),
-      λ a e. In-from _ entry _ (held_in_memory r.byte.address cells entry x a known.memory known.cells e),
+      λ a e. In-from _ entry _ (known.byte a e),
     ) in
-    IsMeantBranch-with_contents k cells core r _ entry x are met known m
+    IsMeantBranch-with_contents k memory core r _ entry x are met known m
     ((narrowed_sound r.byte k c _ refl).gives x.processor.registers (peek x.storage) x.processor.flags holds known.related.byte met)
     (narrowed_cuts r.byte k c _ refl)
 
@@ -217,14 +191,14 @@ IsMetIf None f = Unit {0}
 IsMetIf (Some k) f = is_met k f ≡ true
 
 IsMeantBranch-side_where :
-    (k : Option Condition) (cells : List Cell) (r : Relations) (o : Option Core) (entry : Activation) (x : MState)
-    → AreWords r.pairs → IsMetIf k x.processor.flags → IsKnown cells r entry x → IsMeant o entry x
-    → IsMeantBranch (side_where k cells r o) entry x
+    (k : Option Condition) (memory : Val) (r : Relations) (o : Option Core) (entry : Activation) (x : MState)
+    → AreWords r.pairs → IsMetIf k x.processor.flags → IsKnown memory r entry x → IsMeant o entry x
+    → IsMeantBranch (side_where k memory r o) entry x
 unfolding IsMetIf
-IsMeantBranch-side_where None cells r None entry x are met known m = m
-IsMeantBranch-side_where (Some k) cells r None entry x are met known m = m
-IsMeantBranch-side_where None cells r (Some core) entry x are met known m = record { core = m; related = known.related; cell = tt }
-IsMeantBranch-side_where (Some k) cells r (Some core) entry x are met known m = IsMeantBranch-narrowed_side k cells r core entry x are met known m
+IsMeantBranch-side_where None memory r None entry x are met known m = m
+IsMeantBranch-side_where (Some k) memory r None entry x are met known m = m
+IsMeantBranch-side_where None memory r (Some core) entry x are met known m = record { core = m; related = known.related; cell = tt }
+IsMeantBranch-side_where (Some k) memory r (Some core) entry x are met known m = IsMeantBranch-narrowed_side k memory r core entry x are met known m
 
 -- ---- the sides of an instruction
 
@@ -251,116 +225,116 @@ met_where_not_taken o x l h e = choose (Flags.condition_of o) refl
     choose None f = tt
     choose (Some k) f = flag_sides.met-opposite k x.processor.flags (sym (flag_sides.is_taken-with o k x.processor l h f) ∙ e)
 
-IsSoundSide-taken : (o : Op) (cells : List Cell) (core : Core) (r : Relations) → AreWords r.pairs → IsSoundSide true o cells core r (taken_side o cells core r)
+IsSoundSide-taken : (o : Op) (memory : Val) (core : Core) (r : Relations) → AreWords r.pairs → IsSoundSide true o memory core r (taken_side o memory core r)
 unfolding taken_side
-IsSoundSide-taken o cells core r are =
+IsSoundSide-taken o memory core r are =
     record {
       gives = λ entry x l h known m e.
-          IsMeantBranch-side_where (Flags.condition_of o) cells r _ entry x are (met_where_taken o x l h e) known (flags_meant o core entry x l h true m e);
+          IsMeantBranch-side_where (Flags.condition_of o) memory r _ entry x are (met_where_taken o x l h e) known (flags_meant o core entry x l h true m e);
     }
 
-IsSoundSide-not_taken : (o : Op) (cells : List Cell) (core : Core) (r : Relations) → AreWords r.pairs → IsSoundSide false o cells core r (not_taken_side o cells core r)
+IsSoundSide-not_taken : (o : Op) (memory : Val) (core : Core) (r : Relations) → AreWords r.pairs → IsSoundSide false o memory core r (not_taken_side o memory core r)
 unfolding not_taken_side
-IsSoundSide-not_taken o cells core r are =
+IsSoundSide-not_taken o memory core r are =
     record {
       gives = λ entry x l h known m e.
-          IsMeantBranch-side_where (opposite_of (Flags.condition_of o)) cells r _ entry x are (met_where_not_taken o x l h e) known
+          IsMeantBranch-side_where (opposite_of (Flags.condition_of o)) memory r _ entry x are (met_where_not_taken o x l h e) known
           (flags_meant o core entry x l h false m e);
     }
 
-AreSoundSides-sides_of : (o : Op) (cells : List Cell) (core : Core) (r : Relations) → AreWords r.pairs → AreSoundSides o cells core r (sides_of o cells core r)
+AreSoundSides-sides_of : (o : Op) (memory : Val) (core : Core) (r : Relations) → AreWords r.pairs → AreSoundSides o memory core r (sides_of o memory core r)
 unfolding sides_of
-AreSoundSides-sides_of o cells core r are = record { taken = IsSoundSide-taken o cells core r are; not_taken = IsSoundSide-not_taken o cells core r are }
+AreSoundSides-sides_of o memory core r are = record { taken = IsSoundSide-taken o memory core r are; not_taken = IsSoundSide-not_taken o memory core r are }
 
 pub taken_side_sound :
-    (o : Op) (cells : List Cell) (core : Core) (r : Relations) (side : Option Branch)
-    → side ≡ taken_side o cells core r → ArePairs r.pairs → IsSoundSide true o cells core r side
-taken_side_sound o cells core r side e are =
-    subst (λ s. IsSoundSide true o cells core r s) (sym e) (IsSoundSide-taken o cells core r (AreWords-pairs r.pairs are))
+    (o : Op) (memory : Val) (core : Core) (r : Relations) (side : Option Branch)
+    → side ≡ taken_side o memory core r → ArePairs r.pairs → IsSoundSide true o memory core r side
+taken_side_sound o memory core r side e are =
+    subst (λ s. IsSoundSide true o memory core r s) (sym e) (IsSoundSide-taken o memory core r (AreWords-pairs r.pairs are))
 
 pub not_taken_side_sound :
-    (o : Op) (cells : List Cell) (core : Core) (r : Relations) (side : Option Branch)
-    → side ≡ not_taken_side o cells core r → ArePairs r.pairs → IsSoundSide false o cells core r side
-not_taken_side_sound o cells core r side e are =
-    subst (λ s. IsSoundSide false o cells core r s) (sym e) (IsSoundSide-not_taken o cells core r (AreWords-pairs r.pairs are))
+    (o : Op) (memory : Val) (core : Core) (r : Relations) (side : Option Branch)
+    → side ≡ not_taken_side o memory core r → ArePairs r.pairs → IsSoundSide false o memory core r side
+not_taken_side_sound o memory core r side e are =
+    subst (λ s. IsSoundSide false o memory core r s) (sym e) (IsSoundSide-not_taken o memory core r (AreWords-pairs r.pairs are))
 
 pub sides_of_sound :
-    (o : Op) (cells : List Cell) (core : Core) (r : Relations) (sides : Branches)
-    → sides ≡ sides_of o cells core r → ArePairs r.pairs → AreSoundSides o cells core r sides
-sides_of_sound o cells core r sides e are =
-    subst (λ s. AreSoundSides o cells core r s) (sym e) (AreSoundSides-sides_of o cells core r (AreWords-pairs r.pairs are))
+    (o : Op) (memory : Val) (core : Core) (r : Relations) (sides : Branches)
+    → sides ≡ sides_of o memory core r → ArePairs r.pairs → AreSoundSides o memory core r sides
+sides_of_sound o memory core r sides e are =
+    subst (λ s. AreSoundSides o memory core r s) (sym e) (AreSoundSides-sides_of o memory core r (AreWords-pairs r.pairs are))
 
 -- where no side is possible, no machine state is meant
 pub no_side :
-    (o : Op) (cells : List Cell) (core : Core) (r : Relations) (entry : Activation) (x : MState)
-    → ArePairs r.pairs → taken_side o cells core r ≡ None → not_taken_side o cells core r ≡ None
-    → IsKnown cells r entry x → MeansCore core entry x → ⊥
-no_side o cells core r entry x are e f known m = choose (effect_of o x.processor 0 0).is_taken refl
+    (o : Op) (memory : Val) (core : Core) (r : Relations) (entry : Activation) (x : MState)
+    → ArePairs r.pairs → taken_side o memory core r ≡ None → not_taken_side o memory core r ≡ None
+    → IsKnown memory r entry x → MeansCore core entry x → ⊥
+no_side o memory core r entry x are e f known m = choose (effect_of o x.processor 0 0).is_taken refl
   where
     choose : (b : Bool) → (effect_of o x.processor 0 0).is_taken ≡ b → ⊥
-    choose true is = (taken_side_sound o cells core r None (sym e) are).gives entry x 0 0 known m is
-    choose false is = (not_taken_side_sound o cells core r None (sym f) are).gives entry x 0 0 known m is
+    choose true is = (taken_side_sound o memory core r None (sym e) are).gives entry x 0 0 known m is
+    choose false is = (not_taken_side_sound o memory core r None (sym f) are).gives entry x 0 0 known m is
 
 -- the clauses of functions, whose types say that bounds are words
 pub taken_side_sound_of_words :
-    (o : Op) (cells : List Cell) (core : Core) (r : Relations) (side : Option Branch)
-    → side ≡ taken_side o cells core r → r.pairs.bc.bounds.last < 65536 → r.pairs.de.bounds.last < 65536 → r.pairs.hl.bounds.last < 65536
-    → IsSoundSide true o cells core r side
-taken_side_sound_of_words o cells core r side e bc de hl =
-    subst (λ s. IsSoundSide true o cells core r s) (sym e) (IsSoundSide-taken o cells core r (are_words r.pairs bc de hl))
+    (o : Op) (memory : Val) (core : Core) (r : Relations) (side : Option Branch)
+    → side ≡ taken_side o memory core r → r.pairs.bc.bounds.last < 65536 → r.pairs.de.bounds.last < 65536 → r.pairs.hl.bounds.last < 65536
+    → IsSoundSide true o memory core r side
+taken_side_sound_of_words o memory core r side e bc de hl =
+    subst (λ s. IsSoundSide true o memory core r s) (sym e) (IsSoundSide-taken o memory core r (are_words r.pairs bc de hl))
 
 pub not_taken_side_sound_of_words :
-    (o : Op) (cells : List Cell) (core : Core) (r : Relations) (side : Option Branch)
-    → side ≡ not_taken_side o cells core r → r.pairs.bc.bounds.last < 65536 → r.pairs.de.bounds.last < 65536
-    → r.pairs.hl.bounds.last < 65536 → IsSoundSide false o cells core r side
-not_taken_side_sound_of_words o cells core r side e bc de hl =
-    subst (λ s. IsSoundSide false o cells core r s) (sym e) (IsSoundSide-not_taken o cells core r (are_words r.pairs bc de hl))
+    (o : Op) (memory : Val) (core : Core) (r : Relations) (side : Option Branch)
+    → side ≡ not_taken_side o memory core r → r.pairs.bc.bounds.last < 65536 → r.pairs.de.bounds.last < 65536
+    → r.pairs.hl.bounds.last < 65536 → IsSoundSide false o memory core r side
+not_taken_side_sound_of_words o memory core r side e bc de hl =
+    subst (λ s. IsSoundSide false o memory core r s) (sym e) (IsSoundSide-not_taken o memory core r (are_words r.pairs bc de hl))
 
 pub sides_of_sound_of_words :
-    (o : Op) (cells : List Cell) (core : Core) (r : Relations) (sides : Branches)
-    → sides ≡ sides_of o cells core r → r.pairs.bc.bounds.last < 65536 → r.pairs.de.bounds.last < 65536
-    → r.pairs.hl.bounds.last < 65536 → AreSoundSides o cells core r sides
-sides_of_sound_of_words o cells core r sides e bc de hl =
-    subst (λ s. AreSoundSides o cells core r s) (sym e) (AreSoundSides-sides_of o cells core r (are_words r.pairs bc de hl))
+    (o : Op) (memory : Val) (core : Core) (r : Relations) (sides : Branches)
+    → sides ≡ sides_of o memory core r → r.pairs.bc.bounds.last < 65536 → r.pairs.de.bounds.last < 65536
+    → r.pairs.hl.bounds.last < 65536 → AreSoundSides o memory core r sides
+sides_of_sound_of_words o memory core r sides e bc de hl =
+    subst (λ s. AreSoundSides o memory core r s) (sym e) (AreSoundSides-sides_of o memory core r (are_words r.pairs bc de hl))
 
 -- ---- what is cut
 
 IsSideOf-with_values :
-    (cells : List Cell) (core : Core) (r : Relations) (left : PlaceContents) (o : Option Values)
-    → IsCut r.byte (contents_of r.byte core cells) left → IfSome o (pair_sound.IsCut (values_of left.registers r.pairs))
-    → IfSome (with_values_if core r (known_cell r.byte.address left.memory) o) (IsSideOf cells core r)
-IsSideOf-with_values cells core r left None byte cut = tt
-IsSideOf-with_values cells core r left (Some v) byte cut =
+    (memory : Val) (core : Core) (r : Relations) (left : PlaceContents) (o : Option Values)
+    → IsCut r.byte (contents_of core memory) left → IfSome o (pair_sound.IsCut (values_of left.registers r.pairs))
+    → IfSome (with_values_if core r (known_cell r.byte.address left.memory) o) (IsSideOf memory core r)
+IsSideOf-with_values memory core r left None byte cut = tt
+IsSideOf-with_values memory core r left (Some v) byte cut =
     let registers : AreCut core.registers v.registers =
-    AreCut-trans core.registers left.registers v.registers (AreCut-contents r.byte (contents_of r.byte core cells) left byte)
+    AreCut-trans core.registers left.registers v.registers (AreCut-contents r.byte (contents_of core memory) left byte)
     (AreCut-values (values_of left.registers r.pairs) v cut) in
     record {
       core = IsCutCore-registers core v.registers registers;
       relations = IsCutTogether-pairs r v.pairs (ArePairs-cut (values_of left.registers r.pairs) v cut);
       inhabited = IsCore-cut core v.registers registers;
       address = known_cell_at r.byte.address left.memory;
-      val = λ h. known_cell_val r.byte.address left.memory (IsVal-cut _ left.memory byte.memory (IsVal-memory_of r.byte.address cells h));
+      val = λ h. known_cell_val r.byte.address left.memory (IsVal-cut _ left.memory byte.memory h);
     }
 
 IsSideOf-with_contents :
-    (k : Condition) (cells : List Cell) (core : Core) (r : Relations) (o : Option PlaceContents)
-    → IfSome o (IsCut r.byte (contents_of r.byte core cells)) → IfSome (with_contents_if k core r o) (IsSideOf cells core r)
-IsSideOf-with_contents k cells core r None cut = tt
-IsSideOf-with_contents k cells core r (Some left) cut =
-    IsSideOf-with_values cells core r left _ cut (without_others_cuts r.zero k (values_of left.registers r.pairs))
+    (k : Condition) (memory : Val) (core : Core) (r : Relations) (o : Option PlaceContents)
+    → IfSome o (IsCut r.byte (contents_of core memory)) → IfSome (with_contents_if k core r o) (IsSideOf memory core r)
+IsSideOf-with_contents k memory core r None cut = tt
+IsSideOf-with_contents k memory core r (Some left) cut =
+    IsSideOf-with_values memory core r left _ cut (without_others_cuts r.zero k (values_of left.registers r.pairs))
 
-IsSideOf-narrowed_side : (k : Condition) (cells : List Cell) (r : Relations) (core : Core) → IfSome (narrowed_side k cells r core) (IsSideOf cells core r)
+IsSideOf-narrowed_side : (k : Condition) (memory : Val) (r : Relations) (core : Core) → IfSome (narrowed_side k memory r core) (IsSideOf memory core r)
 unfolding narrowed_side
-IsSideOf-narrowed_side k cells r core = IsSideOf-with_contents k cells core r _ (narrowed_cuts r.byte k (contents_of r.byte core cells) _ refl)
+IsSideOf-narrowed_side k memory r core = IsSideOf-with_contents k memory core r _ (narrowed_cuts r.byte k (contents_of core memory) _ refl)
 
 -- a core that the flags cut, and what its ranges are
 record IsByFlags (s t : Core) : Type 0 where
   core : IsCutCore s t
   inhabited : IsCore s → IsCore t
 
-IsSideOf-by_flags : (cells : List Cell) (s t : Core) (r : Relations) (o : Option Branch) → IsByFlags s t → IfSome o (IsSideOf cells t r) → IfSome o (IsSideOf cells s r)
-IsSideOf-by_flags cells s t r None h k = tt
-IsSideOf-by_flags cells s t r (Some b) h k =
+IsSideOf-by_flags : (memory : Val) (s t : Core) (r : Relations) (o : Option Branch) → IsByFlags s t → IfSome o (IsSideOf memory t r) → IfSome o (IsSideOf memory s r)
+IsSideOf-by_flags memory s t r None h k = tt
+IsSideOf-by_flags memory s t r (Some b) h k =
     record {
       core = IsCutCore-trans s t b.core h.core k.core;
       relations = k.relations;
@@ -370,11 +344,11 @@ IsSideOf-by_flags cells s t r (Some b) h k =
     }
 
 IsSideOf-side_where :
-    (k : Option Condition) (cells : List Cell) (core : Core) (r : Relations) (o : Option Core)
-    → IfSome o (IsByFlags core) → IfSome (side_where k cells r o) (IsSideOf cells core r)
-IsSideOf-side_where None cells core r None h = tt
-IsSideOf-side_where (Some k) cells core r None h = tt
-IsSideOf-side_where None cells core r (Some t) h =
+    (k : Option Condition) (memory : Val) (core : Core) (r : Relations) (o : Option Core)
+    → IfSome o (IsByFlags core) → IfSome (side_where k memory r o) (IsSideOf memory core r)
+IsSideOf-side_where None memory core r None h = tt
+IsSideOf-side_where (Some k) memory core r None h = tt
+IsSideOf-side_where None memory core r (Some t) h =
     record {
       core = h.core;
       relations = IsCutTogether-pairs r r.pairs (λ are. are);
@@ -382,7 +356,7 @@ IsSideOf-side_where None cells core r (Some t) h =
       address = tt;
       val = λ are. tt;
     }
-IsSideOf-side_where (Some k) cells core r (Some t) h = IsSideOf-by_flags cells core t r _ h (IsSideOf-narrowed_side k cells r t)
+IsSideOf-side_where (Some k) memory core r (Some t) h = IsSideOf-by_flags memory core t r _ h (IsSideOf-narrowed_side k memory r t)
 
 IsByFlags-both : (core : Core) (o : Option Core) → IfSome o (IsCutCore core) → (IsCore core → IfSome o IsCore) → IfSome o (IsByFlags core)
 IsByFlags-both core None h k = tt
@@ -412,35 +386,35 @@ IsCutCore-not_taken o core = choose (Flags.condition_of o)
     choose None = tt
     choose (Some k) = IsCutCore-side_of (Flags.opposite k) core
 
-IsSideOf-taken : (o : Op) (cells : List Cell) (core : Core) (r : Relations) → IfSome (taken_side o cells core r) (IsSideOf cells core r)
+IsSideOf-taken : (o : Op) (memory : Val) (core : Core) (r : Relations) → IfSome (taken_side o memory core r) (IsSideOf memory core r)
 unfolding taken_side
-IsSideOf-taken o cells core r =
-    IsSideOf-side_where (Flags.condition_of o) cells core r _
+IsSideOf-taken o memory core r =
+    IsSideOf-side_where (Flags.condition_of o) memory core r _
     (IsByFlags-both core _ (IsCutCore-taken o core) (λ is. (flag_sides.sides_of_inhabited o core _ refl is).taken))
 
-IsSideOf-not_taken : (o : Op) (cells : List Cell) (core : Core) (r : Relations) → IfSome (not_taken_side o cells core r) (IsSideOf cells core r)
+IsSideOf-not_taken : (o : Op) (memory : Val) (core : Core) (r : Relations) → IfSome (not_taken_side o memory core r) (IsSideOf memory core r)
 unfolding not_taken_side
-IsSideOf-not_taken o cells core r =
-    IsSideOf-side_where (opposite_of (Flags.condition_of o)) cells core r _
+IsSideOf-not_taken o memory core r =
+    IsSideOf-side_where (opposite_of (Flags.condition_of o)) memory core r _
     (IsByFlags-both core _ (IsCutCore-not_taken o core) (λ is. (flag_sides.sides_of_inhabited o core _ refl is).not_taken))
 
 pub taken_side_cuts :
-    (o : Op) (cells : List Cell) (core : Core) (r : Relations) (side : Option Branch)
-    → side ≡ taken_side o cells core r → IfSome side (IsSideOf cells core r)
-taken_side_cuts o cells core r side e = subst (λ s. IfSome s (IsSideOf cells core r)) (sym e) (IsSideOf-taken o cells core r)
+    (o : Op) (memory : Val) (core : Core) (r : Relations) (side : Option Branch)
+    → side ≡ taken_side o memory core r → IfSome side (IsSideOf memory core r)
+taken_side_cuts o memory core r side e = subst (λ s. IfSome s (IsSideOf memory core r)) (sym e) (IsSideOf-taken o memory core r)
 
 pub not_taken_side_cuts :
-    (o : Op) (cells : List Cell) (core : Core) (r : Relations) (side : Option Branch)
-    → side ≡ not_taken_side o cells core r → IfSome side (IsSideOf cells core r)
-not_taken_side_cuts o cells core r side e = subst (λ s. IfSome s (IsSideOf cells core r)) (sym e) (IsSideOf-not_taken o cells core r)
+    (o : Op) (memory : Val) (core : Core) (r : Relations) (side : Option Branch)
+    → side ≡ not_taken_side o memory core r → IfSome side (IsSideOf memory core r)
+not_taken_side_cuts o memory core r side e = subst (λ s. IfSome s (IsSideOf memory core r)) (sym e) (IsSideOf-not_taken o memory core r)
 
 pub sides_of_cuts :
-    (o : Op) (cells : List Cell) (core : Core) (r : Relations) (sides : Branches)
-    → sides ≡ sides_of o cells core r → AreSidesOf cells core r sides
+    (o : Op) (memory : Val) (core : Core) (r : Relations) (sides : Branches)
+    → sides ≡ sides_of o memory core r → AreSidesOf memory core r sides
 unfolding sides_of
-sides_of_cuts o cells core r sides e =
-    subst (λ s. AreSidesOf cells core r s) (sym e)
-    (record { taken = IsSideOf-taken o cells core r; not_taken = IsSideOf-not_taken o cells core r })
+sides_of_cuts o memory core r sides e =
+    subst (λ s. AreSidesOf memory core r s) (sym e)
+    (record { taken = IsSideOf-taken o memory core r; not_taken = IsSideOf-not_taken o memory core r })
 
 -- ---- where a side's cell lies
 
@@ -460,6 +434,6 @@ IsPlaced-if region address (Some c) h e = IsPlaced-free region c (subst (λ a. I
 
 -- in RAM outside the region, as the address among the places does
 pub side_placed :
-    (region : Region) (cells : List Cell) (core : Core) (r : Relations) (b : Branch)
-    → IsByteFree region r.byte.address → IsSideOf cells core r b → IfSome b.cell (IsPlaced region)
-side_placed region cells core r b h is = IsPlaced-if region r.byte.address b.cell h is.address
+    (region : Region) (memory : Val) (core : Core) (r : Relations) (b : Branch)
+    → IsByteFree region r.byte.address → IsSideOf memory core r b → IfSome b.cell (IsPlaced region)
+side_placed region memory core r b h is = IsPlaced-if region r.byte.address b.cell h is.address

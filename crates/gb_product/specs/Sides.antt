@@ -5,13 +5,12 @@ use Rattle.gb_ops.specs.declared.op.Condition.{Condition}
 use Rattle.gb_ops.specs.declared.op.Condition.TheVariants as condition
 use Rattle.gb_ops.specs.declared.op.Op.{Op}
 use Rattle.gb_domain.specs.declared.pairs.WordPair.{WordPair}
-use Rattle.gb_domain.specs.declared.places.OneByte.{OneByte}
 use Rattle.gb_domain.specs.declared.relations.Relations.{Relations}
 use Rattle.gb_domain.specs.declared.types.Val.{Val}
 use Rattle.gb_domain.specs.declared.types.Core.{Core}
 use Rattle.gb_domain.specs.declared.types.Cell.{Cell}
+use Rattle.gb_domain.specs.Summaries.{Program, SummaryParts}
 use Rattle.gb_domain.specs.Types.{any_val}
-use Rattle.gb_abs_effects.specs.Below.gb_abs.Covering.{cell_at}
 use Rattle.gb_abs_effects.specs.Sides as Flags
 use Rattle.gb_summaries.specs.Below.gb_pairs.declared.values.Values.{Values}
 use Rattle.gb_summaries.specs.Below.gb_pairs.Reduced.{restricted}
@@ -20,16 +19,18 @@ use Rattle.gb_summaries.specs.Below.gb_copies.Sides.{narrowed}
 use Rattle.gb_summaries.specs.Below.gb_relations.Transfer.{values_of}
 use Rattle.gb_product.specs.declared.parts.Branch.{Branch}
 use Rattle.gb_product.specs.declared.parts.Branches.{Branches}
+use Rattle.gb_product.specs.Covering.{byte_in}
 
 -- ---- the byte in memory
 
--- what is known of the byte at the address among the places, if there is one
-abbrev pub memory_of : Option ℕ → List Cell → Val
-memory_of None cells = any_val
-memory_of (Some a) cells = cell_at a cells
+-- what a state with these cells, and what it says of the whole program, knows of the byte at the address among the places; any where
+-- there is none
+abbrev pub memory_of : Program → Values → List Cell → SummaryParts → Option ℕ → Val
+memory_of program v cells s None = any_val
+memory_of program v cells s (Some a) = byte_in program v cells s a
 
-abbrev pub contents_of : OneByte → Core → List Cell → PlaceContents
-contents_of b core cells = record { registers = core.registers; memory = memory_of b.address cells }
+abbrev pub contents_of : Core → Val → PlaceContents
+contents_of core memory = record { registers = core.registers; memory = memory }
 
 -- each byte lies in the bounds
 abbrev pub is_any : Val → Bool
@@ -61,28 +62,29 @@ with_contents_if k core r None = None
 with_contents_if k core r (Some c) =
     with_values_if core r (known_cell r.byte.address c.memory) (without_others r.zero k (values_of c.registers r.pairs))
 
--- the side where a condition is met, by what the flags say of a byte and of a pair, if that is possible
-unfoldable pub narrowed_side : Condition → List Cell → Relations → Core → Option Branch
-narrowed_side k cells r core = with_contents_if k core r (narrowed r.byte k (contents_of r.byte core cells))
+-- the side where a condition is met, by what the flags say of a byte, of which this is known in memory, and of a pair, if that is
+-- possible
+unfoldable pub narrowed_side : Condition → Val → Relations → Core → Option Branch
+narrowed_side k memory r core = with_contents_if k core r (narrowed r.byte k (contents_of core memory))
 
 -- the side of a core that the flags leave; without a condition as it stands
-abbrev pub side_where : Option Condition → List Cell → Relations → Option Core → Option Branch
-side_where k cells r None = None
-side_where None cells r (Some core) = Some (record { core = core; relations = r; cell = None })
-side_where (Some k) cells r (Some core) = narrowed_side k cells r core
+abbrev pub side_where : Option Condition → Val → Relations → Option Core → Option Branch
+side_where k memory r None = None
+side_where None memory r (Some core) = Some (record { core = core; relations = r; cell = None })
+side_where (Some k) memory r (Some core) = narrowed_side k memory r core
 
 -- where the instruction is taken, if that is possible
-unfoldable pub taken_side : Op → List Cell → Core → Relations → Option Branch
-taken_side o cells core r = side_where (Flags.condition_of o) cells r (Flags.sides_of o core).taken
+unfoldable pub taken_side : Op → Val → Core → Relations → Option Branch
+taken_side o memory core r = side_where (Flags.condition_of o) memory r (Flags.sides_of o core).taken
 
 abbrev pub opposite_of : Option Condition → Option Condition
 opposite_of None = None
 opposite_of (Some k) = Some (Flags.opposite k)
 
 -- where it isn't taken, if that is possible
-unfoldable pub not_taken_side : Op → List Cell → Core → Relations → Option Branch
-not_taken_side o cells core r = side_where (opposite_of (Flags.condition_of o)) cells r (Flags.sides_of o core).not_taken
+unfoldable pub not_taken_side : Op → Val → Core → Relations → Option Branch
+not_taken_side o memory core r = side_where (opposite_of (Flags.condition_of o)) memory r (Flags.sides_of o core).not_taken
 
 -- the possible sides of an instruction; one without a condition has the taken side alone
-unfoldable pub sides_of : Op → List Cell → Core → Relations → Branches
-sides_of o cells core r = record { taken = taken_side o cells core r; not_taken = not_taken_side o cells core r }
+unfoldable pub sides_of : Op → Val → Core → Relations → Branches
+sides_of o memory core r = record { taken = taken_side o memory core r; not_taken = not_taken_side o memory core r }

@@ -1,22 +1,28 @@
 -- What operations on whole states promise of the machine (abstract interpretation: soundness; own).
-use Rattle.std.specs.Prelude.{◌≡◌, ℕ, ◌≤◌, Bool, true, false, List, Option, Some, None, IfSome}
-use Rattle.std.specs.List.{AllByRecursion}
+use Rattle.std.specs.Prelude.{◌≡◌, ℕ, ◌≤◌, ◌<◌, Bool, true, false, List, Option, Some, None, IfSome}
 use Rattle.gb_ops.specs.declared.op.Op.{Op}
 use Rattle.gb_ops.specs.declared.op.Register.{Register}
+use Rattle.gb_ops.specs.declared.machine.Banks.{Banks}
+use Rattle.gb_ops.specs.declared.registers.Processor.{Processor}
 use Rattle.gb_ops.specs.Effects as Effects
 use Rattle.gb_ops.specs.Play.{MState}
 use Rattle.gb_ops.specs.Registers.{get}
 use Rattle.gb_domain.specs.declared.relations.Relations.{Relations}
 use Rattle.gb_domain.specs.declared.types.Cell.{Cell}
 use Rattle.gb_domain.specs.declared.types.Core.{Core}
+use Rattle.gb_domain.specs.declared.types.Ctl.{Ctl}
+use Rattle.gb_domain.specs.declared.types.Val.{Val}
 use Rattle.gb_domain.specs.Pairs.{ArePairs}
 use Rattle.gb_domain.specs.Rules.{IsVal, IsCore}
-use Rattle.gb_domain.specs.Summaries.{Program}
+use Rattle.gb_domain.specs.Summaries.{Program, SummaryParts}
 use Rattle.gb_domain.specs.Types.{AbsState}
 use Rattle.gb_domain.specs.Values.{is_strided}
-use Rattle.gb_abs_effects.specs.Below.gb_abs.Meaning.{Activation, Holds, MeansCore, IsMemory}
+use Rattle.gb_abs_effects.specs.Below.gb_abs.Meaning.{Activation, Holds, HoldsController, MeansCore}
 use Rattle.gb_abs_effects.specs.Below.gb_abs.Storage.{peek}
-use Rattle.gb_summaries.specs.Below.gb_pairs.Meaning.{AreBytes}
+use Rattle.gb_summaries.specs.Below.gb_pairs.declared.values.Values.{Values}
+use Rattle.gb_summaries.specs.Below.gb_pairs.Meaning.{AreBytes, Holds as HoldValues}
+use Rattle.gb_summaries.specs.Below.gb_ram_bounds.Meaning.{HoldCells}
+use Rattle.gb_summaries.specs.Meaning.{HoldSummary}
 use Rattle.gb_product.specs.declared.parts.Branch.{Branch}
 use Rattle.gb_product.specs.declared.parts.Branches.{Branches}
 use Rattle.gb_product.specs.declared.parts.Product.{Product}
@@ -74,13 +80,25 @@ pub record IsReduced (s : Core) (r : Relations) (p : Product) : Type 0 where
   pub relations : IsCutTogether r p.relations
   pub inhabited : IsCore s → IsCore p.core
 
--- the same of a side, whose cell stays
-pub record IsReducedBranch (s b : Branch) : Type 0 where
-  pub core : IsCutCore s.core b.core
-  pub flags : b.core.flags ≡ s.core.flags
-  pub relations : IsCutTogether s.relations b.relations
-  pub inhabited : IsCore s.core → IsCore b.core
-  pub cell : b.cell ≡ s.cell
+-- ---- the controller
+
+abbrev pub HoldsControllerIf : Option Ctl → Activation → Banks → Type 0
+HoldsControllerIf None entry r = ⊥
+HoldsControllerIf (Some c) entry r = HoldsController c entry r
+
+-- where what a state knows holds, its controller is cut to one that holds too
+pub record IsSoundController (program : Program) (v : Values) (cells : List Cell) (s : SummaryParts) (c : Ctl) (o : Option Ctl) : Type 0 where
+  pub gives :
+      (entry : Activation) (p : Processor) (memory : ℕ → ℕ) (r : Banks)
+      → entry.program ≡ program → AreBytes p.registers → HoldValues v p.registers → ((a : ℕ) → memory a < 256) → HoldCells cells memory
+      → HoldSummary program cells s p memory r → HoldsController c entry r → HoldsControllerIf o entry r
+
+-- where what is known of memory and of the whole program holds too, no machine state is lost
+pub record IsSoundWhole (program : Program) (cells : List Cell) (s : SummaryParts) (core : Core) (r : Relations) (o : Option Product) : Type 0 where
+  pub gives :
+      (entry : Activation) (x : MState)
+      → entry.program ≡ program → AreBytes x.processor.registers → ((a : ℕ) → peek x.storage a < 256) → HoldCells cells (peek x.storage)
+      → HoldSummary program cells s x.processor (peek x.storage) x.storage.banks → MeansCore core entry x → AreRelated r x → IsMeantProduct o entry x
 
 -- ---- sides
 
@@ -88,10 +106,9 @@ pub record IsReducedBranch (s b : Branch) : Type 0 where
 abbrev pub HoldsCell : Activation → MState → Cell → Type 0
 HoldsCell entry x c = Holds c.val entry (peek x.storage c.address)
 
--- a state's cells and what is known together hold of x
-pub record IsKnown (known : List Cell) (r : Relations) (entry : Activation) (x : MState) : Type 0 where
-  pub memory : IsMemory x.storage
-  pub cells : AllByRecursion (λ c. HoldsCell entry x c) known
+-- what is known of the byte at the address among the places, and of several parts together, holds of x
+pub record IsKnown (memory : Val) (r : Relations) (entry : Activation) (x : MState) : Type 0 where
+  pub byte : (a : ℕ) → r.byte.address ≡ Some a → Holds memory entry (peek x.storage a)
   pub related : AreRelated r x
 
 -- x is one of the states that a side means
@@ -105,29 +122,25 @@ abbrev pub IsMeantBranch : Option Branch → Activation → MState → Type 0
 IsMeantBranch None entry x = ⊥
 IsMeantBranch (Some b) entry x = MeansBranch b entry x
 
--- a side that is reduced loses no machine state
-pub record IsSoundBranch (b : Branch) (o : Option Branch) : Type 0 where
-  pub gives : (entry : Activation) (x : MState) → AreBytes x.processor.registers → MeansBranch b entry x → IsMeantBranch o entry x
-
 -- the side where an instruction is taken, or where it isn't, means each state of the core in which the machine goes there
-pub record IsSoundSide (is_taken : Bool) (o : Op) (known : List Cell) (core : Core) (r : Relations) (side : Option Branch) : Type 0 where
+pub record IsSoundSide (is_taken : Bool) (o : Op) (memory : Val) (core : Core) (r : Relations) (side : Option Branch) : Type 0 where
   pub gives :
       (entry : Activation) (x : MState) (l h : ℕ)
-      → IsKnown known r entry x → MeansCore core entry x → (Effects.effect_of o x.processor l h).is_taken ≡ is_taken
+      → IsKnown memory r entry x → MeansCore core entry x → (Effects.effect_of o x.processor l h).is_taken ≡ is_taken
       → IsMeantBranch side entry x
 
-pub record AreSoundSides (o : Op) (known : List Cell) (core : Core) (r : Relations) (sides : Branches) : Type 0 where
-  pub taken : IsSoundSide true o known core r sides.taken
-  pub not_taken : IsSoundSide false o known core r sides.not_taken
+pub record AreSoundSides (o : Op) (memory : Val) (core : Core) (r : Relations) (sides : Branches) : Type 0 where
+  pub taken : IsSoundSide true o memory core r sides.taken
+  pub not_taken : IsSoundSide false o memory core r sides.not_taken
 
 -- registers and pairs are cut, and the cell, if there is one, is that of the address among the places
-pub record IsSideOf (known : List Cell) (s : Core) (r : Relations) (b : Branch) : Type 0 where
+pub record IsSideOf (memory : Val) (s : Core) (r : Relations) (b : Branch) : Type 0 where
   pub core : IsCutCore s b.core
   pub relations : IsCutTogether r b.relations
   pub inhabited : IsCore s → IsCore b.core
   pub address : IfSome b.cell (λ c. r.byte.address ≡ Some c.address)
-  pub val : AllByRecursion (λ c. IsVal c.val) known → IfSome b.cell (λ c. IsVal c.val)
+  pub val : IsVal memory → IfSome b.cell (λ c. IsVal c.val)
 
-pub record AreSidesOf (known : List Cell) (s : Core) (r : Relations) (sides : Branches) : Type 0 where
-  pub taken : IfSome sides.taken (IsSideOf known s r)
-  pub not_taken : IfSome sides.not_taken (IsSideOf known s r)
+pub record AreSidesOf (memory : Val) (s : Core) (r : Relations) (sides : Branches) : Type 0 where
+  pub taken : IfSome sides.taken (IsSideOf memory s r)
+  pub not_taken : IfSome sides.not_taken (IsSideOf memory s r)

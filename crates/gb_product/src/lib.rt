@@ -20,7 +20,7 @@ pub use program::Program;
 pub use states::States;
 
 // What lies below, for the crates above.
-pub use gb_abs_effects::pairs::{any_word, is_word_known, least_word, pair_halves};
+pub use gb_abs_effects::pairs::{any_word, is_word_known, least_word, pair_halves, top_word};
 pub use gb_abs_effects::reads::{AbsRead, read_of};
 pub use gb_abs_effects::sides::condition_of;
 pub use gb_abs_effects::targets::{Target, target_of};
@@ -28,9 +28,9 @@ pub use gb_abs_effects::transfer::{Inputs, transfer_in};
 pub use gb_abs_effects::writes::{AbsEffect, AbsWrite, quiet};
 pub use gb_abs_effects::{
     Span, any, append_bytes, cell_at, cell_without_origin, cells_without_origins,
-    core_without_origins, covers_controller, covers_ime, covers_origin, end, flags_val, is_own,
-    known, may_enable, may_have_bit, own, pass, push, resize, settle, single, sp_bounds, sp_halves,
-    with_cell, without_origin,
+    core_without_origins, covers_controller, covers_ime, covers_origin, covers_val, end, flags_val,
+    is_own, known, left_of, may_enable, may_have_bit, own, pass, push, resize, settle, single,
+    sp_bounds, sp_halves, with_cell, without_origin,
 };
 pub use gb_summaries::instruction::{InstructionStore, summary_after};
 pub use gb_summaries::returning::{GivenBack, KnownRam, is_byte_kept, summary_returned};

@@ -17,9 +17,9 @@ pub(crate) enum Aim {
     /// A node's state, or an exit.
     Covered(Abs),
     /// The entry of a procedure.
-    Entered { callee: u8, entry: Abs },
+    Entered { callee: u16, entry: Abs },
     /// What stands for the state after a procedure with this exit.
-    Resumed { callee: u8, exit: Abs, back: Abs },
+    Resumed { callee: u16, exit: Abs, back: Abs },
 }
 
 /// An aim, and the way that it is of.
@@ -77,7 +77,7 @@ fn meets(site: &NodeSite<'_, '_>, after: &Abs, aim: &Aim) -> bool {
 }
 
 /// What a procedure begins with that is called in a state.
-fn entered_in(site: &NodeSite<'_, '_>, callee: u8, after: &Abs) -> Abs {
+fn entered_in(site: &NodeSite<'_, '_>, callee: u16, after: &Abs) -> Abs {
     enter(
         &site.program(),
         Rules::Extended,
@@ -90,7 +90,7 @@ fn entered_in(site: &NodeSite<'_, '_>, callee: u8, after: &Abs) -> Abs {
 /// Whether a state stands for what is gone on with after a procedure with an exit.
 pub(crate) fn is_resumed_in(
     site: &NodeSite<'_, '_>,
-    callee: u8,
+    callee: u16,
     after: &Abs,
     exit: &Abs,
     back: &Abs,
@@ -207,7 +207,7 @@ impl Asked<'_> {
 #[derive(Clone, Copy)]
 pub(crate) struct ReturnAsked<'s> {
     pub(crate) site: &'s NodeSite<'s, 's>,
-    pub(crate) callee: u8,
+    pub(crate) callee: u16,
     pub(crate) after: &'s Abs,
     pub(crate) exit: &'s Abs,
     pub(crate) back: &'s Abs,

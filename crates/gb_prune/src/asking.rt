@@ -73,7 +73,7 @@ impl Asking {
     pub(crate) fn enter(
         &mut self,
         passage: &Passage<'_>,
-        callee: u8,
+        callee: u16,
         count: u8,
         entry: Abs,
         wanted: Wanted,

@@ -13,7 +13,7 @@ use std::alloc::{AllocError, Global};
 /// A node of a certificate that is changed.
 #[derive(Drop)]
 pub(crate) struct ChangedNode {
-    pub(crate) procedure: u8,
+    pub(crate) procedure: u16,
     pub(crate) address: u16,
     bank: u16,
     pub(crate) state: Abs,
@@ -44,7 +44,7 @@ pub(crate) struct Changed {
 /// Where a node comes in the bytes: by its procedure, then by its address.
 #[derive(Clone, Copy, PartialEq, Eq, PartialOrd, Ord)]
 struct NewStanding {
-    procedure: u8,
+    procedure: u16,
     address: u16,
     node: usize,
 }
@@ -84,7 +84,7 @@ impl Changed {
     }
 
     /// The state of a procedure's first node.
-    pub(crate) fn entry_state(&self, procedure: u8) -> Option<&Abs> {
+    pub(crate) fn entry_state(&self, procedure: u16) -> Option<&Abs> {
         match self.procedures.get(usize::from(procedure)) {
             Some(one) => match self.nodes.get(one.entry as usize) {
                 Some(node) => Some(&node.state),
@@ -95,7 +95,7 @@ impl Changed {
     }
 
     /// The address where a procedure begins.
-    pub(crate) fn entry_address(&self, procedure: u8) -> Option<u16> {
+    pub(crate) fn entry_address(&self, procedure: u16) -> Option<u16> {
         let one = self.procedures.get(usize::from(procedure))?;
         let node = self.nodes.get(one.entry as usize)?;
         Some(node.address)
@@ -113,7 +113,7 @@ impl Changed {
     }
 
     /// The numbers of the nodes that are left, in the order of the bytes.
-    pub(crate) fn numbers(&self, order: &[u8]) -> Result<Vec<usize>, AllocError> {
+    pub(crate) fn numbers(&self, order: &[u16]) -> Result<Vec<usize>, AllocError> {
         let standings = self.standings(order)?;
         standings
             .iter()
@@ -122,14 +122,14 @@ impl Changed {
     }
 
     /// The bytes of what is left, by the procedures in a new order.
-    pub(crate) fn written(&self, order: &[u8]) -> Result<Vec<u8>, WriteFault> {
+    pub(crate) fn written(&self, order: &[u16]) -> Result<Vec<u8>, WriteFault> {
         let standings = self.standings(order)?;
         let places = self.places(standings.as_slice())?;
         let mut nodes = Vec::new(self.alloc);
         for standing in &standings {
             if let Some(node) = self.nodes.get(standing.node) {
                 nodes.push(NodePlan {
-                    procedure: u16::from(standing.procedure),
+                    procedure: standing.procedure,
                     address: node.address,
                     bank: node.bank,
                     state: &node.state,
@@ -153,11 +153,11 @@ impl Changed {
     }
 
     /// The nodes that are left, in their order.
-    fn standings(&self, order: &[u8]) -> Result<Vec<NewStanding>, AllocError> {
+    fn standings(&self, order: &[u16]) -> Result<Vec<NewStanding>, AllocError> {
         let mut numbers = vec![in self.alloc; None; self.procedures.len()]?;
         for (place, old) in order.iter().enumerate() {
             if let Some(number) = numbers.get_mut(usize::from(*old)) {
-                *number = u8::try_from(place).ok();
+                *number = u16::try_from(place).ok();
             }
         }
         let mut standings = Vec::new(self.alloc);

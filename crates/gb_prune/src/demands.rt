@@ -148,7 +148,7 @@ impl<'c, 'a> Demands<'c, 'a> {
         }
     }
 
-    fn wanted_of_exit(&self, procedure: u8) -> Wanted {
+    fn wanted_of_exit(&self, procedure: u16) -> Wanted {
         match self.exits.get(usize::from(procedure)) {
             Some(wanted) => *wanted,
             None => Wanted::all(),
@@ -170,7 +170,7 @@ impl<'c, 'a> Demands<'c, 'a> {
 
     /// More may be wanted of an exit, and then of those of all procedures for the same target: if one of them knew less than
     /// another, neither could stand for both.
-    fn want_exit(&mut self, procedure: u8, wanted: Wanted) -> Result<(), AllocError> {
+    fn want_exit(&mut self, procedure: u16, wanted: Wanted) -> Result<(), AllocError> {
         if !self.raise_exit(procedure, wanted)? {
             return Ok(());
         }
@@ -191,7 +191,7 @@ impl<'c, 'a> Demands<'c, 'a> {
     }
 
     /// More may be wanted of an exit: then what returns by it is looked at again. False where it isn't more.
-    fn raise_exit(&mut self, procedure: u8, wanted: Wanted) -> Result<bool, AllocError> {
+    fn raise_exit(&mut self, procedure: u16, wanted: Wanted) -> Result<bool, AllocError> {
         let Some(now) = self.exits.get_mut(usize::from(procedure)) else {
             return Ok(false);
         };
@@ -220,7 +220,7 @@ impl<'c, 'a> Demands<'c, 'a> {
     }
 
     /// All is wanted of the entries at the address of a procedure's.
-    fn want_entries_like(&mut self, callee: u8) -> Result<(), AllocError> {
+    fn want_entries_like(&mut self, callee: u16) -> Result<(), AllocError> {
         let cert = self.cert;
         let address = address_of(cert, entry_of(cert, callee));
         for other in 1..cert.procedures() {
@@ -296,7 +296,7 @@ impl<'c, 'a> Demands<'c, 'a> {
     /// What a way asks that leads there from a procedure.
     fn ask(
         &mut self,
-        procedure: u8,
+        procedure: u16,
         onward: Onward,
         passage: &Passage<'_>,
         asking: &mut Asking,
@@ -344,7 +344,7 @@ impl<'c, 'a> Demands<'c, 'a> {
     /// What a procedure's entry asks of a state that enters it.
     fn ask_entry(
         &self,
-        callee: u8,
+        callee: u16,
         passage: &Passage<'_>,
         asking: &mut Asking,
     ) -> Result<(), AllocError> {
@@ -362,7 +362,7 @@ impl<'c, 'a> Demands<'c, 'a> {
     /// What the nodes after a procedure ask of a state that entered it, and of its exit's cells and items.
     fn ask_back(
         &mut self,
-        callee: u8,
+        callee: u16,
         nodes: Standby,
         passage: &Passage<'_>,
         asking: &mut Asking,
@@ -434,7 +434,7 @@ fn write_on(ways: &Successors<'_>, way: u8) -> AbsWrite {
 }
 
 /// The number of a procedure's first node.
-pub(crate) fn entry_of(cert: &Cert<'_>, procedure: u8) -> u32 {
+pub(crate) fn entry_of(cert: &Cert<'_>, procedure: u16) -> u32 {
     if procedure < cert.procedures() {
         cert.procedure(procedure).entry()
     } else {
@@ -452,11 +452,11 @@ fn address_of(cert: &Cert<'_>, number: u32) -> Option<u16> {
 }
 
 /// The procedure of a node.
-pub(crate) fn procedure_of(cert: &Cert<'_>, number: u32) -> u8 {
+pub(crate) fn procedure_of(cert: &Cert<'_>, number: u32) -> u16 {
     if number < cert.nodes() {
         cert.node(number).procedure()
     } else {
-        u8::MAX
+        u16::MAX
     }
 }
 

@@ -21,7 +21,7 @@ pub(crate) enum Onward {
     /// The exit of the node's procedure.
     Exit,
     /// A procedure, and what stands for the state after it, where it returns.
-    Enters { callee: u8, back: Option<Standby> },
+    Enters { callee: u16, back: Option<Standby> },
 }
 
 /// A way from a node, by its number: an instruction's three, then the interrupts that may come.
@@ -36,7 +36,7 @@ pub(crate) struct LeadsTo {
 pub(crate) struct NodeSite<'c, 'a> {
     pub(crate) rom: &'c Rom<'c>,
     pub(crate) cert: &'c Cert<'a>,
-    pub(crate) procedure: u8,
+    pub(crate) procedure: u16,
     pub(crate) address: u16,
     pub(crate) stack: Stack,
     pub(crate) row: Row,
@@ -113,7 +113,7 @@ impl<'c, 'a> NodeSite<'c, 'a> {
     }
 
     /// What a state goes on with after a procedure with an exit.
-    pub(crate) fn resumed(&self, callee: u8, state: &Abs, exit: &Abs) -> Resumed {
+    pub(crate) fn resumed(&self, callee: u16, state: &Abs, exit: &Abs) -> Resumed {
         let ranges = ranges_of(self.cert, callee);
         let taken = taken_by(self.cert, callee);
         let program = self.program();
@@ -130,7 +130,7 @@ impl<'c, 'a> NodeSite<'c, 'a> {
     }
 
     /// A procedure is entered in a state, and goes on at an address.
-    fn enters(&self, callee: u8, back: u16, state: &Abs, standing: &mut Standing) -> Onward {
+    fn enters(&self, callee: u16, back: u16, state: &Abs, standing: &mut Standing) -> Onward {
         let back = match exit_of(self.cert, callee) {
             Some(exit) => match self.resumed(callee, state, &exit) {
                 Resumed::States(after) => standing.standing_for(

@@ -157,7 +157,7 @@ fn new_order(
     cert: &Cert<'_>,
     demands: &Demands<'_, '_>,
     changed: &Changed,
-) -> Result<Vec<u8>, AllocError> {
+) -> Result<Vec<u16>, AllocError> {
     let mut precedences = BTreeSet::new(alloc);
     for number in 0..cert.nodes() {
         if let Some(ways) = demands.onward.get(number as usize) {
@@ -180,7 +180,7 @@ fn new_order(
     add_in_order(count, &mut open, &mut precedences, &mut order)?;
     order
         .iter()
-        .map(|procedure| u8::try_from(*procedure).unwrap_or(u8::MAX))
+        .map(|procedure| u16::try_from(*procedure).unwrap_or(u16::MAX))
         .collect(alloc)
 }
 
@@ -220,7 +220,7 @@ fn add_precedences(
 fn add_entered(
     cert: &Cert<'_>,
     changed: &Changed,
-    callee: u8,
+    callee: u16,
     after: &Abs,
     precedences: &mut BTreeSet<Precedence>,
 ) -> Result<(), AllocError> {
@@ -290,7 +290,7 @@ impl<'a> Reachable<'a> {
     }
 
     /// A procedure is entered.
-    fn enter(&mut self, procedure: u8) -> Result<(), AllocError> {
+    fn enter(&mut self, procedure: u16) -> Result<(), AllocError> {
         if let Some(mark) = self.procedures.get_mut(usize::from(procedure)) {
             *mark = true;
         }

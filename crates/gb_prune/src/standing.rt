@@ -122,7 +122,7 @@ impl Standing {
         &mut self,
         program: &Program<'_>,
         cert: &Cert<'_>,
-        procedure: u8,
+        procedure: u16,
         address: u16,
         state: &Abs,
     ) -> Option<Standby> {

@@ -32,7 +32,7 @@ fn fmt_ranges<W: fmt::Write>(ranges: &[Range], f: &mut fmt::Formatter<W>) -> fmt
 /// What a procedure says of itself.
 fn fmt_procedure<W: fmt::Write>(
     listing: &Listing<'_, '_, '_, '_>,
-    number: u8,
+    number: u16,
     f: &mut fmt::Formatter<W>,
 ) -> fmt::Result {
     if number >= listing.cert.procedures() {
@@ -114,9 +114,9 @@ fn fmt_at<W: fmt::Write>(
 fn fmt_node<W: fmt::Write>(
     listing: &Listing<'_, '_, '_, '_>,
     number: u32,
-    before: Option<u8>,
+    before: Option<u16>,
     f: &mut fmt::Formatter<W>,
-) -> Result<Option<u8>, fmt::Error> {
+) -> Result<Option<u16>, fmt::Error> {
     if number >= listing.cert.nodes() {
         return Ok(before);
     }

@@ -19,7 +19,7 @@ pub trait Rows {
         ensures { result ≡ length (keys self.now) };
 
     /// The key of a row, by its number.
-    fn key(&mut self, i: u32) -> (u8, u16)
+    fn key(&mut self, i: u32) -> (u16, u16)
         requires { i < length (keys self.old) }
         ensures key { slice_get (keys self.old) i ≡ Some result }
         ensures same { keys self.new ≡ keys self.old }
@@ -35,14 +35,14 @@ pub struct Found {
 }
 
 /// Whether the first key comes before the second, and is another.
-fn is_before(a: (u8, u16), b: (u8, u16)) -> bool
+fn is_before(a: (u16, u16), b: (u16, u16)) -> bool
     ensures { result ≡ is_before a b }
 {
     a.0 < b.0 || a.0 == b.0 && a.1 < b.1
 }
 
 /// Whether a key comes before a target, or, with the targets, may be the target too.
-fn is_counted(with_targets: bool, target: (u8, u16), key: (u8, u16)) -> bool
+fn is_counted(with_targets: bool, target: (u16, u16), key: (u16, u16)) -> bool
     ensures { result ≡ is_counted with_targets target key }
 {
     if with_targets {
@@ -57,7 +57,7 @@ fn is_counted(with_targets: bool, target: (u8, u16), key: (u8, u16)) -> bool
 fn count_between<R: Rows>(
     rows: &mut R,
     with_targets: bool,
-    target: (u8, u16),
+    target: (u16, u16),
     from: u32,
     to: u32,
 ) -> u32
@@ -82,7 +82,7 @@ fn count_between<R: Rows>(
 }
 
 /// How many of all rows come before a target, as `count_between` counts them.
-fn count_before<R: Rows>(rows: &mut R, with_targets: bool, target: (u8, u16)) -> u32
+fn count_before<R: Rows>(rows: &mut R, with_targets: bool, target: (u16, u16)) -> u32
     requires { AreInOrder (R.keys rows.old) }
     ensures count { IsBetween (R.keys rows.old) with_targets target result result }
     ensures same { R.keys rows.new ≡ R.keys rows.old }
@@ -94,7 +94,7 @@ fn count_before<R: Rows>(rows: &mut R, with_targets: bool, target: (u8, u16)) ->
 
 /// Numbers that it lies between, found from a row on by steps that double: few keys are asked for where it is a
 /// little above that row's.
-fn bracket<R: Rows>(rows: &mut R, with_targets: bool, target: (u8, u16), near: u32) -> (u32, u32)
+fn bracket<R: Rows>(rows: &mut R, with_targets: bool, target: (u16, u16), near: u32) -> (u32, u32)
     requires { AreInOrder (R.keys rows.old) }
     ensures between { IsBetween (R.keys rows.old) with_targets target result.0 result.1 }
     ensures same { R.keys rows.new ≡ R.keys rows.old }
@@ -118,7 +118,7 @@ fn bracket<R: Rows>(rows: &mut R, with_targets: bool, target: (u8, u16), near: u
 }
 
 /// How many of all rows come before a target, looked for from a row on: mostly the next key is near the last one.
-fn count_near<R: Rows>(rows: &mut R, with_targets: bool, target: (u8, u16), near: u32) -> u32
+fn count_near<R: Rows>(rows: &mut R, with_targets: bool, target: (u16, u16), near: u32) -> u32
     requires { AreInOrder (R.keys rows.old) }
     ensures count { IsBetween (R.keys rows.old) with_targets target result result }
     ensures same { R.keys rows.new ≡ R.keys rows.old }
@@ -130,7 +130,7 @@ fn count_near<R: Rows>(rows: &mut R, with_targets: bool, target: (u8, u16), near
 
 /// The rows with a key, among rows in order. Among fewer than 2 ^ n rows it asks for at most
 /// 2 * n keys: 32 among 65,535 rows, 42 among 1,048,576.
-pub fn find_in<R: Rows>(rows: &mut R, procedure: u8, address: u16) -> Found
+pub fn find_in<R: Rows>(rows: &mut R, procedure: u16, address: u16) -> Found
     requires { AreInOrder (R.keys rows.old) }
     ensures found { IsFound (R.keys rows.old) (procedure, address) result.first result.after }
     ensures same { R.keys rows.new ≡ R.keys rows.old }
@@ -147,7 +147,7 @@ pub fn find_in<R: Rows>(rows: &mut R, procedure: u8, address: u16) -> Found
 /// The number of rows before a key, which is the first row with it where there is one. It is looked for from a row on: few
 /// keys are asked for where it is a little behind it, and wherever it is at most 2 * n among fewer than 2 ^ n rows: 32 among
 /// 65,535 rows, 42 among 1,048,576.
-pub fn first_near<R: Rows>(rows: &mut R, near: u32, procedure: u8, address: u16) -> u32
+pub fn first_near<R: Rows>(rows: &mut R, near: u32, procedure: u16, address: u16) -> u32
     requires { AreInOrder (R.keys rows.old) }
     ensures first { IsBetween (R.keys rows.old) false (procedure, address) result result }
     ensures same { R.keys rows.new ≡ R.keys rows.old }
@@ -159,7 +159,7 @@ pub fn first_near<R: Rows>(rows: &mut R, near: u32, procedure: u8, address: u16)
 }
 
 /// The rows with a key, where the number of those before them is known: as many keys are asked for at most.
-pub fn found_from<R: Rows>(rows: &mut R, first: u32, procedure: u8, address: u16) -> Found
+pub fn found_from<R: Rows>(rows: &mut R, first: u32, procedure: u16, address: u16) -> Found
     requires order { AreInOrder (R.keys rows.old) }
     requires first { IsBetween (R.keys rows.old) false (procedure, address) first first }
     ensures found { IsFound (R.keys rows.old) (procedure, address) result.first result.after }

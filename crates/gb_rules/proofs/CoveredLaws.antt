@@ -13,7 +13,7 @@ use Rattle.gb_successors.specs.Below.gb_domain.Certificate.{Certificate}
 use Rattle.gb_successors.specs.Below.gb_domain.Types.{AbsState, Node}
 use Rattle.gb_successors.specs.Below.gb_abs.Operations.{core_with_value}
 use Rattle.gb_successors.specs.Below.gb_product.declared.parts.Product.{Product}
-use Rattle.gb_successors.specs.Below.gb_product.Reduced.{reduced}
+use Rattle.gb_successors.specs.Below.gb_product.Reduced.{reduced_wholly}
 use Rattle.gb_successors.specs.Below.gb_abs.Operations.{with_core}
 use Rattle.gb_successors.specs.Below.gb_domain.Summaries.{SummaryParts, Program}
 use Rattle.gb_successors.specs.Behind.{with_relations, with_summary}
@@ -47,9 +47,9 @@ all_from-stopped test first (suc n) v le lt apart = elim (split first n v lt) [
 pub register_left :
     (program : Program) (rules : Rules) (nodes : List Node) (procedure a : ℕ) (core : Core) (relations : Relations) (m : SummaryParts) (lists : AbsState)
     (r : Register) (v : ℕ) (left : Option Product) (b : Bool)
-    → left ≡ reduced rules (core_with_value r v core) relations
+    → left ≡ reduced_wholly program rules (core_with_value r v core) relations lists.cells m
     → b ≡ is_covered_if program nodes procedure a (option_map (with_product (with_parts core relations m lists)) left)
-    → b ≡ is_covered_if program nodes procedure a (reduced_state rules (with_value r (with_parts core relations m lists) v))
+    → b ≡ is_covered_if program nodes procedure a (reduced_state program rules (with_value r (with_parts core relations m lists) v))
 unfolding reduced_state with_value
 register_left program rules nodes procedure a core relations m lists r v left b e h =
     h ∙ ap (λ o. is_covered_if program nodes procedure a (option_map (with_product (with_parts core relations m lists)) o)) e
@@ -59,13 +59,13 @@ pub byte_left :
     (program : Program) (rules : Rules) (nodes : List Node) (procedure a : ℕ) (core : Core) (relations : Relations) (m : SummaryParts) (lists other : AbsState)
     (at : ℕ) (known : Val) (v : ℕ) (left : Option Product) (b : Bool)
     → other ≡ record lists { cells = with_cell (cell_room Extended) (record { address = at; val = record { lo = v; hi = v; low_bits = 0; origin = known.origin } }) lists.cells }
-    → left ≡ reduced rules core relations
+    → left ≡ reduced_wholly program rules core relations other.cells m
     → b ≡ is_covered_if program nodes procedure a (option_map (with_product (with_parts core relations m other)) left)
-    → b ≡ is_covered_if program nodes procedure a (reduced_state rules (with_byte at known (with_parts core relations m lists) v))
+    → b ≡ is_covered_if program nodes procedure a (reduced_state program rules (with_byte at known (with_parts core relations m lists) v))
 unfolding reduced_state with_byte
 byte_left program rules nodes procedure a core relations m lists other at known v left b is e h =
     h ∙ ap (λ o. is_covered_if program nodes procedure a (option_map (with_product (with_parts core relations m other)) o)) e
-    ∙ ap (λ s. is_covered_if program nodes procedure a (option_map (with_product (with_parts core relations m s)) (reduced rules core relations))) is
+    ∙ ap (λ s. is_covered_if program nodes procedure a (option_map (with_product (with_parts core relations m s)) (reduced_wholly program rules core relations s.cells m))) is
 
 -- ---- states by their parts
 

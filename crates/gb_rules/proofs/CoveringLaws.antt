@@ -3,7 +3,6 @@ use Rattle.std.proofs.Common.{◌≡◌, ℕ, zero, suc, ◌+◌, ◌≤◌, ◌
 use Rattle.std.proofs.lemmas.Bool.{and_parts, eqb-true}
 use Rattle.std.specs.List.{Contains, list_any}
 use Rattle.std.proofs.lemmas.List.Folds.{Any-from_list_any}
-use Rattle.gb_ops.specs.declared.op.Register.{Register}
 use Rattle.gb_ops.specs.Registers.{get}
 use Rattle.gb_ops.specs.Play.{MState}
 use Rattle.gb_successors.specs.Below.gb_domain.declared.rules.Rules.{Rules}
@@ -25,13 +24,13 @@ use Rattle.gb_successors.specs.Below.gb_abs.Storage.{peek}
 use Rattle.gb_successors.proofs.Below.gb_abs_laws.StackLaws.{MeansParts-with_core}
 use Rattle.gb_successors.specs.Below.gb_pairs.Meaning.{AreBytes}
 use Rattle.gb_successors.specs.Below.gb_product.declared.parts.Product.{Product}
-use Rattle.gb_successors.specs.Below.gb_product.Sound.{IsReduced, MeansProduct, IsMeantProduct}
-use Rattle.gb_successors.proofs.Below.gb_product_laws.ReducedLaws.{reduced_cuts, reduced_sound}
+use Rattle.gb_successors.specs.Below.gb_product.Sound.{MeansProduct, IsMeantProduct}
+use Rattle.gb_successors.proofs.Below.gb_product_laws.ControllerLaws.{reduced_wholly_sound, reduced_wholly_stack}
 use Rattle.gb_successors.specs.Below.gb_product.Covering.{covers, byte_in, values_in}
 use Rattle.gb_successors.specs.Below.gb_product.Meaning.{AreRelated, IsSummarized, Means}
-use Rattle.gb_successors.specs.Below.gb_product.Reduced.{reduced}
+use Rattle.gb_successors.specs.Below.gb_product.Reduced.{reduced, reduced_wholly}
 use Rattle.gb_successors.specs.Below.gb_abs.Meaning.{Activation, Holds, MeansCore, MeansParts}
-use Rattle.gb_successors.proofs.Below.gb_product_laws.CoveringLaws.{Holds-byte, Means-covered}
+use Rattle.gb_successors.proofs.Below.gb_product_laws.CoveringLaws.{Holds-byte, HoldsKnown-means, Means-covered}
 use Rattle.gb_successors.proofs.Below.gb_product_laws.SummaryLaws.{has_cells_with_cell, HoldSummary-with_cells}
 use Rattle.gb_successors.proofs.ToldLaws.{AllByRecursion-with_cell}
 use Rattle.gb_successors.proofs.Below.gb_abs_laws.OperationLaws.{MeansParts-with_value}
@@ -95,17 +94,22 @@ abbrev IsReducible : Rules → AbsState → MState → Type 0
 IsReducible Simple s y = Unit {0}
 IsReducible Extended s y = ArePairs s.relations.pairs × AreBytes y.processor.registers
 
-left_is_meant :
-    (rules : Rules) (s : AbsState) (core : Core) (entry : Activation) (y : MState) → IsReducible rules s y → MeansCore core entry y → AreRelated s.relations y
-    → IsMeantProduct (reduced rules core s.relations) entry y
-unfolding reduced
-left_is_meant Simple s core entry y can m related = record { core = m; related = related }
-left_is_meant Extended s core entry y can m related =
-    (reduced_sound Extended core s.relations (reduced Extended core s.relations) refl can.0).gives entry y can.1 m related
+pairs_of : (rules : Rules) (s : AbsState) (y : MState) → IsReducible rules s y → rules ≡ Extended → ArePairs s.relations.pairs
+pairs_of Simple s y can e = cc
+pairs_of Extended s y can e = can.0
 
-MeansParts-with_product : (s : AbsState) (p : Product) (entry : Activation) (base : ℕ) (y : MState) → IsReduced s.core s.relations p → MeansProduct p entry y → MeansParts s entry base y
+left_is_meant :
+    (rules : Rules) (s : AbsState) (entry : Activation) (base : ℕ) (y : MState) → IsReducible rules s y → Means s entry base y
+    → IsMeantProduct (reduced_wholly entry.program rules s.core s.relations s.cells s.summary) entry y
+unfolding reduced_wholly reduced
+left_is_meant Simple s entry base y can m = record { core = m.parts.core; related = m.related }
+left_is_meant Extended s entry base y can m =
+    let known = HoldsKnown-means s entry base y m in
+    (reduced_wholly_sound entry.program Extended s.core s.relations s.cells s.summary (pairs_of Extended s y can)).gives entry y refl can.1 known.bytes known.cells_hold known.summary m.parts.core m.related
+
+MeansParts-with_product : (s : AbsState) (p : Product) (entry : Activation) (base : ℕ) (y : MState) → p.core.stack_set ≡ s.core.stack_set → MeansProduct p entry y → MeansParts s entry base y
     → MeansParts (with_core s p.core) entry base y
-MeansParts-with_product s p entry base y cut q m = MeansParts-with_core s p.core entry base y y m q.core refl refl refl (λ set. sym cut.core.stack_set ∙ set)
+MeansParts-with_product s p entry base y stack q m = MeansParts-with_core s p.core entry base y y m q.core refl refl refl (λ set. sym stack ∙ set)
 
 product_means : (s : AbsState) (p : Product) (entry : Activation) (base : ℕ) (y : MState) → MeansParts (with_core s p.core) entry base y → AreRelated p.relations y → IsSummarized s entry y → Means (with_product s p) entry base y
 product_means s p entry base y m related summary =
@@ -116,7 +120,7 @@ product_means s p entry base y m related summary =
     }
 
 -- where something is left of states that mean y, a node stands for that
-found_left : (cert : Certificate) (procedure a : ℕ) (s : AbsState) (o : Option Product) (entry : Activation) (base : ℕ) (y : MState) → IsMeantProduct o entry y → IfSome o (IsReduced s.core s.relations)
+found_left : (cert : Certificate) (procedure a : ℕ) (s : AbsState) (o : Option Product) (entry : Activation) (base : ℕ) (y : MState) → IsMeantProduct o entry y → IfSome o (λ p. p.core.stack_set ≡ s.core.stack_set)
     → is_covered_if entry.program cert.nodes procedure a (option_map (with_product s) o) ≡ true → MeansParts s entry base y → IsSummarized s entry y → IsFoundAt cert procedure a (length s.items) entry base y
 found_left cert procedure a s None entry base y q cut h m summary = absurd q
 found_left cert procedure a s (Some p) entry base y q cut h m summary =
@@ -125,11 +129,11 @@ found_left cert procedure a s (Some p) entry base y q cut h m summary =
 -- a node stands for what reducing leaves of states that mean y
 found_reduced :
     (rules : Rules) (cert : Certificate) (procedure a : ℕ) (s : AbsState) (entry : Activation) (base : ℕ) (y : MState) → IsReducible rules s y
-    → is_covered_if entry.program cert.nodes procedure a (reduced_state rules s) ≡ true → Means s entry base y → IsFoundAt cert procedure a (length s.items) entry base y
+    → is_covered_if entry.program cert.nodes procedure a (reduced_state entry.program rules s) ≡ true → Means s entry base y → IsFoundAt cert procedure a (length s.items) entry base y
 unfolding reduced_state
 found_reduced rules cert procedure a s entry base y can h m =
-    found_left cert procedure a s (reduced rules s.core s.relations) entry base y (left_is_meant rules s s.core entry y can m.parts.core m.related)
-    (reduced_cuts rules s.core s.relations _ refl) h m.parts m.summary
+    found_left cert procedure a s (reduced_wholly entry.program rules s.core s.relations s.cells s.summary) entry base y (left_is_meant rules s entry base y can m)
+    (reduced_wholly_stack entry.program rules s.core s.relations s.cells s.summary) h m.parts m.summary
 
 -- ---- value by value
 
@@ -188,7 +192,7 @@ found_by_values rules cert procedure a s by entry base y can holds h m =
     let n = value_at by y in
     let least = holds.least in
     let most = holds.most in
-    let one = one_of_them (λ v. not (has_low_bits (known_of by s) v) || is_covered_if entry.program cert.nodes procedure a (reduced_state rules (with_one by s v)))
+    let one = one_of_them (λ v. not (has_low_bits (known_of by s) v) || is_covered_if entry.program cert.nodes procedure a (reduced_state entry.program rules (with_one by s v)))
     (known_of by s).lo (count_of (known_of by s)) n h least (omega arith) in
     subst (λ items. IsFoundAt cert procedure a (length items) entry base y) (same_items by s n)
     (found_reduced rules cert procedure a (with_one by s n) entry base y (reducible_one rules by s n y can) (asked _ _ holds.low one) (with_one_means by s entry base y holds m))

@@ -1,45 +1,50 @@
 -- An interrupt's dispatch: the procedure is left as by a call, and its handler is entered.
-use Rattle.std.proofs.Common.{◌≡◌, ℕ, ◌+◌, ◌-◌, ◌/◌, ◌%◌, ◌≤◌, ◌<◌, Bool, true, false, ◌&&◌, nat_lt, ◌⊎◌, inl, inr, List, length, Option, Some, None, refl, sym, ◌∙◌, ap, subst, arith}
+use Rattle.std.proofs.Common.{◌≡◌, ℕ, ◌+◌, ◌-◌, ◌/◌, ◌%◌, ◌≤◌, ◌<◌, Bool, true, false, not, ◌&&◌, nat_lt, ◌⊎◌, inl, inr, List, length, Option, Some, None, refl, sym, ◌∙◌, ap, subst, arith}
 use Rattle.std.proofs.lemmas.Bool.{and_parts, not-true}
-use Rattle.std.proofs.lemmas.Option.{same_Some}
 use Rattle.std.specs.Option.{IfSome}
 use Rattle.std.proofs.lemmas.Bool.Decides.{nat_tests}
 use Rattle.std.proofs.lemmas.List.Elements.{All-nil}
 use Rattle.std.specs.List.{All, Contains}
 use Rattle.gb_ops.specs.declared.machine.Event.TheVariants as event
+use Rattle.gb_ops.specs.declared.machine.Banks.{Banks}
 use Rattle.gb_ops.specs.declared.machine.Region.{Region}
 use Rattle.gb_ops.specs.declared.machine.Write.TheVariants as write
 use Rattle.gb_ops.specs.declared.registers.Ime.{Ime}
 use Rattle.gb_ops.specs.declared.registers.Ime.TheVariants as ime
 use Rattle.gb_ops.specs.declared.registers.Processor.{Processor}
 use Rattle.gb_ops.specs.Effects.{with_pc, with_sp}
-use Rattle.gb_ops.specs.Memory.{stored, passed}
+use Rattle.gb_ops.specs.Memory.{View, stored, passed}
+use Rattle.gb_ops.specs.Pointers.{pointed, byte_or_page}
 use Rattle.gb_ops.specs.Machine as Machine
 use Rattle.gb_ops.specs.Machine.{is_possible, happened, is_ime, vector}
 use Rattle.gb_ops.specs.Faults.{no_faults, store_faults, event_faults, event_places}
 use Rattle.gb_ops.specs.Play.{MState, within, outside}
 use Rattle.gb_ops.specs.declared.registers.Registers.{Registers}
 use Rattle.gb_ops.specs.declared.registers.Flags.{Flags}
+use Rattle.gb_successors.specs.Below.gb_domain.declared.pairs.Bounds.{Bounds}
 use Rattle.gb_successors.specs.Below.gb_domain.declared.relations.Relations.{Relations}
+use Rattle.gb_successors.specs.Below.gb_domain.declared.types.Cell.{Cell}
 use Rattle.gb_successors.specs.Below.gb_domain.declared.rules.Rules.TheVariants.{Simple}
 use Rattle.gb_successors.specs.Below.gb_domain.declared.types.Core.{Core}
-use Rattle.gb_successors.specs.Below.gb_domain.Areas.{is_free_byte}
+use Rattle.gb_successors.specs.Below.gb_domain.Areas.{meets}
 use Rattle.gb_successors.specs.Below.gb_domain.Limits.{rules_of}
-use Rattle.gb_successors.specs.Below.gb_domain.Types.{any_val}
-use Rattle.gb_successors.specs.Below.gb_abs.Cells.{IsPlaced}
-use Rattle.gb_successors.proofs.Below.gb_abs_laws.StorageLaws.{placed_in_ram}
 use Rattle.gb_successors.specs.Below.gb_relations.Meaning.{HoldRelations}
+use Rattle.gb_successors.specs.Below.gb_relations.Places.{is_ram, is_free}
+use Rattle.gb_successors.specs.Below.gb_relations.Sound.{IsByteFree}
+use Rattle.gb_successors.specs.Below.gb_product.Below.gb_summaries.Elsewhere.{AreFreeFacts, IsFree, IsLeft}
+use Rattle.gb_successors.specs.Below.gb_product.Below.gb_summaries.Meaning.{IsAside, HoldSummary}
+use Rattle.gb_successors.proofs.Below.gb_product_laws.Below.gb_summaries_laws.ElsewhereLaws.{stays_elsewhere}
+use Rattle.gb_rules.proofs.ProgramLaws.{is_program}
 use Rattle.gb_successors.specs.Below.gb_domain.Types.{AbsState, Node}
 use Rattle.gb_successors.specs.Below.gb_domain.Certificate.{Certificate}
-use Rattle.gb_calls.specs.Below.gb_states.Rules.{IsCertificate}
+use Rattle.gb_calls.specs.Below.gb_states.WholeRules.{IsCertificate}
 use Rattle.gb_successors.specs.Below.gb_vals.Bits.{has_bit, may_have_bit}
 use Rattle.gb_successors.proofs.Below.gb_vals_laws.BitLaws.{may_have_bit_sound}
 use Rattle.gb_successors.specs.Below.gb_abs.Cells.{ArePlaced}
 use Rattle.gb_successors.specs.Below.gb_abs.Mark.{IsMarkHarmless}
-use Rattle.gb_successors.proofs.Below.gb_product_laws.SummaryLaws.{IsSummarized-quiet}
 use Rattle.gb_successors.proofs.RelatedLaws.{MeansParts-related}
-use Rattle.gb_successors.specs.Below.gb_domain.Summaries.{Program, no_summary}
-use Rattle.gb_successors.specs.Below.gb_product.Meaning.{AreRelated, Means}
+use Rattle.gb_successors.specs.Below.gb_domain.Summaries.{SummaryParts, Program, no_summary}
+use Rattle.gb_successors.specs.Below.gb_product.Meaning.{AreRelated, IsSummarized, Means}
 use Rattle.gb_successors.specs.Below.gb_abs.Meaning.{Activation, MeansCore, MeansParts, ime_may_be}
 use Rattle.gb_successors.specs.Below.gb_abs.Operations.{core_end, with_core}
 use Rattle.gb_successors.specs.Below.gb_abs.Stack.{pushed}
@@ -163,11 +168,42 @@ MeansCore-masked s entry x i m = record {
   stopped = m.stopped;
 }
 
+-- interrupts are off while a stack is put aside, so it isn't where they are on
+no_aside : (o : Option Bounds) (p q : Processor) → p.ime ≡ ime.On → IsAside o p → IsAside o q
+no_aside None p q on h = tt
+no_aside (Some b) p q on h = absurd (different (sym on ∙ h.off))
+  where
+    different : ime.On ≡ ime.Off → ⊥
+    different e = cc
+
+-- what is said of the whole program still holds in the handler
+HoldSummary-handler : (program : Program) (cells : List Cell) (s : SummaryParts) (p : Processor) (i sp : ℕ) (memory : ℕ → ℕ) (banks : Banks) → p.ime ≡ ime.On
+    → HoldSummary program cells s p memory banks → HoldSummary program cells s (with_sp (in_handler p i) sp) memory banks
+unfolding pointed byte_or_page
+HoldSummary-handler program cells s p i sp memory banks on h = record {
+  facts = h.facts;
+  fills = h.fills;
+  first = h.first;
+  second = h.second;
+  aside = no_aside s.aside p (with_sp (in_handler p i) sp) on h.aside;
+}
+
+-- and where the stack region alone was written
+IsSummarized-dispatched : (rom : List ℕ) (region : Region) (s : AbsState) (entry : Activation) (x : MState) (i a : ℕ) → AreFreeFacts region entry.program.facts → IsFree region s.summary → x.processor.ime ≡ ime.On
+    → (left_by rom x i a).storage.banks ≡ x.storage.banks → IsLeft region (peek x.storage) (peek (left_by rom x i a).storage) → IsSummarized s entry x → IsSummarized s entry (left_by rom x i a)
+IsSummarized-dispatched rom region s entry x i a facts free on banks left h =
+    subst (λ r. HoldSummary entry.program s.cells s.summary (left_by rom x i a).processor (peek (left_by rom x i a).storage) r) (sym banks)
+    (stays_elsewhere entry.program region s.cells s.summary (left_by rom x i a).processor (peek x.storage) (peek (left_by rom x i a).storage) x.storage.banks facts free left
+    (HoldSummary-handler entry.program s.cells s.summary x.processor i ((x.processor.sp + 65534) % 65536) (peek x.storage) x.storage.banks on h))
+
 dispatched_means : (s : AbsState) (a : ℕ) (entry : Activation) (base : ℕ) (y : MState) → MeansParts (pushed (known_word a) (dispatched s)) entry base y → AreRelated s.relations y
-    → s.summary ≡ no_summary → Means (pushed (known_word a) (dispatched s)) entry base y
+    → IsSummarized s entry y → Means (pushed (known_word a) (dispatched s)) entry base y
 unfolding pushed dispatched
-dispatched_means s a entry base y parts related quiet =
-    record { parts = parts; related = related; summary = IsSummarized-quiet (pushed (known_word a) (dispatched s)) entry y quiet }
+dispatched_means s a entry base y parts related said = record { parts = parts; related = related; summary = said }
+
+passed_banks : (m : View) (n : ℕ) → (passed m n).storage.banks ≡ m.storage.banks
+unfolding passed
+passed_banks m n = refl
 
 -- memory that stays where a byte of the places is
 HoldRelations-apart : (r : Relations) (x : Registers ℕ) (memory after : ℕ → ℕ) (f : Flags) → ((a : ℕ) → r.byte.address ≡ Some a → after a ≡ memory a) → HoldRelations r x memory f → HoldRelations r x after f
@@ -180,11 +216,8 @@ HoldRelations-apart r x memory after f same h = record {
 not_so : {X : Type 0} → true ≡ false → X
 not_so h = cc
 
-byte_placed : (region : Region) (o : Option ℕ) (a : ℕ) → IfSome o (λ b. is_free_byte region b ≡ true) → o ≡ Some a → IsPlaced region (record { address = a; val = any_val })
-byte_placed region None a h e = cc
-byte_placed region (Some b) a h e =
-    subst (λ c. IsPlaced region (record { address = c; val = any_val })) (same_Some b a e)
-    (let p = and_parts _ _ h in record { area = p.0; apart = not-true _ p.1 })
+free_at : (region : Region) (o : Option ℕ) (a : ℕ) → IsByteFree region o → o ≡ Some a → is_free region a ≡ true
+free_at region o a free e = subst (λ w. IsByteFree region w) e free
 
 pub record IsDispatched (rom : List ℕ) (cert : Certificate) (n : Node) (entry : Activation) (base : ℕ) (x : MState) (i : ℕ) : Type 0 where
   pub means : Means (pushed (known_word n.address) (dispatched n.state)) entry base (left_by rom x i n.address)
@@ -198,8 +231,8 @@ unfolding ended pushed dispatched
 pushed_ended s a = refl
 
 pub is_dispatched : (rom : List ℕ) (cert : Certificate) (n : Node) (entry : Activation) (base : ℕ) (x : MState) (i : ℕ) → IsAt rom cert n entry base x → Contains cert.nodes n → IsCertificate cert
-    → n.state.core.stack_set ≡ true → (n.state.core.bound ≡ 0) ⊎ (0xFF80 ≤ cert.region.first) → length n.state.items + 2 ≤ need_of cert n.procedure → IsDispatched rom cert n entry base x i
-is_dispatched rom cert n entry base x i at is_node certificate set unlimited held =
+    → x.processor.ime ≡ ime.On → n.state.core.stack_set ≡ true → (n.state.core.bound ≡ 0) ⊎ (0xFF80 ≤ cert.region.first) → length n.state.items + 2 ≤ need_of cert n.procedure → IsDispatched rom cert n entry base x i
+is_dispatched rom cert n entry base x i at is_node certificate on set unlimited held =
     let s = IsNodeState-node cert n certificate is_node in
     let room = fewer_bytes cert.region base (need_of cert n.procedure) (length n.state.items + 2) at.room held in
     let top = at.means.parts.stack set in
@@ -209,17 +242,22 @@ is_dispatched rom cert n entry base x i at is_node certificate set unlimited hel
     let done =
     MeansParts-pushed cert.region (with_core n.state (masked n.state.core)) entry base y (view rom x false) (known_word n.address) n.address means refl set room s.is_region s.placed
     (IsRegionOpen-bound n.state.core entry x cert.region at.means.parts.core unlimited) (Holds-single (n.address / 256) entry) (Holds-single (n.address % 256) entry) s.address in
+    let facts = subst (λ p. AreFreeFacts cert.region p.facts) (sym at.program) (is_program rom cert certificate).facts in
+    let left : IsLeft cert.region (peek x.storage) (peek (left_by rom x i n.address).storage) =
+    λ b free.
+    let p = and_parts (is_ram b) (not (meets cert.region b b)) free in
+    passed_peek (stored (view rom x false) (write.Push x.processor.sp n.address)) 5 b
+    ∙ done.others b p.0 (not_pushed cert.region base x.processor.sp (length n.state.items) (x.processor.sp - 1) b room top (inl refl) (λ m. not_so (sym m ∙ not-true _ p.1)))
+    (not_pushed cert.region base x.processor.sp (length n.state.items) (x.processor.sp - 2) b room top (inr refl) (λ m. not_so (sym m ∙ not-true _ p.1))) in
     record {
       means = dispatched_means n.state n.address entry base (left_by rom x i n.address) (subst (λ z. MeansParts z entry base (left_by rom x i n.address)) (pushed_ended n.state n.address)
           (MeansParts-related n.state.relations (ended false 5 (pushed (known_word n.address) (with_core n.state (masked n.state.core)))) entry base (left_by rom x i n.address)
           (MeansParts-ended rom (pushed (known_word n.address) (with_core n.state (masked n.state.core))) entry base (left_by rom x i n.address).processor (stored (view rom x false) (write.Push x.processor.sp n.address)) false 5 done.starting done.means)))
           (HoldRelations-apart n.state.relations x.processor.registers (peek x.storage) (peek (left_by rom x i n.address).storage) x.processor.flags
-          (λ b e. let p = byte_placed cert.region n.state.relations.byte.address b s.byte e in
-          passed_peek (stored (view rom x false) (write.Push x.processor.sp n.address)) 5 b
-          ∙ done.others b (placed_in_ram cert.region _ p) (not_pushed cert.region base x.processor.sp (length n.state.items) (x.processor.sp - 1) b room top (inl refl) (λ m. not_so (sym m ∙ p.apart)))
-          (not_pushed cert.region base x.processor.sp (length n.state.items) (x.processor.sp - 2) b room top (inr refl) (λ m. not_so (sym m ∙ p.apart))))
+          (λ b e. left b (free_at cert.region n.state.relations.byte.address b s.free e))
           at.means.related)
-          s.quiet;
+          (IsSummarized-dispatched rom cert.region n.state entry x i n.address facts s.apart on
+          (passed_banks (stored (view rom x false) (write.Push x.processor.sp n.address)) 5 ∙ done.banks) left at.means.summary);
       faults = done.faults;
       kept = λ b kept. passed_peek (stored (view rom x false) (write.Push x.processor.sp n.address)) 5 b
           ∙ done.others b kept.ram (not_pushed cert.region base x.processor.sp (length n.state.items) (x.processor.sp - 1) b room top (inl refl) kept.above)
@@ -258,12 +296,12 @@ GoesOn program cert n q =
     (exit : AbsState) → exit_of cert q ≡ Some exit
     → IfSome (resumed program Simple (setting_of cert n.procedure).is_whole (taken_by cert q) (ranges_of cert q) (kept_of cert q) (left_by_dispatch Simple n.address n.state) exit) (λ after. covered_at program Simple cert n.procedure n.address after ≡ true)
 
-handled : (rom : List ℕ) (cert : Certificate) (n : Node) (entry : Activation) (base : ℕ) (x : MState) (i q : ℕ) → IsAt rom cert n entry base x → Contains cert.nodes n → IsCertificate cert
+handled : (rom : List ℕ) (cert : Certificate) (n : Node) (entry : Activation) (base : ℕ) (x : MState) (i q : ℕ) → IsAt rom cert n entry base x → Contains cert.nodes n → IsCertificate cert → rules_of cert.version ≡ Simple
     → IsDispatched rom cert n entry base x i → x.processor.halt_mark ≡ false → n.state.core.stack_set ≡ true → handler_of entry.program cert (simple_at cert n) i n.address n.state ≡ Some q
     → are_ranges_inside (ranges_of cert q) (ranges_of cert n.procedure) ≡ true → length n.state.items + 2 + need_of cert q ≤ need_of cert n.procedure
     → GoesOn entry.program cert n q
     → Calls cert n.procedure entry base (left_by rom x i n.address)
-handled rom cert n entry base x i q at is_node certificate d mark set handler inside depth resumes =
+handled rom cert n entry base x i q at is_node certificate simple d mark set handler inside depth resumes =
     let s = IsNodeState-node cert n certificate is_node in
     let callee = IsCallee-found entry.program cert (simple_at cert n) (vector i) (dispatched n.state) q (sym (handler_is entry.program cert n i) ∙ handler) in
     let begin = IsEntryNode-entry entry.program cert (simple_at cert n) (vector i) (dispatched n.state) callee.procedure callee.begins in
@@ -274,7 +312,7 @@ handled rom cert n entry base x i q at is_node certificate d mark set handler in
       back = n.address;
       back_small = s.address;
       means = d.means;
-      quiet = dispatched_quiet n.state s.quiet;
+      quiet = dispatched_quiet n.state (s.quiet simple);
       stack_set = dispatched_set n.state ∙ set;
       placed = subst (λ cells. ArePlaced cert.region cells) (sym (dispatched_cells n.state)) s.placed;
       node = begin.node;
@@ -303,14 +341,15 @@ pub IsSafeEvent-dispatch : (rom : List ℕ) (cert : Certificate) (n : Node) (ent
     → GoesOn entry.program cert n q
     → IsSafeEvent rom cert n.procedure entry base x (event.Irq i)
 IsSafeEvent-dispatch rom cert n entry base x i q at is_node certificate simple possible set unlimited handler inside depth resumes =
-    let mark = mark_clear rom x at.mark (is_called rom x i possible).on in
-    let d = is_dispatched rom cert n entry base x i at is_node certificate set unlimited (omega arith) in
+    let on = (is_called rom x i possible).on in
+    let mark = mark_clear rom x at.mark on in
+    let d = is_dispatched rom cert n entry base x i at is_node certificate on set unlimited (omega arith) in
     let after = happened_is rom x i n.address at.address in
     let safe : IsSafeHappening rom cert n.procedure entry base x (event.Irq i) = record {
       faults = faults_are rom cert.region x i n.address at.address ∙ d.faults;
       places = no_places rom cert x i;
       leads = simply_leads rom cert n.procedure entry base x (outside (happened (within rom x) (event.Irq i))) simple
-          (inr (inl (subst (λ y. Calls cert n.procedure entry base y) (sym after) (handled rom cert n entry base x i q at is_node certificate d mark set handler inside depth resumes))));
+          (inr (inl (subst (λ y. Calls cert n.procedure entry base y) (sym after) (handled rom cert n entry base x i q at is_node certificate simple d mark set handler inside depth resumes))));
       kept = λ b kept. ap (λ (y : MState). peek y.storage b) after ∙ d.kept b kept;
     } in
     IsSafeEvent-where rom cert n.procedure entry base x (event.Irq i) true possible (record { node = n; is_node = is_node; procedure_is = refl; at = at }) (λ yes. safe)

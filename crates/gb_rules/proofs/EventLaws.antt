@@ -27,7 +27,7 @@ use Rattle.gb_ops.specs.Faults.{no_faults, either_faults, fetch_faults, all_fetc
 use Rattle.gb_ops.specs.Play.{MState, within, outside, next, faults, places, faults_where, places_where}
 use Rattle.gb_successors.specs.Below.gb_domain.Types.{AbsState, Node}
 use Rattle.gb_successors.specs.Below.gb_domain.Certificate.{Certificate}
-use Rattle.gb_calls.specs.Below.gb_states.Rules.{IsCertificate}
+use Rattle.gb_calls.specs.Below.gb_states.WholeRules.{IsCertificate}
 use Rattle.gb_successors.specs.Below.gb_abs.Mark.{IsMarkHarmless}
 use Rattle.gb_ops.specs.declared.machine.Mapped.{Mapped}
 use Rattle.gb_ops.specs.declared.machine.Mapped.TheVariants as mapped

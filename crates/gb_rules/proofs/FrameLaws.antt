@@ -9,7 +9,7 @@ use Rattle.gb_calls.specs.Below.gb_states.declared.role.Role.TheVariants as role
 use Rattle.gb_successors.specs.Below.gb_domain.Limits.{rules_of}
 use Rattle.gb_successors.specs.Below.gb_domain.declared.rules.Rules.{Rules}
 use Rattle.gb_successors.specs.Below.gb_domain.declared.rules.Rules.TheVariants.{Simple}
-use Rattle.gb_calls.specs.Below.gb_states.Rules.{IsState, IsCertificate}
+use Rattle.gb_calls.specs.Below.gb_states.WholeRules.{IsCertificate}
 use Rattle.gb_successors.specs.Below.gb_abs.Meaning.{Activation}
 use Rattle.gb_successors.specs.Below.gb_product.Covering.{covers}
 use Rattle.gb_successors.specs.Below.gb_product.Meaning.{Means}
@@ -27,6 +27,7 @@ use Rattle.gb_calls.proofs.RangeLaws.{IsKept-inside}
 use Rattle.gb_calls.proofs.ResumingLaws.{Means-resumed_alone}
 use Rattle.gb_successors.specs.Below.gb_abs_effects.Pairs.{known_word}
 use Rattle.gb_ops.specs.declared.machine.Kind.TheVariants as kind
+use Rattle.gb_rules.proofs.CertificateLaws.{HasStateParts}
 use Rattle.gb_rules.proofs.ProgramLaws.{no_controller}
 use Rattle.gb_rules.specs.Covered.{covered_at}
 use Rattle.gb_rules.specs.Procedures.{ranges_of, kept_of, need_of, setting_of, program_of, exit_of}
@@ -200,7 +201,7 @@ comes_back : (rom : List ℕ) (cert : Certificate) (f : Frame) (procedure : ℕ)
     → ComesBack cert.region (ranges_of cert procedure) w.calls.state r.exit f.entry f.base entry t
 comes_back rom cert f procedure entry base s t certificate simple program w before r keeps =
     let c = w.calls in
-    let unknown : entry.program.kind ≡ kind.Rom = ap (λ p. p.kind) program ∙ no_controller rom cert certificate in
+    let unknown : entry.program.kind ≡ kind.Rom = ap (λ p. p.kind) program ∙ no_controller rom cert simple in
     let p = placed_call cert f.procedure f.entry f.base entry.entered certificate w.room c in
     let exit = exit_state cert procedure r.exit certificate r.is_exit in
     let all = Keeps-then cert procedure base entry.entered s t before keeps in
@@ -212,7 +213,7 @@ comes_back rom cert f procedure entry base s t certificate simple program w befo
       stack_set = c.stack_set;
       caller = caller_means cert f.procedure f.entry f.base entry.entered c p;
       exit_set = exit_set (rules_of cert.version) cert.region r.exit exit;
-      exit_items = exit_items cert.region r.exit (subst (λ q. IsState q role.Exit cert.region r.exit) simple exit);
+      exit_items = exit_items cert.region r.exit (subst (λ q. HasStateParts q role.Exit cert.region r.exit) simple exit);
       exit_core = exit.core;
       exits = subst (λ n. Means r.exit entry (n + 2) t) w.base_is r.means;
       caller_unknown = ap (λ p. p.kind) w.program ∙ unknown;

@@ -13,7 +13,7 @@ use Rattle.gb_successors.specs.Below.gb_domain.Certificate.{Certificate}
 use Rattle.gb_successors.specs.Below.gb_domain.Limits.{rules_of}
 use Rattle.gb_successors.specs.Below.gb_domain.Settings.{IsBase}
 use Rattle.gb_calls.specs.Below.gb_states.declared.role.Role.TheVariants as role
-use Rattle.gb_calls.specs.Below.gb_states.Rules.{IsState, IsCertificate}
+use Rattle.gb_calls.specs.Below.gb_states.WholeRules.{IsCertificate}
 use Rattle.gb_successors.specs.Below.gb_abs.Stack.{AreInRegion}
 use Rattle.gb_successors.specs.Below.gb_product.Covering.{covers}
 use Rattle.gb_successors.specs.Below.gb_product.Meaning.{Means}
@@ -37,7 +37,8 @@ use Rattle.gb_rules.proofs.ProcedureLaws.{HasReturnWord-widely, ranges_apart, ex
 use Rattle.gb_rules.proofs.ResumedLaws.{IsGivenBack, IsGivenBack-resumed}
 use Rattle.gb_rules.proofs.FrameLaws.{Keeps-none, Keeps-then, waiting_by, waiting_in}
 use Rattle.gb_successors.specs.Below.gb_product.Below.gb_summaries.Elsewhere.{AreFreeFacts}
-use Rattle.gb_rules.proofs.ProgramLaws.{is_program, nothing_said, free_quiet}
+use Rattle.gb_rules.proofs.CertificateLaws.{HasStateParts}
+use Rattle.gb_rules.proofs.ProgramLaws.{is_program}
 
 -- ---- who keeps something
 
@@ -179,12 +180,12 @@ hands_back rom cert f procedure entry base s t certificate extended program name
       callee_program = sym w.program;
       names = names;
       facts = subst (λ p. AreFreeFacts cert.region p.facts) (sym (w.program ∙ program)) (is_program rom cert certificate).facts;
-      exit_free = free_quiet cert.region r.exit.summary (nothing_said (rules_of cert.version) r.exit exit.sayable);
+      exit_free = exit.apart;
       kept = λ b k. all.byte b (subst (λ n. IsKept (setting_of cert procedure) cert.region (ranges_of cert procedure) n b) (sym w.base_is) k);
     }
 
 -- where something is left, it is covered, and means the machine's state, a node stands for it
-found_if : (cert : Certificate) (procedure a : ℕ) (k : ℕ) (s x : AbsState) (entry called : Activation) (base : ℕ) (y : MState) (o : Option AbsState) → IsState Extended role.Exit cert.region x → Means x called base y
+found_if : (cert : Certificate) (procedure a : ℕ) (k : ℕ) (s x : AbsState) (entry called : Activation) (base : ℕ) (y : MState) (o : Option AbsState) → HasStateParts Extended role.Exit cert.region x → Means x called base y
     → (top : ℕ) → MeansIf o entry top y → IfSome o (λ after. covered_at entry.program Extended cert procedure a after ≡ true) → IfSome o (IsGivenBack k s x)
     → IsFoundAt cert procedure a (length (given_back_items k s.items x.items)) entry top y
 found_if cert procedure a k s x entry called base y None is exits top m covered given = absurd m
@@ -200,7 +201,7 @@ goes_on : (rom : List ℕ) (cert : Certificate) (f : Frame) (procedure : ℕ) (e
 goes_on rom cert f procedure entry base s t certificate extended program names w before r keeps =
     let c = w.calls in
     let k = taken_by cert procedure in
-    let exit : IsState Extended role.Exit cert.region r.exit = subst (λ q. IsState q role.Exit cert.region r.exit) extended (exit_state cert procedure r.exit certificate r.is_exit) in
+    let exit : HasStateParts Extended role.Exit cert.region r.exit = subst (λ q. HasStateParts q role.Exit cert.region r.exit) extended (exit_state cert procedure r.exit certificate r.is_exit) in
     let pairs = exit.relations.pairs in
     let back = hands_back rom cert f procedure entry base s t certificate extended program names w before r keeps in
     let z = setting_of cert f.procedure in

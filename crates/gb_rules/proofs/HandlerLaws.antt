@@ -15,7 +15,7 @@ use Rattle.gb_successors.specs.Below.gb_domain.Pairs.{ArePairs}
 use Rattle.gb_successors.specs.Below.gb_domain.Summaries.{Program}
 use Rattle.gb_successors.specs.Below.gb_domain.Types.{AbsState, Node}
 use Rattle.gb_successors.specs.Below.gb_domain.Certificate.{Certificate}
-use Rattle.gb_calls.specs.Below.gb_states.Rules.{IsCertificate}
+use Rattle.gb_calls.specs.Below.gb_states.WholeRules.{IsCertificate}
 use Rattle.gb_successors.specs.Below.gb_abs.Cells.{ArePlaced}
 use Rattle.gb_successors.specs.Below.gb_abs.Operations.{core_settle}
 use Rattle.gb_successors.proofs.Below.gb_abs_laws.OperationLaws.{MeansCore-settle, moved}
@@ -191,7 +191,8 @@ IsSafeEvent-dispatched rom cert n entry base x i extended certificate is_node sh
     let z = setting_of cert n.procedure in
     let s = IsNodeState-node cert n certificate is_node in
     let may = may_come-possible rom cert n entry base x i at possible in
-    let mark = mark_clear rom x at.mark (is_called rom x i possible).on in
+    let on = (is_called rom x i possible).on in
+    let mark = mark_clear rom x at.mark on in
     let o = handler_of entry.program cert (wide_at cert n) i n.address n.state in
     let ready : IsReady entry.program cert n i o = is_ready entry.program cert n i o
     (subst (λ (z : Setting). is_unhandled entry.program z cert n i (handler_of entry.program cert z i n.address n.state) ≡ false) (widely cert n extended)
@@ -199,7 +200,7 @@ IsSafeEvent-dispatched rom cert n entry base x i extended certificate is_node sh
     (subst (λ (z : Setting). is_dispatch_deep z cert (need_of cert n.procedure) n.state (handler_of entry.program cert z i n.address n.state) ≡ false) (widely cert n extended)
     (one_interrupt (λ i. is_dispatch_deep z cert (need_of cert n.procedure) n.state (handler_of entry.program cert z i n.address n.state)) n i shallow may.1 may.0)) in
     let clear = one_interrupt (λ i. is_stack_limited cert.region n.state.core) n i unlimited may.1 may.0 in
-    let d = is_dispatched rom cert n entry base x i at is_node certificate ready.stack_set (clear_stack cert.region n.state.core clear) ready.held in
+    let d = is_dispatched rom cert n entry base x i at is_node certificate on ready.stack_set (clear_stack cert.region n.state.core clear) ready.held in
     let after = happened_is rom x i n.address at.address in
     let leads : LeadsBy Extended rom cert n.procedure entry base x (left_by rom x i n.address) = dispatch_leads rom cert n entry base x i o extended certificate at s refl ready d mark in
     let safe : IsSafeHappening rom cert n.procedure entry base x (event.Irq i) = record {

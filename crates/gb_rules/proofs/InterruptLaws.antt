@@ -13,7 +13,7 @@ use Rattle.gb_successors.specs.Below.gb_domain.declared.rules.Rules.TheVariants.
 use Rattle.gb_successors.specs.Below.gb_domain.Limits.{rules_of}
 use Rattle.gb_successors.specs.Below.gb_domain.Types.{Node}
 use Rattle.gb_successors.specs.Below.gb_domain.Certificate.{Certificate}
-use Rattle.gb_calls.specs.Below.gb_states.Rules.{IsCertificate}
+use Rattle.gb_calls.specs.Below.gb_states.WholeRules.{IsCertificate}
 use Rattle.gb_successors.specs.Below.gb_abs.declared.reason.Reason.{Reason}
 use Rattle.gb_successors.specs.Below.gb_abs.declared.reason.Reason.TheVariants as reasons
 use Rattle.gb_successors.specs.Below.gb_code.Below.gb_abs_memory.Sound.{IsRom}

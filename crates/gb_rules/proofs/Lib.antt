@@ -7,6 +7,7 @@ pub mod CallLaws
 pub mod TargetLaws
 pub mod RegionLaws
 pub mod ReadyLaws
+pub mod CertificateLaws
 pub mod ProgramLaws
 pub mod NodeLaws
 pub mod StandLaws

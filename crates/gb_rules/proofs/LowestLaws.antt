@@ -8,7 +8,7 @@ use Rattle.gb_successors.specs.Below.gb_domain.declared.rules.Rules.{Rules}
 use Rattle.gb_successors.specs.Below.gb_domain.declared.rules.Rules.TheVariants.{Simple, Extended}
 use Rattle.gb_successors.specs.Below.gb_domain.Limits.{rules_of}
 use Rattle.gb_successors.specs.Below.gb_domain.declared.relations.Relations.{Relations}
-use Rattle.gb_successors.specs.Below.gb_domain.declared.types.Cell.{Cell}
+use Rattle.gb_successors.specs.Below.gb_domain.declared.types.Val.{Val}
 use Rattle.gb_successors.specs.Below.gb_domain.declared.types.Core.{Core}
 use Rattle.gb_successors.specs.Below.gb_domain.declared.types.ImeSet.{ImeSet}
 use Rattle.gb_successors.specs.Below.gb_domain.Types.{AbsState, Node}
@@ -24,7 +24,7 @@ use Rattle.gb_successors.specs.Below.gb_product.Sides.{taken_side}
 use Rattle.gb_successors.specs.Way.{Successor}
 use Rattle.gb_successors.specs.declared.stacks.Stack.{Stack}
 use Rattle.gb_successors.specs.declared.successors.Successors.{Successors}
-use Rattle.gb_successors.specs.Successors.{product_before, taken_successor, reduced_successor, taken_from, not_taken_from, stays, successors_of, has, any_successor}
+use Rattle.gb_successors.specs.Successors.{memory_before, product_before, taken_successor, reduced_successor, taken_from, not_taken_from, stays, successors_of, has, any_successor}
 use Rattle.gb_rules.specs.Procedures.{need_of, setting_of, stack_of, program_of}
 use Rattle.gb_rules.specs.Rules.{node_setting, calls_too_deep, handles_too_deep, is_dispatch_limited, is_possible, moves_too_deep, moves_alone_too_deep, taken_too_deep, ways_of, any_of, grows_too_deep, stores_outside, meets_ram, meets_transfer, leads_anywhere, leads_uncovered, calls_wrongly, returns_wrongly, applies_to_row, way_reasons}
 use Rattle.gb_rules.specs.Lowest.{lower, lowest, lowest_in, behind, applies_to_way, applies_to_taken, applies_alone}
@@ -322,7 +322,7 @@ IsLowest rom cert n row k before =
     lowest (applies_to_row rom cert n row)
     ≡ lower (lower (lower (lowest (applies_alone rom cert n row))
     (lowest_in (applies_to_taken rom cert n row) (option_and_then (taken_from k (program_of rom cert) rom row (behind n.address row) n.state) before)))
-    (lowest_in (applies_to_way rom cert n row) (option_and_then (not_taken_from k row (behind n.address row) n.state) before)))
+    (lowest_in (applies_to_way rom cert n row) (option_and_then (not_taken_from k (program_of rom cert) row (behind n.address row) n.state) before)))
     (lowest_in (applies_to_way rom cert n row) (option_and_then (λ (p : Product). stays row n.address n.state) before))
 
 lowest-before : (rom : List ℕ) (cert : Certificate) (n : Node) (row : Row)
@@ -343,12 +343,12 @@ pub lowest_of_ways : (rom : List ℕ) (cert : Certificate) (n : Node) (row : Row
     → k ≡ stack_of cert n.procedure → s ≡ n.state → Some p ≡ product_before k.setting.rules s
     → lowest (applies_to_row rom cert n row)
     ≡ lower (lower (lower (lowest (applies_alone rom cert n row)) (lowest_in (applies_to_taken rom cert n row) (taken_from k (program_of rom cert) rom row (behind n.address row) s p)))
-    (lowest_in (applies_to_way rom cert n row) (not_taken_from k row (behind n.address row) s p)))
+    (lowest_in (applies_to_way rom cert n row) (not_taken_from k (program_of rom cert) row (behind n.address row) s p)))
     (lowest_in (applies_to_way rom cert n row) (stays row n.address s))
 lowest_of_ways rom cert n row k s p stack state before =
     subst (λ (t : AbsState). lowest (applies_to_row rom cert n row)
     ≡ lower (lower (lower (lowest (applies_alone rom cert n row)) (lowest_in (applies_to_taken rom cert n row) (taken_from k (program_of rom cert) rom row (behind n.address row) t p)))
-    (lowest_in (applies_to_way rom cert n row) (not_taken_from k row (behind n.address row) t p)))
+    (lowest_in (applies_to_way rom cert n row) (not_taken_from k (program_of rom cert) row (behind n.address row) t p)))
     (lowest_in (applies_to_way rom cert n row) (stays row n.address t)))
     (sym state)
     (subst (IsLowest rom cert n row k) (sym (before ∙ ap (product_before k.setting.rules) state))
@@ -356,13 +356,13 @@ lowest_of_ways rom cert n row k s p stack state before =
 
 -- a successor on the side that is given
 pub taken_on_side : (test : Successor → Reason → Bool) (program q : Program) (rom : List ℕ) (row : Row) (k : Stack) (s : AbsState) (p : Product)
-    (next at : ℕ) (cells : List Cell) (o : Option Branch) (b : Branch) (t : Successor)
-    → q ≡ program → next ≡ at → cells ≡ s.cells → o ≡ taken_side row.op cells p.core p.relations → o ≡ Some b → t ≡ taken_successor k q rom row next s b
+    (next at : ℕ) (memory : Val) (o : Option Branch) (b : Branch) (t : Successor)
+    → q ≡ program → next ≡ at → memory ≡ memory_before q s p → o ≡ taken_side row.op memory p.core p.relations → o ≡ Some b → t ≡ taken_successor k q rom row next s b
     → lowest_in test (reduced_successor k.setting.rules t) ≡ lowest_in test (taken_from k program rom row at s p)
-taken_on_side test program q rom row k s p next at cells o b t same place listed is some e =
+taken_on_side test program q rom row k s p next at memory o b t same place known is some e =
     ap (λ u. lowest_in test (reduced_successor k.setting.rules u)) (e ∙ (ap (λ r. taken_successor k r rom row next s b) same ∙ ap (λ a. taken_successor k program rom row a s b) place))
     ∙ ap (λ w. lowest_in test (option_and_then (λ c. reduced_successor k.setting.rules (taken_successor k program rom row at s c)) w))
-    (sym some ∙ is ∙ ap (λ cs. taken_side row.op cs p.core p.relations) listed)
+    (sym some ∙ is ∙ ap (λ m. taken_side row.op m p.core p.relations) (known ∙ ap (λ r. memory_before r s p) same))
 
 -- ---- what is meant before the instruction
 

@@ -1,5 +1,5 @@
 -- What is known of a node of a certificate that no reason applies to.
-use Rattle.std.proofs.Common.{◌≡◌, ℕ, zero, suc, ◌+◌, ◌≤◌, ◌<◌, Bool, true, false, cond, not, ◌&&◌, ◌||◌, ◌==◌, nat_le, nat_lt, ◌⊎◌, inl, inr, List, [], ◌∷◌, length, slice_index, slice_get, get_or, Option, Some, None, is_none, refl, sym, ◌∙◌, ap, subst, arith}
+use Rattle.std.proofs.Common.{◌≡◌, ℕ, zero, suc, ◌+◌, ◌≤◌, ◌<◌, Bool, true, false, cond, not, ◌&&◌, ◌||◌, ◌==◌, nat_lt, ◌⊎◌, inl, inr, List, [], ◌∷◌, length, slice_index, slice_get, get_or, Option, Some, None, is_none, refl, sym, ◌∙◌, ap, subst, arith}
 use Rattle.std.proofs.lemmas.Bool.{or_parts, not-false, eqb-true}
 use Rattle.gb_calls.specs.Below.gb_states.declared.role.Role.TheVariants as role
 use Rattle.std.proofs.lemmas.Bool.Decides.{nat_tests}
@@ -14,23 +14,23 @@ use Rattle.gb_ops.specs.declared.op.Row.{Row}
 use Rattle.gb_ops.specs.Cartridge.{kind_of}
 use Rattle.gb_ops.specs.Table.{decoded}
 use Rattle.gb_ops.specs.Machine.{length_of}
-use Rattle.gb_successors.specs.Below.gb_domain.declared.types.Cell.{Cell}
 use Rattle.gb_successors.specs.Below.gb_domain.declared.types.Val.{Val}
 use Rattle.gb_successors.specs.Below.gb_domain.declared.rules.Rules.{Rules}
 use Rattle.gb_successors.specs.Below.gb_domain.declared.rules.Rules.TheVariants.{Simple, Extended}
 use Rattle.gb_successors.specs.Below.gb_domain.declared.setting.Setting.{Setting}
-use Rattle.gb_successors.specs.Below.gb_domain.Areas.{are_in_ram, is_free_byte}
+use Rattle.gb_successors.specs.Below.gb_domain.Areas.{is_free_byte}
 use Rattle.gb_successors.specs.Below.gb_domain.Limits.{rules_of, item_room}
 use Rattle.gb_successors.specs.Below.gb_domain.Summaries.{Program, no_summary}
 use Rattle.gb_successors.specs.Below.gb_product.Below.gb_summaries.Elsewhere.{IsFree}
-use Rattle.gb_rules.proofs.ProgramLaws.{nothing_said, free_quiet}
+use Rattle.gb_rules.proofs.CertificateLaws.{free_from, HasStateParts, node_parts}
 use Rattle.gb_successors.specs.Below.gb_domain.Types.{AbsState, Node}
 use Rattle.gb_successors.specs.Below.gb_domain.Certificate.{Certificate}
-use Rattle.gb_successors.specs.Below.gb_domain.Areas.{IsRegion, meets}
+use Rattle.gb_successors.specs.Below.gb_domain.Areas.{IsRegion}
 use Rattle.gb_successors.specs.Below.gb_domain.Pairs.{ArePairs}
 use Rattle.gb_successors.specs.Below.gb_domain.Settings.{IsBase}
-use Rattle.gb_successors.specs.Below.gb_domain.Rules.{IsVal, IsCell, IsChain, IsCore, after_cell}
-use Rattle.gb_calls.specs.Below.gb_states.Rules.{IsNode, IsState, IsCertificate, key, role_of, needs_stack}
+use Rattle.gb_successors.specs.Below.gb_domain.Rules.{IsVal, IsChain, IsCore}
+use Rattle.gb_calls.specs.Below.gb_states.Rules.{key, role_of, needs_stack}
+use Rattle.gb_calls.specs.Below.gb_states.WholeRules.{kept_of as declared_by, kept_counts, IsNodeBy, IsCertificate}
 use Rattle.gb_successors.specs.Below.gb_abs.Cells.{ArePlaced}
 use Rattle.gb_successors.specs.Below.gb_abs.Stack.{AreInRegion}
 use Rattle.gb_successors.specs.Below.gb_abs_effects.declared.targets.Target.{Target}
@@ -73,14 +73,6 @@ contained {S} {X} good next s (y ∷ xs) x h c = choose c.0 c.1 c.2 (contained g
     choose zero lt e rest = (s, subst (good s) e h.0)
     choose (suc i) lt e rest = rest (i, omega arith, e)
 
-placed_from : (region : Region) (least : ℕ) (cells : List Cell) → IsChain (IsCell region) after_cell least cells → ArePlaced region cells
-placed_from region least [] h = tt
-placed_from region least (c ∷ rest) h = (record { area = h.0.area; apart = h.0.apart }, placed_from region (after_cell c) rest h.1)
-
-vals_from : (region : Region) (least : ℕ) (cells : List Cell) → IsChain (IsCell region) after_cell least cells → AreVals cells
-vals_from region least [] h = tt
-vals_from region least (c ∷ rest) h = (h.0.val, vals_from region (after_cell c) rest h.1)
-
 -- its parts
 pub record IsNodeState (cert : Certificate) (n : Node) : Type 0 where
   pub is_region : IsRegion cert.region
@@ -92,7 +84,7 @@ pub record IsNodeState (cert : Certificate) (n : Node) : Type 0 where
   pub byte : IfSome n.state.relations.byte.address (λ a. is_free_byte cert.region a ≡ true)
   pub free : IsByteFree cert.region n.state.relations.byte.address
   pub pairs : ArePairs n.state.relations.pairs
-  pub quiet : n.state.summary ≡ no_summary
+  pub quiet : rules_of cert.version ≡ Simple → n.state.summary ≡ no_summary
   pub apart : IsFree cert.region n.state.summary
   pub stack : 0 < n.procedure → n.state.core.stack_set ≡ true
   pub unset : n.state.core.stack_set ≡ false → n.state.items ≡ []
@@ -118,32 +110,23 @@ none_unset true true (v ∷ items) h e = absurd (unlike e)
 none_unset true false (v ∷ items) h e = absurd (not_zero (length items) h)
 none_unset false set (v ∷ items) h e = absurd (not_zero (length items) h)
 
--- an address among the places lies in RAM, outside the region
-free_from : (region : Region) (o : Option ℕ) → IfSome o (λ a. is_free_byte region a ≡ true) → IsByteFree region o
-free_from region None h = tt
-free_from region (Some a) h = without_order (nat_le a a) (are_in_ram a a) (not (meets region a a)) h
-  where
-    without_order : (order ram apart : Bool) → ((order && ram) && apart) ≡ true → (ram && apart) ≡ true
-    without_order true ram apart h = h
-    without_order false ram apart h = cc
-
 pub IsNodeState-node : (cert : Certificate) (n : Node) → IsCertificate cert → Contains cert.nodes n → IsNodeState cert n
 IsNodeState-node cert n c is =
-    let p = contained (IsNode (rules_of cert.version) cert.region (length cert.procedures)) key (0, 0) cert.nodes n c.nodes is in
-    let node = p.1 in
-    let state : IsState (rules_of cert.version) (role_of n.procedure) cert.region n.state = node.state in
+    let p = contained (IsNodeBy (cert.version == 4) cert.version (length cert.facts) (declared_by (kept_counts cert.procedures)) cert.region (length cert.procedures)) key (0, 0) cert.nodes n c.nodes is in
+    let node = node_parts (cert.version == 4) cert.version (length cert.facts) (declared_by (kept_counts cert.procedures)) cert.region (length cert.procedures) p.0 n refl p.1 in
+    let state : HasStateParts (rules_of cert.version) (role_of n.procedure) cert.region n.state = node.state in
     record {
       is_region = c.region;
       address = node.address;
       core = state.core;
-      placed = placed_from cert.region 0 n.state.cells state.cells;
-      vals = vals_from cert.region 0 n.state.cells state.cells;
+      placed = state.placed;
+      vals = state.vals;
       items = state.items;
       byte = state.relations.byte.address;
       free = free_from cert.region n.state.relations.byte.address state.relations.byte.address;
       pairs = state.relations.pairs;
-      quiet = nothing_said (rules_of cert.version) n.state state.sayable;
-      apart = free_quiet cert.region n.state.summary (nothing_said (rules_of cert.version) n.state state.sayable);
+      quiet = state.quiet;
+      apart = state.apart;
       stack = λ other. needs_other n.procedure n.state.core.stack_set other state.stack;
       unset = none_unset _ n.state.core.stack_set n.state.items state.pushed;
     }

@@ -1,7 +1,7 @@
 -- What a caller of version 3 goes on with: its pairs are such as may be known, and its items are those that waited, as many as the
 -- exit's behind them.
 use Rattle.std.proofs.Common.{◌≡◌, ℕ, Bool, true, false, cond, List, length, Option, Some, None, refl}
-use Rattle.std.specs.Prelude.{IfSome}
+use Rattle.std.specs.Prelude.{IfSome, option_map, option_and_then}
 use Rattle.gb_successors.specs.Below.gb_domain.declared.rules.Rules.TheVariants.{Extended}
 use Rattle.gb_successors.specs.Below.gb_domain.declared.types.Range.{Range}
 use Rattle.gb_successors.specs.Below.gb_domain.Pairs.{ArePairs}
@@ -10,26 +10,40 @@ use Rattle.gb_successors.specs.Below.gb_pairs.declared.values.Values.{Values}
 use Rattle.gb_successors.specs.Below.gb_pairs.Reduced.{reduced}
 use Rattle.gb_successors.proofs.Below.gb_relations_laws.Below.gb_pairs_laws.KeptLaws.{reduced_kept}
 use Rattle.gb_successors.specs.Below.gb_relations.Transfer.{values_of}
-use Rattle.gb_calls.specs.Resuming.{given_addresses, is_something, kept_by, rejoined, with_values_if, reduced_state, resumed}
+use Rattle.gb_calls.specs.Resuming.{given_addresses, is_something, kept_by, rejoined, with_controller, with_banks_cut, with_values, with_values_if, reduced_state, resumed}
 use Rattle.gb_calls.specs.TakenOver.{given_back_items}
 use Rattle.gb_calls.specs.Told.{val_back}
 use Rattle.gb_calls.proofs.ResumingLaws.{ArePairs-returned}
 use Rattle.gb_calls.proofs.TakenOverLaws.{given_back-count}
 use Rattle.gb_successors.specs.Below.gb_domain.Summaries.{Program}
+use Rattle.gb_successors.specs.Below.gb_domain.declared.types.Ctl.{Ctl}
+use Rattle.gb_successors.specs.Below.gb_product.Covering.{values_in}
+use Rattle.gb_successors.specs.Below.gb_product.Reduced.{reduced_controller}
 
 -- the states with which a caller goes on that was in s, where the callee began with k items and left by the exit x
 pub record IsGivenBack (k : ℕ) (s x after : AbsState) : Type 0 where
   pub pairs : ArePairs after.relations.pairs
   pub count : length after.items ≡ length (given_back_items k s.items x.items)
 
+-- to cut the controller's banks leaves pairs and items as they are
+given_back_cut : (program : Program) (k : ℕ) (s x t : AbsState) → IsGivenBack k s x t → IfSome (with_banks_cut program t) (IsGivenBack k s x)
+unfolding with_banks_cut
+given_back_cut program k s x t h = cut (reduced_controller program (values_in t) t.cells t.summary t.core.ctl)
+  where
+    cut : (o : Option Ctl) → IfSome (option_map (with_controller t) o) (IsGivenBack k s x)
+    cut None = tt
+    cut (Some c) = record { pairs = h.pairs; count = h.count }
+
 given_back_values : (program : Program) (whole : Bool) (k : ℕ) (ranges : List Range) (kept : List ℕ) (s x : AbsState) (o : Option Values) → IfSome o (λ w. ArePairs w.pairs)
-    → IfSome (with_values_if (rejoined program whole k ranges kept s x) o) (IsGivenBack k s x)
+    → IfSome (option_and_then (with_banks_cut program) (with_values_if (rejoined program whole k ranges kept s x) o)) (IsGivenBack k s x)
 unfolding rejoined
 given_back_values program whole k ranges kept s x None h = tt
-given_back_values program whole k ranges kept s x (Some v) h = record { pairs = h; count = given_back-count k s.items x.items (val_back program whole kept s) }
+given_back_values program whole k ranges kept s x (Some v) h =
+    given_back_cut program k s x (with_values (rejoined program whole k ranges kept s x) v)
+    (record { pairs = h; count = given_back-count k s.items x.items (val_back program whole kept s) })
 
 given_back_reduced : (program : Program) (whole : Bool) (k : ℕ) (ranges : List Range) (kept : List ℕ) (s x : AbsState) → ArePairs s.relations.pairs → ArePairs x.relations.pairs
-    → IfSome (reduced_state (rejoined program whole k ranges kept s x)) (IsGivenBack k s x)
+    → IfSome (reduced_state program (rejoined program whole k ranges kept s x)) (IsGivenBack k s x)
 unfolding reduced_state rejoined
 given_back_reduced program whole k ranges kept s x h i =
     given_back_values program whole k ranges kept s x (reduced (values_of (rejoined program whole k ranges kept s x).core.registers (rejoined program whole k ranges kept s x).relations.pairs))
@@ -41,6 +55,6 @@ pub IsGivenBack-resumed : (program : Program) (whole : Bool) (k : ℕ) (ranges :
 unfolding resumed
 IsGivenBack-resumed program whole k ranges kept s x h i = choose (is_something program whole kept ranges s x)
   where
-    choose : (b : Bool) → IfSome (cond b (reduced_state (rejoined program whole k ranges kept s x)) None) (IsGivenBack k s x)
+    choose : (b : Bool) → IfSome (cond b (reduced_state program (rejoined program whole k ranges kept s x)) None) (IsGivenBack k s x)
     choose true = given_back_reduced program whole k ranges kept s x h i
     choose false = tt

@@ -5,6 +5,7 @@ use Rattle.gb_ops.specs.Play.{MState}
 use Rattle.gb_successors.specs.Below.gb_abs.Meaning.{Activation}
 use Rattle.gb_successors.specs.Below.gb_domain.Types.{Node}
 use Rattle.gb_successors.specs.Below.gb_domain.Certificate.{Certificate}
+use Rattle.gb_successors.specs.Below.gb_domain.declared.rules.Rules.TheVariants.{Simple}
 use Rattle.gb_successors.specs.Below.gb_domain.Limits.{rules_of}
 use Rattle.gb_successors.specs.Below.gb_domain.Settings.{IsBase}
 use Rattle.gb_successors.proofs.Below.gb_product_laws.SummaryLaws.{HoldSummary-same}
@@ -21,7 +22,7 @@ use Rattle.gb_successors.specs.declared.stacks.Stack.{Stack}
 use Rattle.gb_successors.specs.Sound.{IsOneOf, Stands, IsRuled, AreSoundSuccessors, IsProgram}
 use Rattle.gb_successors.proofs.FormedLaws.{IsFormed, IsFormed-successor}
 use Rattle.gb_successors.proofs.WayLaws.{successors_of_sound}
-use Rattle.gb_calls.specs.Below.gb_states.Rules.{IsCertificate}
+use Rattle.gb_calls.specs.Below.gb_states.WholeRules.{IsCertificate}
 use Rattle.gb_ops.specs.Cartridge.{kind_of}
 use Rattle.gb_successors.specs.Below.gb_code.Below.gb_abs_memory.Windows.{known_kind}
 use Rattle.gb_rules.specs.Procedures.{ranges_of, kept_of, need_of, setting_of, stack_of, program_of}
@@ -96,13 +97,13 @@ unfolding ways_of stack_of
 formed rom cert n entry base x k t is =
     IsFormed-successor (whole_stack cert n.procedure) (program_of rom cert) rom k.passes.row n.address n.state t entry base x (stands rom cert n entry base x k) (is_ruled rom cert n entry base x k).operands is
 
--- by the rules of versions 1 to 3 they say nothing of the whole program
+-- by the rules of versions 1 and 2 they say nothing of the whole program
 pub quiet :
     (rom : List ℕ) (cert : Certificate) (n : Node) (entry : Activation) (base : ℕ) (x : MState) (k : OnNode rom cert n entry base x) (t : Successor)
-    → IsOneOf (ways_of rom cert n k.passes.row) t → t.state.summary ≡ no_summary
+    → rules_of cert.version ≡ Simple → IsOneOf (ways_of rom cert n k.passes.row) t → t.state.summary ≡ no_summary
 unfolding ways_of stack_of
-quiet rom cert n entry base x k t is =
-    quiet_successor (whole_stack cert n.procedure) (program_of rom cert) rom k.passes.row n.address n.state t (no_controller rom cert k.certificate) k.state.quiet is
+quiet rom cert n entry base x k t simple is =
+    quiet_successor (whole_stack cert n.procedure) (program_of rom cert) rom k.passes.row n.address n.state t (no_controller rom cert simple) (k.state.quiet simple) is
 
 -- the same machine without the HALT mark
 abbrev pub unmarked : MState → MState

@@ -7,7 +7,7 @@ use Rattle.gb_successors.specs.Below.gb_domain.declared.rules.Rules.{Rules}
 use Rattle.gb_successors.specs.Below.gb_domain.declared.rules.Rules.TheVariants.{Simple, Extended}
 use Rattle.gb_successors.specs.Below.gb_domain.Certificate.{Certificate}
 use Rattle.gb_successors.specs.Below.gb_domain.Limits.{rules_of}
-use Rattle.gb_calls.specs.Below.gb_states.Rules.{IsCertificate}
+use Rattle.gb_calls.specs.Below.gb_states.WholeRules.{IsCertificate}
 use Rattle.gb_calls.specs.TakenOver.{base_below}
 use Rattle.gb_rules.specs.Procedures.{taken_by}
 use Rattle.gb_rules.specs.Safety.{begun, IsMeant, CallsBy, ReturnsBy, RestartsBy, LeadsBy, IsSafeEvent}

@@ -28,7 +28,7 @@ use Rattle.gb_successors.specs.Refined.{refined_target}
 use Rattle.gb_successors.specs.Refused.{is_unknown}
 use Rattle.gb_successors.specs.Sound.{IsFound, IsOneOf, is_followed}
 use Rattle.gb_successors.specs.Stacks.{stack_move}
-use Rattle.gb_successors.specs.Successors.{pointer_in, word_in, effect_in, with_product, taken_parts, taken_successor, untaken_successor, reduced_successor, taken_from, not_taken_from, product_before, staying_successor, may_stay, stays, successors_of}
+use Rattle.gb_successors.specs.Successors.{memory_before, pointer_in, word_in, effect_in, with_product, taken_parts, taken_successor, untaken_successor, reduced_successor, taken_from, not_taken_from, product_before, staying_successor, may_stay, stays, successors_of}
 use Rattle.gb_successors.specs.Way.{Successor}
 use Rattle.gb_successors.specs.Below.gb_domain.Summaries.{Program}
 
@@ -67,7 +67,7 @@ is_taken_to k program rom row a s t h = from (product_before k.setting.rules s) 
 
     from : (o : Option Product) → option_and_then (taken_from k program rom row ((a + row.length) % 65536) s) o ≡ Some t → IsTakenTo k row.op ((a + row.length) % 65536) t
     from None e = cc
-    from (Some p) e = at_side (taken_side row.op s.cells p.core p.relations) e
+    from (Some p) e = at_side (taken_side row.op (memory_before program s p) p.core p.relations) e
 
 by_row : (rules : Rules) (z : Setting) (o : Op) (next : ℕ) (w : Halves) (core : Core) (hl : Option Bounds) (m : StackMove) → rules ≡ Simple
     → refined_target rules z o next w core hl m (target_of o next core) ≡ target_of o next core
@@ -104,9 +104,9 @@ untaken_target k program rom row a s t h = from (product_before k.setting.rules 
     at_side None e = cc
     at_side (Some b) e = reduced_target k.setting.rules (untaken_successor k row ((a + row.length) % 65536) s b) t e
 
-    from : (o : Option Product) → option_and_then (not_taken_from k row ((a + row.length) % 65536) s) o ≡ Some t → t.target ≡ target.At ((a + row.length) % 65536)
+    from : (o : Option Product) → option_and_then (not_taken_from k program row ((a + row.length) % 65536) s) o ≡ Some t → t.target ≡ target.At ((a + row.length) % 65536)
     from None e = cc
-    from (Some p) e = at_side (not_taken_side row.op s.cells p.core p.relations) e
+    from (Some p) e = at_side (not_taken_side row.op (memory_before program s p) p.core p.relations) e
 
 staying_target : (k : Stack) (program : Program) (rom : List ℕ) (row : Row) (a : ℕ) (s : AbsState) (t : Successor) → (successors_of k program rom row a s).stays ≡ Some t → t.target ≡ target.At a
 unfolding successors_of stays staying_successor

@@ -8,7 +8,8 @@ use Rattle.std.proofs.lemmas.Option.{same_Some}
 use Rattle.gb_ops.specs.Play.{MState}
 use Rattle.gb_successors.specs.Below.gb_domain.Types.{AbsState, ProcedureParts, Node}
 use Rattle.gb_successors.specs.Below.gb_domain.Certificate.{Certificate}
-use Rattle.gb_calls.specs.Below.gb_states.Rules.{IsCertificate, is_of, have_entries}
+use Rattle.gb_calls.specs.Below.gb_states.Rules.{is_of, have_entries}
+use Rattle.gb_calls.specs.Below.gb_states.WholeRules.{IsCertificate}
 use Rattle.gb_successors.specs.Below.gb_abs.Mark.{IsMarkHarmless}
 use Rattle.gb_successors.specs.Below.gb_domain.Summaries.{Program, no_summary}
 use Rattle.gb_successors.specs.Below.gb_product.Meaning.{AreRelated, IsSummarized, Means}
@@ -184,7 +185,7 @@ Leads-simply rom cert n entry base x k t simple is y leads related_if said mark 
     related = related_if (followed rom cert n k.passes t simple is)
 
     still : t.state.summary ≡ no_summary
-    still = quiet rom cert n entry base x k t is
+    still = quiet rom cert n entry base x k t simple is
 
     by : (w : Target) → LeadsSimply cert.region w t entry base x y → is_followed Simple w ≡ true → is_uncovered_at entry.program (simple_at cert n) cert n.procedure w t.next t.state ≡ false
         → is_uncallable_at entry.program (simple_at cert n) cert n.procedure w t.state ≡ false → is_over Simple cert (need_of cert n.procedure) (length t.state.items) (callee_by entry.program cert (simple_at cert n) w t.state) ≡ false

@@ -18,7 +18,7 @@ use Rattle.gb_successors.specs.Below.gb_domain.Summaries.{SummaryParts, Program}
 use Rattle.gb_successors.specs.Below.gb_domain.Types.{AbsState, Node}
 use Rattle.gb_successors.specs.Below.gb_product.declared.parts.Product.{Product}
 use Rattle.gb_successors.specs.Below.gb_product.Covering.{covers, byte_in, values_in}
-use Rattle.gb_successors.specs.Below.gb_product.Reduced.{reduced}
+use Rattle.gb_successors.specs.Below.gb_product.Reduced.{reduced_wholly}
 use Rattle.gb_successors.specs.Below.gb_abs.Cells.{is_at, with_cell}
 use Rattle.gb_successors.specs.Below.gb_abs.Operations.{core_with_value, with_core}
 use Rattle.gb_rules.specs.declared.by_values.Parted.{Parted}
@@ -62,8 +62,8 @@ abbrev pub with_product : AbsState → Product → AbsState
 with_product s p = record s { core = p.core; relations = p.relations }
 
 -- the states, reduced; none where nothing is meant
-unfoldable pub reduced_state : Rules → AbsState → Option AbsState
-reduced_state rules s = option_map (with_product s) (reduced rules s.core s.relations)
+unfoldable pub reduced_state : Program → Rules → AbsState → Option AbsState
+reduced_state program rules s = option_map (with_product s) (reduced_wholly program rules s.core s.relations s.cells s.summary)
 
 -- ---- value by value
 
@@ -85,7 +85,7 @@ known_of (parted.Byte at v) s = v
 -- one node stands for those of these states with a value, reduced; of a value that the low bits rule out none is asked for
 unfoldable pub is_value_covered : Program → Rules → List Node → ℕ → ℕ → AbsState → Parted → ℕ → Bool
 is_value_covered program rules nodes procedure a s by n =
-    not (has_low_bits (known_of by s) n) || is_covered_if program nodes procedure a (reduced_state rules (with_one by s n))
+    not (has_low_bits (known_of by s) n) || is_covered_if program nodes procedure a (reduced_state program rules (with_one by s n))
 
 -- for each value one node stands for the states with it
 unfoldable pub is_covered_by_values : Program → Rules → List Node → ℕ → ℕ → AbsState → Parted → Bool

@@ -1,5 +1,5 @@
 -- What a certificate's nodes promise of one event.
-use Rattle.std.specs.Prelude.{◌≡◌, ℕ, ◌+◌, ◌-◌, ◌≤◌, ◌<◌, ◌⊎◌, true, false, List, [], Some, IfSome, length, slice_get}
+use Rattle.std.specs.Prelude.{◌≡◌, ℕ, ◌+◌, ◌-◌, ◌≤◌, ◌<◌, ◌⊎◌, true, false, List, Some, IfSome, length, slice_get}
 use Rattle.std.specs.List.{All, Contains}
 use Rattle.gb_ops.specs.declared.machine.Event.{Event}
 use Rattle.gb_ops.specs.declared.machine.Event.TheVariants as event

@@ -12,7 +12,7 @@ ghost use Rattle.gb_rules.specs.Covered.{IsUpTo};
 use crate::covered::covering_near;
 use gb_calls::{Cert, Found, States, are_congruent, byte_of, with_cell};
 use gb_ops::op::Register;
-use gb_successors::{Cell, Product, Program, Rules, Val, reduced, with_value};
+use gb_successors::{Cell, Product, Program, Rules, Val, reduced_wholly, with_value};
 
 /// What is told apart value by value: a register, or the byte at an address of RAM, of which this is known.
 #[derive(Clone, Copy)]
@@ -28,7 +28,7 @@ pub(crate) struct Nodes<'w, 'a> {
     pub(crate) rules: Rules,
     pub(crate) cert: &'w Cert<'a>,
     pub(crate) found: &'w Found,
-    pub(crate) procedure: u8,
+    pub(crate) procedure: u16,
     pub(crate) address: u16,
 }
 
@@ -87,16 +87,19 @@ fn covering_register(
     requires found { IsFound (map key nodes.now.cert.now.nodes) (nodes.now.procedure, nodes.now.address) nodes.now.found.now.first nodes.now.found.now.after }
     requires least { nodes.now.found.now.first ≤ near }
     requires most { near ≤ nodes.now.found.now.after }
-    ensures covered { is_some result ≡ Covered.is_covered_if nodes.now.program.now nodes.now.cert.now.nodes nodes.now.procedure nodes.now.address (Covered.reduced_state nodes.now.rules (Covered.with_value register (Covered.with_parts states.now.core.now states.now.relations.now states.now.summary.now states.now.lists.now) value)) }
+    ensures covered { is_some result ≡ Covered.is_covered_if nodes.now.program.now nodes.now.cert.now.nodes nodes.now.procedure nodes.now.address (Covered.reduced_state nodes.now.program.now nodes.now.rules (Covered.with_value register (Covered.with_parts states.now.core.now states.now.relations.now states.now.summary.now states.now.lists.now) value)) }
     ensures inside { IfSome result (λ i. (nodes.now.found.now.first ≤ i) × (i ≤ nodes.now.found.now.after)) }
 {
     let core = with_value(register, value, states.core);
-    covering_left(
-        nodes,
-        near,
-        reduced(nodes.rules, &core, states.relations),
-        states,
-    )
+    let left = reduced_wholly(
+        nodes.program,
+        nodes.rules,
+        &core,
+        states.relations,
+        states.lists.cells(),
+        states.summary,
+    );
+    covering_left(nodes, near, left, states)
 }
 
 /// The number of a found node that covers the states with one value at an address of RAM, of which this is known.
@@ -112,7 +115,7 @@ fn covering_byte(
     requires found { IsFound (map key nodes.now.cert.now.nodes) (nodes.now.procedure, nodes.now.address) nodes.now.found.now.first nodes.now.found.now.after }
     requires least { nodes.now.found.now.first ≤ near }
     requires most { near ≤ nodes.now.found.now.after }
-    ensures covered { is_some result ≡ Covered.is_covered_if nodes.now.program.now nodes.now.cert.now.nodes nodes.now.procedure nodes.now.address (Covered.reduced_state nodes.now.rules (Covered.with_byte at known.now (Covered.with_parts states.now.core.now states.now.relations.now states.now.summary.now states.now.lists.now) value)) }
+    ensures covered { is_some result ≡ Covered.is_covered_if nodes.now.program.now nodes.now.cert.now.nodes nodes.now.procedure nodes.now.address (Covered.reduced_state nodes.now.program.now nodes.now.rules (Covered.with_byte at known.now (Covered.with_parts states.now.core.now states.now.relations.now states.now.summary.now states.now.lists.now) value)) }
     ensures inside { IfSome result (λ i. (nodes.now.found.now.first ≤ i) × (i ≤ nodes.now.found.now.after)) }
 {
     let val = Val {
@@ -122,7 +125,14 @@ fn covering_byte(
         origin: known.origin,
     };
     let lists = with_cell(Rules::Extended, states.lists, at, val);
-    let left = reduced(nodes.rules, states.core, states.relations);
+    let left = reduced_wholly(
+        nodes.program,
+        nodes.rules,
+        states.core,
+        states.relations,
+        lists.cells(),
+        states.summary,
+    );
     let states = States {
         lists: &lists,
         ..*states

@@ -46,7 +46,7 @@ pub(crate) fn covering_near(
     program: &Program<'_>,
     cert: &Cert<'_>,
     found: &Found,
-    procedure: u8,
+    procedure: u16,
     address: u16,
     near: u32,
     states: &States<'_>,
@@ -68,7 +68,7 @@ fn is_covered_by_one(
     program: &Program<'_>,
     cert: &Cert<'_>,
     found: &Found,
-    procedure: u8,
+    procedure: u16,
     address: u16,
     states: &States<'_>,
 ) -> bool
@@ -94,7 +94,7 @@ fn is_covered_among(
     rules: Rules,
     cert: &Cert<'_>,
     found: Found,
-    procedure: u8,
+    procedure: u16,
     address: u16,
     states: &States<'_>,
 ) -> bool
@@ -116,7 +116,7 @@ fn is_covered_among(
 
 /// Whether there is a node with a number, of this procedure and at this address.
 #[inline(always)]
-fn has_key(cert: &Cert<'_>, number: u32, procedure: u8, address: u16) -> bool
+fn has_key(cert: &Cert<'_>, number: u32, procedure: u16, address: u16) -> bool
     ensures some { IfSome (slice_get cert.now.nodes number) (λ n. result ≡ (n.procedure == procedure && n.address == address)) }
     ensures none { IfNone (slice_get cert.now.nodes number) (result ≡ false) }
     ensures inside { result ≡ true → number < length cert.now.nodes }
@@ -137,7 +137,7 @@ pub fn covered_near(
     rules: Rules,
     cert: &Cert<'_>,
     near: u32,
-    procedure: u8,
+    procedure: u16,
     address: u16,
     states: &States<'_>,
 ) -> bool
@@ -164,7 +164,7 @@ pub fn covered_at(
     program: &Program<'_>,
     rules: Rules,
     cert: &Cert<'_>,
-    procedure: u8,
+    procedure: u16,
     address: u16,
     state: &Abs,
 ) -> bool
@@ -179,7 +179,7 @@ pub(crate) fn is_state_covered(
     rules: Rules,
     cert: &Cert<'_>,
     near: u32,
-    procedure: u8,
+    procedure: u16,
     address: u16,
     state: &Abs,
 ) -> bool

@@ -24,7 +24,7 @@ fn is_dispatch_deep(
     cert: &Cert<'_>,
     need: u16,
     state: &Abs,
-    handler: Option<u8>,
+    handler: Option<u16>,
 ) -> bool
     ensures { result ≡ Ruled.is_dispatch_deep setting cert.now need state.now handler }
 {
@@ -135,7 +135,7 @@ fn is_unhandled(
     node: &NodeRef<'_>,
     state: &Abs,
     i: u8,
-    handler: Option<u8>,
+    handler: Option<u16>,
     room: &mut Room,
 ) -> bool
     requires small { i < 5 }

@@ -29,8 +29,8 @@ pub use gb_calls::interrupts::{handler, left_by_dispatch, may_come};
 pub use gb_calls::ranges::are_ranges_inside;
 pub use gb_calls::resuming::{Resumed, resume};
 pub use gb_calls::{
-    AnyCert, BankShadows, Cert, CertFault, NodeRef, ProcedureRef, Shadows, StateRef, States,
-    Summary, begins_fourth, byte_of, covers_relations, covers_said, test_alone,
+    BankShadows, Cert, CertFault, NodeRef, ProcedureRef, Shadows, StateRef, States, Summary,
+    byte_of, covers_relations, covers_said, test_alone,
 };
 pub use gb_successors::refused::is_stack_limited;
 pub use gb_successors::stacks::Stack;

@@ -24,7 +24,7 @@ use gb_successors::{Abs, Program, Range, Rom, Rules, Setting, Target};
 
 /// What a procedure may write; nothing where there is none with the number.
 #[tactic(auto, unfolding(crate::specs::Procedures::ranges_of))]
-pub fn ranges_of(cert: &Cert<'_>, procedure: u8) -> ArrayVec<Range, 8>
+pub fn ranges_of(cert: &Cert<'_>, procedure: u16) -> ArrayVec<Range, 8>
     ensures { result.items ≡ Procedures.ranges_of cert.now procedure }
 {
     if procedure < cert.procedures() {
@@ -36,7 +36,7 @@ pub fn ranges_of(cert: &Cert<'_>, procedure: u8) -> ArrayVec<Range, 8>
 
 /// The addresses that a procedure names to be kept; none where there is none with the number.
 #[tactic(auto, unfolding(crate::specs::Procedures::kept_of))]
-pub fn kept_of(cert: &Cert<'_>, procedure: u8) -> ArrayVec<u16, 16>
+pub fn kept_of(cert: &Cert<'_>, procedure: u16) -> ArrayVec<u16, 16>
     ensures { result.items ≡ Procedures.kept_of cert.now procedure }
 {
     if procedure < cert.procedures() {
@@ -49,7 +49,7 @@ pub fn kept_of(cert: &Cert<'_>, procedure: u8) -> ArrayVec<u16, 16>
 /// How many bytes a procedure may have on the stack, those of its callees among them; 0 where there is none with the
 /// number.
 #[tactic(auto, unfolding(crate::specs::Procedures::need_of))]
-pub fn need_of(cert: &Cert<'_>, procedure: u8) -> u16
+pub fn need_of(cert: &Cert<'_>, procedure: u16) -> u16
     ensures { result ≡ Procedures.need_of cert.now procedure }
 {
     if procedure < cert.procedures() {
@@ -74,7 +74,7 @@ fn is_fourth(cert: &Cert<'_>) -> bool
 }
 
 /// The base that a procedure says; 0 where it says none, or there is none with the number.
-fn base_of(cert: &Cert<'_>, procedure: u8) -> u16
+fn base_of(cert: &Cert<'_>, procedure: u16) -> u16
     ensures { result ≡ Procedures.base_in (slice_get cert.now.procedures procedure) }
 {
     if procedure < cert.procedures() {
@@ -86,7 +86,7 @@ fn base_of(cert: &Cert<'_>, procedure: u8) -> u16
 
 /// Where a procedure's states stand.
 #[tactic(auto, unfolding(crate::specs::Procedures::setting_of))]
-pub fn setting_of(cert: &Cert<'_>, procedure: u8) -> Setting
+pub fn setting_of(cert: &Cert<'_>, procedure: u16) -> Setting
     ensures { result ≡ Procedures.setting_of cert.now procedure }
 {
     Setting {
@@ -114,7 +114,7 @@ pub fn program_of<'c>(rom: &Rom<'_>, cert: &'c Cert<'_>) -> Program<'c>
 
 /// Where a procedure's states stand, and how much it may have on the stack.
 #[tactic(auto, unfolding(crate::specs::Procedures::stack_of))]
-pub fn stack_of(cert: &Cert<'_>, procedure: u8) -> Stack
+pub fn stack_of(cert: &Cert<'_>, procedure: u16) -> Stack
     ensures { result ≡ Procedures.stack_of cert.now procedure }
 {
     Stack {
@@ -138,7 +138,7 @@ fn items_of(cert: &Cert<'_>, node: u32) -> u8
 
 /// How many of its caller's bytes a procedure takes over: those of its entry node.
 #[tactic(auto, unfolding(crate::specs::Procedures::taken_by))]
-pub fn taken_by(cert: &Cert<'_>, procedure: u8) -> u8
+pub fn taken_by(cert: &Cert<'_>, procedure: u16) -> u8
     ensures { result ≡ Procedures.taken_by cert.now procedure }
 {
     if procedure < cert.procedures() {
@@ -150,7 +150,7 @@ pub fn taken_by(cert: &Cert<'_>, procedure: u8) -> u8
 
 /// What a procedure returns with, if it returns, in the certificate's bytes.
 #[tactic(auto, unfolding(crate::specs::Procedures::exit_of))]
-fn lent_exit_of<'a>(cert: &Cert<'a>, procedure: u8) -> Option<StateRef<'a>>
+fn lent_exit_of<'a>(cert: &Cert<'a>, procedure: u16) -> Option<StateRef<'a>>
     ensures { result ≡ Procedures.exit_of cert.now procedure }
 {
     if procedure < cert.procedures() {
@@ -161,7 +161,7 @@ fn lent_exit_of<'a>(cert: &Cert<'a>, procedure: u8) -> Option<StateRef<'a>>
 }
 
 /// What a procedure returns with, if it returns.
-pub fn exit_of(cert: &Cert<'_>, procedure: u8) -> Option<Abs>
+pub fn exit_of(cert: &Cert<'_>, procedure: u16) -> Option<Abs>
     ensures { result ≡ Procedures.exit_of cert.now procedure }
 {
     Some(lent_exit_of(cert, procedure)?.state())
@@ -179,7 +179,7 @@ fn callee_from(
     setting: Setting,
     address: u16,
     successor: &Successor<'_>,
-) -> Option<u8>
+) -> Option<u16>
     ensures { result ≡ callee_of program.now cert.now setting address successor.now.state }
 {
     callee(program, cert, setting, address, &successor.state())
@@ -192,7 +192,7 @@ pub fn callee_at(
     cert: &Cert<'_>,
     setting: Setting,
     successor: &Successor<'_>,
-) -> Option<u8>
+) -> Option<u16>
     ensures { result ≡ Ruled.callee_at program.now cert.now setting successor.now }
 {
     match successor.target {
@@ -204,7 +204,7 @@ pub fn callee_at(
 // ---- depth
 
 /// The bytes of a caller that wait below a callee.
-fn waiting_below(rules: Rules, cert: &Cert<'_>, held: usize, callee: u8) -> usize
+fn waiting_below(rules: Rules, cert: &Cert<'_>, held: usize, callee: u16) -> usize
     requires { held < 65536 }
     ensures { result ≡ Ruled.waiting_below rules cert.now held callee }
 {
@@ -220,7 +220,7 @@ pub(crate) fn is_over(
     cert: &Cert<'_>,
     need: u16,
     held: usize,
-    callee: Option<u8>,
+    callee: Option<u16>,
 ) -> bool
     requires { held < 65536 }
     ensures { result ≡ Ruled.is_over rules cert.now need held callee }
@@ -251,10 +251,10 @@ fn is_return_uncovered(
     rules: Rules,
     cert: &Cert<'_>,
     near: u32,
-    procedure: u8,
+    procedure: u16,
     back: u16,
     state: &Abs,
-    callee: u8,
+    callee: u16,
     exit: &Abs,
     resumed: &mut Abs,
 ) -> bool
@@ -288,10 +288,10 @@ pub(crate) fn is_back_uncovered(
     rules: Rules,
     cert: &Cert<'_>,
     near: u32,
-    procedure: u8,
+    procedure: u16,
     back: u16,
     state: &Abs,
-    callee: u8,
+    callee: u16,
     exit: &mut Abs,
     other: &mut Abs,
 ) -> bool
@@ -312,7 +312,7 @@ fn is_inlined_uncovered(
     rules: Rules,
     cert: &Cert<'_>,
     near: u32,
-    procedure: u8,
+    procedure: u16,
     address: u16,
     state: &Abs,
 ) -> bool
@@ -330,10 +330,10 @@ pub(crate) fn is_call_uncovered(
     rules: Rules,
     cert: &Cert<'_>,
     near: u32,
-    procedure: u8,
+    procedure: u16,
     call: Call,
     state: &Abs,
-    callee: Option<u8>,
+    callee: Option<u16>,
     exit: &mut Abs,
     other: &mut Abs,
 ) -> bool
@@ -362,7 +362,7 @@ fn is_covered_moved(
     rules: Rules,
     cert: &Cert<'_>,
     near: u32,
-    procedure: u8,
+    procedure: u16,
     address: u16,
     successor: &Successor<'_>,
     room: &mut Room,
@@ -380,7 +380,7 @@ fn is_covered(
     rules: Rules,
     cert: &Cert<'_>,
     near: u32,
-    procedure: u8,
+    procedure: u16,
     address: u16,
     successor: &Successor<'_>,
     room: &mut Room,
@@ -414,8 +414,8 @@ fn is_covered(
 pub(crate) fn is_outside_of(
     cert: &Cert<'_>,
     setting: Setting,
-    procedure: u8,
-    callee: Option<u8>,
+    procedure: u16,
+    callee: Option<u16>,
 ) -> bool
     ensures { result ≡ Ruled.is_outside_of setting cert.now procedure callee }
 {
@@ -437,7 +437,7 @@ pub(crate) fn is_outside_of(
 #[derive(Clone, Copy, PartialEq, Eq)]
 pub(crate) struct Called {
     /// The procedure that is called.
-    pub callee: Option<u8>,
+    pub callee: Option<u16>,
     /// The bytes that wait and the callee's need are more than the caller's need.
     pub is_deep: bool,
     /// No node stands for what the call leads to.
@@ -457,7 +457,7 @@ fn called_from(
     cert: &Cert<'_>,
     near: u32,
     stack: Stack,
-    procedure: u8,
+    procedure: u16,
     address: u16,
     successor: &Successor<'_>,
     room: &mut Room,
@@ -497,7 +497,7 @@ pub(crate) fn called_by(
     cert: &Cert<'_>,
     near: u32,
     stack: Stack,
-    procedure: u8,
+    procedure: u16,
     successor: &Successor<'_>,
     room: &mut Room,
 ) -> Called
@@ -519,7 +519,7 @@ pub(crate) fn calls_too_deep(
     program: &Program<'_>,
     cert: &Cert<'_>,
     stack: Stack,
-    procedure: u8,
+    procedure: u16,
     successor: &Successor<'_>,
     called: Called,
 ) -> bool
@@ -540,7 +540,7 @@ pub(crate) fn is_uncovered(
     cert: &Cert<'_>,
     near: u32,
     stack: Stack,
-    procedure: u8,
+    procedure: u16,
     successor: &Successor<'_>,
     called: Called,
     room: &mut Room,
@@ -567,7 +567,7 @@ pub(crate) fn is_uncallable(
     program: &Program<'_>,
     cert: &Cert<'_>,
     stack: Stack,
-    procedure: u8,
+    procedure: u16,
     successor: &Successor<'_>,
     called: Called,
 ) -> bool
@@ -621,7 +621,7 @@ fn is_exit_missed_from(
     program: &Program<'_>,
     rules: Rules,
     cert: &Cert<'_>,
-    procedure: u8,
+    procedure: u16,
     successor: &Successor<'_>,
     room: &mut Room,
 ) -> bool
@@ -637,7 +637,7 @@ pub(crate) fn is_unreturnable(
     program: &Program<'_>,
     rules: Rules,
     cert: &Cert<'_>,
-    procedure: u8,
+    procedure: u16,
     successor: &Successor<'_>,
     room: &mut Room,
 ) -> bool

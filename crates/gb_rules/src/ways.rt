@@ -25,7 +25,7 @@ use gb_ops::op::Row;
 use gb_successors::refused::{is_unknown, is_unstorable, meets_closed, meets_oam_transfer};
 use gb_successors::stacks::Stack;
 use gb_successors::successor::{Successor, staying_successor, taken_successor, untaken_successor};
-use gb_successors::successors::{has_condition, may_stay, side_successor};
+use gb_successors::successors::{has_condition, may_stay, memory_before, side_successor};
 use gb_successors::{
     Abs, AbsWrite, Core, Program, Reason, Relations, Rom, Rules, Setting, lies_in_high_ram,
     not_taken_side, reduce, settle, taken_side,
@@ -77,7 +77,7 @@ fn is_code_limited(core: &Core, address: u16, length: u8) -> bool
 fn stores_outside(
     rom: &Rom<'_>,
     cert: &Cert<'_>,
-    procedure: u8,
+    procedure: u16,
     setting: Setting,
     write: AbsWrite,
 ) -> bool
@@ -209,11 +209,12 @@ fn reason_on_side(
     ensures { result ≡ lowest_in (applies_to_taken site.now.rom.now site.now.cert.now site.now.node.now site.now.row.now) (taken_from site.now.stack.now (program_of site.now.rom.now site.now.cert.now) site.now.rom.now site.now.row.now (behind site.now.node.now.address site.now.row.now) site.now.state.now (product_of core.now relations.now)) }
 {
     let (rom, stack, row, state) = (site.rom, site.stack, site.row, site.state);
-    let Some(side) = taken_side(row.op, state.cells(), core, relations) else {
+    let program = program_of(site.rom, site.cert);
+    let memory = memory_before(&program, state, core, relations);
+    let Some(side) = taken_side(row.op, memory, core, relations) else {
         return None;
     };
     let next = behind(site);
-    let program = program_of(site.rom, site.cert);
     reason_of_possible(
         site,
         &mut side_successor(*stack, &program, rom, *row, next, state, &side),
@@ -259,10 +260,12 @@ fn reason_on_other_side(
 ) -> Option<Reason>
     requires stack { site.now.stack.now ≡ stack_of site.now.cert.now site.now.node.now.procedure }
     requires state { site.now.state.now ≡ site.now.node.now.state }
-    ensures { result ≡ lowest_in (applies_to_way site.now.rom.now site.now.cert.now site.now.node.now site.now.row.now) (not_taken_from site.now.stack.now site.now.row.now (behind site.now.node.now.address site.now.row.now) site.now.state.now (product_of core.now relations.now)) }
+    ensures { result ≡ lowest_in (applies_to_way site.now.rom.now site.now.cert.now site.now.node.now site.now.row.now) (not_taken_from site.now.stack.now (program_of site.now.rom.now site.now.cert.now) site.now.row.now (behind site.now.node.now.address site.now.row.now) site.now.state.now (product_of core.now relations.now)) }
 {
     let (stack, row, state) = (*site.stack, *site.row, site.state);
-    let Some(side) = not_taken_side(row.op, state.cells(), core, relations) else {
+    let program = program_of(site.rom, site.cert);
+    let memory = memory_before(&program, state, core, relations);
+    let Some(side) = not_taken_side(row.op, memory, core, relations) else {
         return None;
     };
     let next = behind(site);
@@ -284,7 +287,7 @@ fn reason_if_not_taken(
 ) -> Option<Reason>
     requires stack { site.now.stack.now ≡ stack_of site.now.cert.now site.now.node.now.procedure }
     requires state { site.now.state.now ≡ site.now.node.now.state }
-    ensures { result ≡ lowest_in (applies_to_way site.now.rom.now site.now.cert.now site.now.node.now site.now.row.now) (not_taken_from site.now.stack.now site.now.row.now (behind site.now.node.now.address site.now.row.now) site.now.state.now (product_of core.now relations.now)) }
+    ensures { result ≡ lowest_in (applies_to_way site.now.rom.now site.now.cert.now site.now.node.now site.now.row.now) (not_taken_from site.now.stack.now (program_of site.now.rom.now site.now.cert.now) site.now.row.now (behind site.now.node.now.address site.now.row.now) site.now.state.now (product_of core.now relations.now)) }
 {
     if has_condition(site.row.op) {
         reason_on_other_side(site, core, relations, room)

@@ -192,7 +192,7 @@ IsFormat-yes_no =
     (IsFormat-mapped is_one spelled.flag (byte_between 0 1) spelled_byte _ flag-of (λ b h. of-flag b) (IsFormat-byte_between 0 1))
 
 -- an origin that may be there by these rules has a number
-not-declared : (rules : Rules) (o : Option Origin) → may_be_of rules o ≡ true → is_declared_origin o ≡ false
+pub not-declared : (rules : Rules) (o : Option Origin) → may_be_of rules o ≡ true → is_declared_origin o ≡ false
 not-declared Simple o h = neither (is_return_origin o) (is_declared_origin o) h
   where
     neither : (a b : Bool) → not (a || b) ≡ true → b ≡ false

@@ -1,3 +1,4 @@
+pub mod CheckedLaws
 pub mod FieldLaws
 pub mod Formats
 pub mod ListedLaws

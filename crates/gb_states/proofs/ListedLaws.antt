@@ -1,11 +1,10 @@
 -- Lists that stand in bytes, from their front on.
-use Rattle.std.proofs.Common.{◌≡◌, ℕ, ◌-◌, ◌≤◌, ◌<◌, List, [], ◌∷◌, ◌++◌, Option, length, take, drop, slice_index, refl, sym, ap, ◌∙◌, append_assoc, append-nil, arith}
+use Rattle.std.proofs.Common.{◌≡◌, ℕ, ◌-◌, ◌≤◌, ◌<◌, List, [], ◌∷◌, ◌++◌, length, take, drop, slice_index, refl, sym, ap, ◌∙◌, append_assoc, append-nil, arith}
 use Rattle.std.proofs.lemmas.List.{take_all}
 use Rattle.gb_domain.specs.declared.types.Cell.{Cell}
-use Rattle.gb_domain.specs.declared.types.Origin.{Origin}
 use Rattle.gb_domain.specs.declared.types.Val.{Val}
 use Rattle.gb_domain.specs.Types.{AbsState}
-use Rattle.gb_states.specs.Reading.{origin_of}
+use Rattle.gb_states.specs.WholeReading.{to_val}
 use Rattle.gb_states.specs.Checked.{listed_items, cell_of, listed_cells}
 
 -- fewer bytes than a value has
@@ -27,16 +26,14 @@ no_cells (a ∷ b ∷ c ∷ d ∷ []) h = refl
 no_cells (a ∷ b ∷ c ∷ d ∷ e ∷ rest) h = absurd (omega arith)
 
 -- the first, and what is behind it
-pub items_front : (bytes : List ℕ) (o : Option Origin) → 3 ≤ length bytes → o ≡ origin_of (slice_index bytes 2)
-    → listed_items bytes ≡ (record { lo = slice_index bytes 0; hi = slice_index bytes 1; low_bits = 0; origin = o }) ∷ listed_items (take (length bytes - 3) (drop 3 bytes))
+pub items_front : (bytes : List ℕ) (v : Val) → 3 ≤ length bytes → v ≡ to_val ((slice_index bytes 0, slice_index bytes 1), slice_index bytes 2) → listed_items bytes ≡ v ∷ listed_items (take (length bytes - 3) (drop 3 bytes))
 unfolding listed_items
-items_front [] o h is = absurd (omega arith)
-items_front (a ∷ []) o h is = absurd (omega arith)
-items_front (a ∷ b ∷ []) o h is = absurd (omega arith)
-items_front (a ∷ b ∷ c ∷ rest) o h is =
+items_front [] v h is = absurd (omega arith)
+items_front (a ∷ []) v h is = absurd (omega arith)
+items_front (a ∷ b ∷ []) v h is = absurd (omega arith)
+items_front (a ∷ b ∷ c ∷ rest) v h is =
     let long : length (a ∷ b ∷ c ∷ rest) - 3 ≡ length rest = omega arith in
-    let one : Option Origin → Val = λ p. record { lo = a; hi = b; low_bits = 0; origin = p } in
-    ap (λ (p : Option Origin). one p ∷ listed_items rest) (sym is) ∙ ap (λ (xs : List ℕ). one o ∷ listed_items xs) (sym (ap (λ (n : ℕ). take n rest) long ∙ take_all (length rest) rest (omega arith)))
+    ap (λ (w : Val). w ∷ listed_items rest) (sym is) ∙ ap (λ (xs : List ℕ). v ∷ listed_items xs) (sym (ap (λ (n : ℕ). take n rest) long ∙ take_all (length rest) rest (omega arith)))
 
 pub cells_front : (bytes : List ℕ) (x : Cell) → 5 ≤ length bytes → x ≡ cell_of (slice_index bytes 0) (slice_index bytes 1) (slice_index bytes 2) (slice_index bytes 3) (slice_index bytes 4)
     → listed_cells bytes ≡ x ∷ listed_cells (take (length bytes - 5) (drop 5 bytes))

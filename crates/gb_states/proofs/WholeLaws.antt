@@ -134,19 +134,24 @@ val-there kept p h =
 tag-parts : (n m : ℕ) → m < 32 → ((32 * n + m) % 32 ≡ m) × ((32 * n + m) / 32 ≡ n)
 tag-parts n m h = (omega arith, omega arith)
 
+-- so is its value, by its bytes
+pub tagged-again : (kept : ℕ) (v : Val) → kept ≤ 16 → v.low_bits < 8 → is_origin_in kept v.origin ≡ true → to_val ((v.lo, v.hi), spelled.tag v) ≡ v
+tagged-again kept v few bits named =
+    let o = numbered kept v.origin few named in
+    let t = tag-parts v.low_bits (spelled.origin_number v.origin) o.small in
+    made _ v.low_bits _ v.origin t.1 (ap origin_of t.0 ∙ o.again)
+  where
+    made : (n m : ℕ) (a b : Option Origin) → n ≡ m → a ≡ b → (let w : Val = record { lo = v.lo; hi = v.hi; low_bits = n; origin = a } in w) ≡ record { lo = v.lo; hi = v.hi; low_bits = m; origin = b }
+    made n m a b e f = rw (e, f) refl
+
 val-again : (kept : ℕ) → kept ≤ 16 → (v : Val) → IsTaggedVal kept v → IsTagged kept (from_val v) × (to_val (from_val v) ≡ v)
 unfolding from_val
 val-again kept few v h =
     let o = numbered kept v.origin few h.origin in
     let t = tag-parts v.low_bits (spelled.origin_number v.origin) o.small in
     let n = o.small in
-    let k = h.few in (
-      (((omega (arith, h.order, h.hi), h.hi), is_le v.lo v.hi h.order), (omega (arith, n, k), ap (is_origin_number kept) t.0 ∙ o.number)),
-      made _ v.low_bits _ v.origin t.1 (ap origin_of t.0 ∙ o.again),
-    )
-  where
-    made : (n m : ℕ) (a b : Option Origin) → n ≡ m → a ≡ b → (let w : Val = record { lo = v.lo; hi = v.hi; low_bits = n; origin = a } in w) ≡ record { lo = v.lo; hi = v.hi; low_bits = m; origin = b }
-    made n m a b e f = rw (e, f) refl
+    let k = h.few in
+    ((((omega (arith, h.order, h.hi), h.hi), is_le v.lo v.hi h.order), (omega (arith, n, k), ap (is_origin_number kept) t.0 ∙ o.number)), tagged-again kept v few h.few h.origin)
 
 pub strided_few : (v : Val) → is_strided v ≡ true → v.low_bits < 8
 strided_few v h = grind (arith, nat_tests)
@@ -172,7 +177,7 @@ kept a b c d e = record { bank = a; second = b; gate = c; mode = d; high_bank = 
 kept-same : (a b c d e a2 b2 c2 d2 e2 : Bool) → a ≡ a2 → b ≡ b2 → c ≡ c2 → d ≡ d2 → e ≡ e2 → kept a b c d e ≡ kept a2 b2 c2 d2 e2
 kept-same a b c d e a2 b2 c2 d2 e2 ea eb ec ed ee = rw (ea, eb, ec, ed, ee) refl
 
-banks-again : (k : KeptBanks) → (to_kept (spelled.kept_number k) ≡ k) × (spelled.kept_number k ≤ 31)
+pub banks-again : (k : KeptBanks) → (to_kept (spelled.kept_number k) ≡ k) × (spelled.kept_number k ≤ 31)
 banks-again k =
     let n : ℕ = spelled.kept_number k in
     let b = bits-number (simple.flag k.bank) (simple.flag k.second) (simple.flag k.gate) (simple.flag k.mode) (simple.flag k.high_bank) (flag_small k.bank) (flag_small k.second) (flag_small k.gate) (flag_small k.mode) (flag_small k.high_bank) n refl in

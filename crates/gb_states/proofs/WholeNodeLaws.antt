@@ -58,7 +58,7 @@ unfolding from_exit spelled.exit
 exit-spelled None = refl
 exit-spelled (Some s) = refl
 
-IsFormat-exit : (facts kept : ℕ) (is_main : Bool) (region : Region) → facts < 65536 → kept ≤ 16 → IsFormat (exit_at facts kept is_main region) spelled.exit (AreExit facts kept is_main region)
+pub IsFormat-exit : (facts kept : ℕ) (is_main : Bool) (region : Region) → facts < 65536 → kept ≤ 16 → IsFormat (exit_at facts kept is_main region) spelled.exit (AreExit facts kept is_main region)
 unfolding returns_at exit_at
 IsFormat-exit facts kept is_main region small few =
     IsFormat-spelled (exit_at facts kept is_main region) spelled_exit spelled.exit (AreExit facts kept is_main region) (λ o h. exit-spelled o)
@@ -78,7 +78,7 @@ AreNamed facts is_main region n = (AreKept is_main region n.0.0 × (n.0.1 < 256)
 abbrev spelled_named : Named → List ℕ
 spelled_named n = (spelled.kept_addresses n.0.0 ++ spelled_byte n.0.1) ++ spelled.exit n.1
 
-room_few : (is_main : Bool) (region : Region) (addresses : List ℕ) → AreKept is_main region addresses → length addresses ≤ 16
+pub room_few : (is_main : Bool) (region : Region) (addresses : List ℕ) → AreKept is_main region addresses → length addresses ≤ 16
 room_few true region addresses h = let few = h.few in omega (arith, few)
 room_few false region addresses h = h.few
 

@@ -218,7 +218,7 @@ told-again facts region may test t h =
 abbrev told_all : ToldParts → List ℕ
 told_all p = (spelled_present p.0.0 ++ spelled_declared p.0.1) ++ (told_parts p.1.0 ++ spelled.summary p.1.1)
 
-IsFormat-told : (facts : ℕ) (region : Region) (may : Bool) (test : Option ℕ) → facts < 65536 → IfSome test (λ n. n < 256) → IsFormat (told_at facts region may test) spelled.told (IsToldIn facts region may test)
+pub IsFormat-told : (facts : ℕ) (region : Region) (may : Bool) (test : Option ℕ) → facts < 65536 → IfSome test (λ n. n < 256) → IsFormat (told_at facts region may test) spelled.told (IsToldIn facts region may test)
 unfolding told_at from_told told_byte spelled.told
 IsFormat-told facts region may test small byte =
     IsFormat-onto to_told from_told _ told_all (AreToldParts facts region may test) (IsToldIn facts region may test) (told-there facts region may test) (told-again facts region may test)

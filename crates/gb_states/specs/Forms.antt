@@ -1,5 +1,5 @@
 -- How values, cells and states are read by the version (own format).
-use Rattle.std.specs.Prelude.{ℕ, Bool, true, false, List, Option}
+use Rattle.std.specs.Prelude.{ℕ, ◌<◌, ◌≤◌, Bool, true, false, List, Option}
 use Rattle.gb_ops.specs.declared.machine.Region.{Region}
 use Rattle.gb_domain.specs.declared.types.Val.{Val}
 use Rattle.gb_domain.specs.declared.types.Cell.{Cell}
@@ -12,12 +12,24 @@ use Rattle.gb_states.specs.declared.role.Role.{Role}
 use Rattle.gb_states.specs.Reading as simple
 use Rattle.gb_states.specs.Reading.{Tested}
 use Rattle.gb_states.specs.WholeReading as whole
-use Rattle.gb_states.specs.WholeRules.{may_be_aside}
+use Rattle.gb_states.specs.Rules.{IsState}
+use Rattle.gb_states.specs.Spelling as simple_spelled
+use Rattle.gb_states.specs.WholeSpelling as spelled
+use Rattle.gb_states.specs.WholeRules.{IsStateIn, may_be_aside}
 
 -- of a procedure that names so many addresses to be kept, in a certificate of this version that has so many facts
 abbrev pub form_by : Bool → ℕ → ℕ → ℕ → Form
 form_by true version facts kept = Fourth facts kept
 form_by false version facts kept = Older (rules_of version)
+
+abbrev pub is_fourth : Form → Bool
+is_fourth (Older rules) = false
+is_fourth (Fourth facts kept) = true
+
+-- There are no more facts and addresses to be kept than a certificate can have.
+abbrev pub IsFit : Form → Type 0
+IsFit (Older rules) = Unit {0}
+IsFit (Fourth facts kept) = (facts < 65536) × (kept ≤ 16)
 
 abbrev pub val_by : Form → Read Val
 val_by (Older rules) = simple.val_at rules
@@ -34,6 +46,15 @@ vals_by form count = several {S = Unit {0}} (λ s. val_by form) (λ v. tt) tt co
 abbrev pub state_by : Form → Role → Region → Read AbsState
 state_by (Older rules) role region = simple.state_at rules role region
 state_by (Fourth facts kept) role region = whole.state_at facts kept role region
+
+abbrev pub IsStateBy : Form → Role → Region → AbsState → Type 0
+IsStateBy (Older rules) role region s = IsState rules role region s
+IsStateBy (Fourth facts kept) role region s = IsStateIn facts kept role region s
+
+-- its one spelling
+abbrev pub spelled_by : Form → AbsState → List ℕ
+spelled_by (Older rules) s = simple_spelled.state rules s
+spelled_by (Fourth facts kept) s = spelled.state s
 
 -- of a core that is passed over, in version 4: whether the stack is set, whether it may be put aside, and the test
 abbrev pub passed : Role → Tested → Bool × (Bool × Option ℕ)

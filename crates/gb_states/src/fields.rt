@@ -5,8 +5,10 @@ ghost use Rattle.gb_fields.specs.declared.fault.CertFault.TheVariants.{Field};
 ghost use Rattle.gb_fields.specs.Format.{Gives, both, mapped, checked, byte};
 ghost use Rattle.gb_fields.specs.Reading.{is_ordered, word_between};
 ghost use Rattle.gb_domain.specs.Rules.{has_value};
-ghost use Rattle.gb_states.specs.Checked.{val_in, flg_in, ctl_in, vals_in, core_in, test_in, are_none};
-ghost use Rattle.gb_states.specs.Reading.{passed, to_may, to_ime, origin_of, origin_at, val_at, may_at, ime_at, test_at, flg_at, ctl_at, vals_at, core_at};
+ghost use Rattle.gb_states.specs.Checked.{val_in, flg_in, kept_in, ctl_in, vals_in, core_in, test_in};
+ghost use Rattle.gb_states.specs.WholeReading.{origin_of, to_val};
+ghost use Rattle.gb_states.specs.Reading as older;
+ghost use Rattle.gb_states.specs.Reading.{passed, to_may, to_ime, origin_at, val_at, may_at, ime_at, test_at, flg_at, ctl_at, vals_at, core_at};
 
 use crate::role::Role;
 use gb_domain::types::{Core, Ctl, Flg, ImeSet, KeptBanks, May, Origin, Rules, Val};
@@ -15,9 +17,10 @@ use gb_fields::limits::origin_limit;
 use gb_fields::numbers::{byte, byte_between, word_between, yes_no};
 use gb_ops::registers::Registers;
 
+/// The origin with this number by versions 1 to 3, 0 for none.
 #[inline(always)]
-pub fn origin_of(number: u8) -> Option<Origin>
-    ensures { result ≡ origin_of number }
+fn older_origin_of(number: u8) -> Option<Origin>
+    ensures { result ≡ older.origin_of number }
 {
     match number {
         0 => None,
@@ -41,7 +44,7 @@ fn origin_at(rules: Rules, bytes: &[u8]) -> Result<(Option<Origin>, &[u8]), Cert
     ensures { Gives (λ x. (x.0, x.1.now)) result (origin_at rules bytes.now) }
 {
     let (number, rest) = byte_between(0, origin_limit(rules), bytes)?;
-    Ok((origin_of(number), rest))
+    Ok((older_origin_of(number), rest))
 }
 
 #[inline(always)]
@@ -272,18 +275,39 @@ pub fn pass_core(
 
 // ---- reading again what has been checked
 
+/// The origin with this number, 0 for none.
+#[inline(always)]
+pub fn origin_of(number: u8) -> Option<Origin>
+    ensures { result ≡ origin_of number }
+{
+    match number {
+        0..12 => older_origin_of(number),
+        28 => Some(Origin::MarkHigh),
+        29 => Some(Origin::MarkLow),
+        _ => Some(Origin::Kept(number - 12)),
+    }
+}
+
+/// A value by its bytes: its bounds, and its origin and how many low bits are known.
+#[inline(always)]
+pub fn val_of(lo: u8, hi: u8, tag: u8) -> Val
+    ensures { result ≡ to_val ((lo, hi), tag) }
+{
+    Val {
+        lo,
+        hi,
+        low_bits: tag / 32,
+        origin: origin_of(tag % 32),
+    }
+}
+
 /// The value at a place where one stands.
 #[inline(always)]
 fn val_in(bytes: &[u8], place: usize) -> Val
     requires { place + 3 ≤ length bytes.now }
     ensures { result ≡ val_in bytes.now place }
 {
-    Val {
-        lo: bytes[place],
-        hi: bytes[place + 1],
-        low_bits: 0,
-        origin: origin_of(bytes[place + 2]),
-    }
+    val_of(bytes[place], bytes[place + 1], bytes[place + 2])
 }
 
 #[inline(always)]
@@ -332,10 +356,29 @@ pub fn flg_in(bits: u8, own: u8) -> Flg
     }
 }
 
+/// What is kept of the controller: in version 4 five bits say it, and before it all is kept or nothing.
 #[inline(always)]
-pub fn ctl_in(bytes: &[u8]) -> Ctl
+fn kept_in(fourth: bool, bits: u8) -> KeptBanks
+    ensures { result ≡ kept_in fourth bits }
+{
+    if fourth {
+        KeptBanks {
+            bank: bits % 2 == 1,
+            second: bits / 2 % 2 == 1,
+            gate: bits / 4 % 2 == 1,
+            mode: bits / 8 % 2 == 1,
+            high_bank: bits / 16 % 2 == 1,
+        }
+    } else {
+        KeptBanks::all_or_none(bits == 1)
+    }
+}
+
+/// The controller at its place in a core, which is of version 4 or not.
+#[inline(always)]
+pub fn ctl_in(fourth: bool, bytes: &[u8]) -> Ctl
     requires { 40 ≤ length bytes.now }
-    ensures { result ≡ ctl_in bytes.now }
+    ensures { result ≡ ctl_in fourth bytes.now }
 {
     Ctl {
         bank_lo: u16::from_le_bytes([bytes[5], bytes[6]]),
@@ -344,7 +387,7 @@ pub fn ctl_in(bytes: &[u8]) -> Ctl
         second_hi: bytes[10],
         gate: may_in(bytes[11]),
         mode: may_in(bytes[12]),
-        kept: KeptBanks::all_or_none(bytes[13] == 1),
+        kept: kept_in(fourth, bytes[13]),
     }
 }
 
@@ -364,17 +407,17 @@ fn vals_in(bytes: &[u8]) -> Registers<Val>
     }
 }
 
-/// The core at the front of bytes that have been checked: each field is read at its place, and not checked again.
+/// The core at the front of bytes that have been checked, of version 4 or not: each field is read at its place, and not checked again.
 #[inline(always)]
-pub fn core_in(bytes: &[u8]) -> Core
+pub fn core_in(fourth: bool, bytes: &[u8]) -> Core
     requires { 40 ≤ length bytes.now }
-    ensures { result ≡ core_in bytes.now }
+    ensures { result ≡ core_in fourth bytes.now }
 {
     Core {
         ime: ime_in(bytes[0]),
         bound: bytes[1],
         stack_set: bytes[2] == 1,
-        ctl: ctl_in(bytes),
+        ctl: ctl_in(fourth, bytes),
         flags: flg_in(bytes[14], bytes[15]),
         ie: val_in(bytes, 16),
         registers: vals_in(bytes),
@@ -383,14 +426,14 @@ pub fn core_in(bytes: &[u8]) -> Core
 
 /// The core at the front of bytes that have been checked, put in the place of another one, part by part.
 #[inline(always)]
-pub fn put_core(bytes: &[u8], core: &mut Core)
+pub fn put_core(fourth: bool, bytes: &[u8], core: &mut Core)
     requires { 40 ≤ length bytes.now }
-    ensures { core.new ≡ core_in bytes.now }
+    ensures { core.new ≡ core_in fourth bytes.now }
 {
     core.ime = ime_in(bytes[0]);
     core.bound = bytes[1];
     core.stack_set = bytes[2] == 1;
-    core.ctl = ctl_in(bytes);
+    core.ctl = ctl_in(fourth, bytes);
     core.flags = flg_in(bytes[14], bytes[15]);
     core.ie = val_in(bytes, 16);
     core.registers.a = val_in(bytes, 19);
@@ -409,21 +452,4 @@ pub fn test_in(bytes: &[u8]) -> Option<u8>
     ensures { result ≡ test_in bytes.now }
 {
     if bytes[3] == 1 { Some(bytes[4]) } else { None }
-}
-
-/// Whether the numbers behind a core say that there are no items and cells, and nothing is known of several parts together.
-#[inline(always)]
-pub fn are_none(rules: Rules, bytes: &[u8]) -> bool
-    ensures { result ≡ are_none rules bytes.now }
-{
-    match rules {
-        Rules::Simple => match bytes {
-            [items, cells, ..] => *items == 0 && *cells == 0,
-            _ => false,
-        },
-        Rules::Extended => match bytes {
-            [items, present, cells, ..] => *items == 0 && *present == 0 && *cells == 0,
-            _ => false,
-        },
-    }
 }

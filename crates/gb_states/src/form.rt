@@ -3,7 +3,8 @@
 ghost use Rattle.std.specs.Prelude.{◌≡◌, ◌==◌};
 ghost use Rattle.gb_fields.specs.Format.{Gives, mapped};
 ghost use Rattle.gb_states.specs.WholeReading.{core_at, number_by, key_by};
-ghost use Rattle.gb_states.specs.Forms.{form_by, val_by, cell_by, state_by, passed};
+ghost use Rattle.gb_states.specs.Checked.{are_none};
+ghost use Rattle.gb_states.specs.Forms.{form_by, is_fourth, val_by, cell_by, state_by, passed};
 
 use crate::role::Role;
 use crate::whole_states::{self, core_at, may_be_aside};
@@ -30,6 +31,17 @@ impl Form {
             Form::Fourth(facts, kept)
         } else {
             Form::Older(Rules::of(version))
+        }
+    }
+
+    /// Whether as in version 4.
+    #[inline(always)]
+    pub fn is_fourth(self) -> bool
+        ensures { result ≡ is_fourth self }
+    {
+        match self {
+            Form::Older(_) => false,
+            Form::Fourth(_, _) => true,
         }
     }
 }
@@ -119,4 +131,28 @@ pub fn key_by(
         return Err(CertFault::Order);
     }
     Ok(((procedure, address), rest))
+}
+
+/// Whether the numbers behind a core say that there are no items and cells, that nothing is known of several parts together, and that
+/// nothing is said of the whole program.
+#[inline(always)]
+pub fn are_none(form: Form, bytes: &[u8]) -> bool
+    ensures { result ≡ are_none form bytes.now }
+{
+    match form {
+        Form::Older(Rules::Simple) => match bytes {
+            [items, cells, ..] => *items == 0 && *cells == 0,
+            _ => false,
+        },
+        Form::Older(Rules::Extended) => match bytes {
+            [items, present, cells, ..] => *items == 0 && *present == 0 && *cells == 0,
+            _ => false,
+        },
+        Form::Fourth(_, _) => match bytes {
+            [items, present, declared, cells, ..] => {
+                *items == 0 && *present == 0 && *declared == 0 && *cells == 0
+            }
+            _ => false,
+        },
+    }
 }

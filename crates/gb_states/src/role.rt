@@ -15,7 +15,7 @@ pub enum Role {
 
 impl Role {
     /// Of a node of this procedure.
-    pub fn of(procedure: u8) -> Role
+    pub fn of(procedure: u16) -> Role
         ensures { result ≡ role_of procedure }
     {
         if procedure == 0 {

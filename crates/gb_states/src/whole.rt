@@ -6,9 +6,9 @@ ghost use Rattle.gb_fields.specs.Limits.{fill_limit, kept_limit, kept_room};
 ghost use Rattle.gb_domain.specs.Summaries.{no_bank_shadows};
 ghost use Rattle.gb_states.specs.RelationReading.{defaulted, address_at, bounds_at};
 ghost use Rattle.gb_states.specs.WholeRules.{says_something, is_stepped, after_address};
-ghost use Rattle.gb_states.specs.WholeReading.{origin_of, is_origin_number, val_at, kept_at, stretch_at, said_at, is_strided_interval, interval_at, fact_at, facts_at, pointer_of, reach_of, end_of, end_at, fill_at, fill_count_at, levels_at, to_shadows, has_address, shadows_at, others_at, bank_shadows_at, declared_at, no_levels, summary_at, free_address_at, kept_addresses_at};
+ghost use Rattle.gb_states.specs.WholeReading.{is_origin_number, val_at, kept_at, stretch_at, said_at, is_strided_interval, interval_at, fact_at, facts_at, pointer_of, reach_of, end_of, end_at, fill_at, fill_count_at, levels_at, to_shadows, has_address, shadows_at, others_at, bank_shadows_at, declared_at, no_levels, summary_at, free_address_at, kept_addresses_at};
 
-use crate::fields;
+use crate::fields::origin_of;
 use crate::relations::{address_at, address_where, bounds_at, to_registers};
 use crate::states::is_free;
 use arrayvec::ArrayVec;
@@ -18,7 +18,7 @@ use gb_domain::pairs::Bounds;
 use gb_domain::summary::{
     BankShadows, Fact, Fill, FillEnd, Reach, Shadows, Summary, is_unshadowed,
 };
-use gb_domain::types::{KeptBanks, Origin, Val};
+use gb_domain::types::{KeptBanks, Val};
 use gb_domain::values::interval_of;
 use gb_fields::CertFault;
 use gb_fields::limits::{FACT_LIMIT, FILL_LIMIT, KEPT_LIMIT};
@@ -44,18 +44,6 @@ pub struct Declared {
 }
 
 // ---- values
-
-/// The origin with this number, 0 for none.
-fn origin_of(number: u8) -> Option<Origin>
-    ensures { result ≡ origin_of number }
-{
-    match number {
-        0..12 => fields::origin_of(number),
-        28 => Some(Origin::MarkHigh),
-        29 => Some(Origin::MarkLow),
-        _ => Some(Origin::Kept(number - 12)),
-    }
-}
 
 /// Whether this is the number of an origin, or 0, where a procedure names so many addresses to be kept.
 fn is_origin_number(kept: u8, number: u8) -> bool

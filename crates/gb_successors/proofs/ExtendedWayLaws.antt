@@ -66,15 +66,15 @@ use Rattle.gb_successors.specs.Stacks.{extended, stack_move}
 use Rattle.gb_ops.specs.Pointers.{pointer_of}
 use Rattle.gb_successors.specs.Summaries.{pointed_bits, summary_by}
 use Rattle.gb_successors.specs.Way.{Successor}
-use Rattle.gb_successors.specs.Successors.{pointer_in, word_in, effect_in, taken_move, taken_parts, related_successor, relations_behind, said_successor, summary_behind, taken_successor, untaken_successor, with_product, reduced_successor, product_before, taken_from, not_taken_from, successors_of}
+use Rattle.gb_successors.specs.Successors.{pointer_in, word_in, effect_in, taken_move, taken_parts, related_successor, relations_behind, said_successor, summary_behind, taken_successor, untaken_successor, with_product, reduced_successor, product_before, taken_from, not_taken_from, successors_of, memory_before}
 use Rattle.gb_successors.specs.Sound.{IsReady, IsAllowed, IsFound, IsStackFit, bytes_moved, IsHeld, IsStackRuled, is_followed, LeadsWidely, LeadsTo, Leads, Stands, IsRuled, Executes}
 use Rattle.gb_successors.proofs.SimpleLaws.{behind_row, IsTold, same_word, same_sp}
-use Rattle.gb_successors.proofs.ToldLaws.{told_core, told_items, IsToldCell, IsToldCell-side, Stands-told, IsAllowed-told, IsTold-taken}
+use Rattle.gb_successors.proofs.ToldLaws.{told_core, told_items, IsToldCell, IsToldCell-side, Stands-told, IsAllowed-told, IsTold-taken, IsVal-memory_before, held_before}
 use Rattle.gb_successors.proofs.PlainLaws.{Keeps, Keeps-both, Keeps-settle, Keeps-cut}
 use Rattle.gb_successors.proofs.MarkLaws.{executed_mark}
 use Rattle.gb_successors.proofs.SaidLaws.{LeadsRelated, Leads-summarized, Leads-said}
 use Rattle.gb_successors.proofs.SummaryLaws.{said_holds}
-use Rattle.gb_successors.proofs.RelatedLaws.{MeansParts-related, related_begun, IsCore-ended}
+use Rattle.gb_successors.proofs.RelatedLaws.{MeansParts-related, related_begun, IsCore-ended, values_begun}
 use Rattle.gb_successors.proofs.SuccessorLaws.{begun, begun_core, given, effect, executed_is, left_by}
 use Rattle.gb_successors.proofs.UntakenLaws.{simple_untaken, untaken_simply, untaken_executes, side_facts}
 use Rattle.gb_successors.proofs.Situations.{Situation, acted_at, given_at, left_at, move_at, parts_at, related_at, IsTakenIn}
@@ -254,19 +254,19 @@ unfolding taken_move effect_in refined
 taken_move_is k program rom row next s p = refl
 
 -- without a condition the side is what is known before
-whole_side : (o : Op) (cells : List Cell) (core : Core) (r : Relations) (b : Branch) → taken_side o cells core r ≡ Some b → is_some (Flags.condition_of o) ≡ false → b ≡ record { core = core; relations = r; cell = None }
+whole_side : (o : Op) (memory : Val) (core : Core) (r : Relations) (b : Branch) → taken_side o memory core r ≡ Some b → is_some (Flags.condition_of o) ≡ false → b ≡ record { core = core; relations = r; cell = None }
 unfolding taken_side Flags.sides_of
-whole_side o cells core r b e h = by (Flags.condition_of o) e h
+whole_side o memory core r b e h = by (Flags.condition_of o) e h
   where
     same_branch : (c d : Branch) → Some c ≡ Some d → c ≡ d
     same_branch c d f = cc
 
-    by : (k : Option Condition) → side_where k cells r (Flags.sides_by k core).taken ≡ Some b → is_some k ≡ false → b ≡ record { core = core; relations = r; cell = None }
+    by : (k : Option Condition) → side_where k memory r (Flags.sides_by k core).taken ≡ Some b → is_some k ≡ false → b ≡ record { core = core; relations = r; cell = None }
     by None f g = sym (same_branch _ b f)
     by (Some k) f g = cc
 
 same_move :
-    (k : Stack) (program : Program) (rom : List ℕ) (row : Row) (next : ℕ) (s : AbsState) (p : Product) (b : Branch) → taken_side row.op s.cells p.core p.relations ≡ Some b
+    (k : Stack) (program : Program) (rom : List ℕ) (row : Row) (next : ℕ) (s : AbsState) (p : Product) (b : Branch) → taken_side row.op (memory_before program s p) p.core p.relations ≡ Some b
     → taken_move k program rom row next (with_cell_if k.setting b.cell s) (product_of b.core b.relations) ≡ taken_move k program rom row next s p
 unfolding with_cell_if
 same_move k program rom row next s p b e = choose (is_some (Flags.condition_of row.op)) refl
@@ -283,7 +283,7 @@ same_move k program rom row next s p b e = choose (is_some (Flags.condition_of r
         ∙ (same_conditional k row.op next (sp_halves k.setting told) (sp_halves k.setting s) b.core p.core (word_in k program rom row.op told q).low (word_in k program rom row.op told q).high (word_in k program rom row.op s p).low (word_in k program rom row.op s p).high
         (pointer_in k row.op q) (pointer_in k row.op p) h ∙ sym (taken_move_is k program rom row next s p))
     choose false h =
-        ap (λ (d : Branch). taken_move k program rom row next (with_cell_if k.setting d.cell s) (product_of d.core d.relations)) (whole_side row.op s.cells p.core p.relations b e h)
+        ap (λ (d : Branch). taken_move k program rom row next (with_cell_if k.setting d.cell s) (product_of d.core d.relations)) (whole_side row.op (memory_before program s p) p.core p.relations b e h)
 
 -- ---- the stack is ready on the side too
 
@@ -340,7 +340,7 @@ IsAllowed-with_product z rom region ranges s base m r p t e h =
 
 pub taken_way :
     (k : Stack) (program : Program) (rom : List ℕ) (row : Row) (a : ℕ) (s : AbsState) (p : Product) (b : Branch) (t : Successor) → product_before k.setting.rules s ≡ Some p
-    → taken_side row.op s.cells p.core p.relations ≡ Some b → reduced_successor k.setting.rules (taken_successor k program rom row (behind_row a row) s b) ≡ Some t
+    → taken_side row.op (memory_before program s p) p.core p.relations ≡ Some b → reduced_successor k.setting.rules (taken_successor k program rom row (behind_row a row) s b) ≡ Some t
     → (successors_of k program rom row a s).taken ≡ Some t
 unfolding successors_of
 taken_way k program rom row a s p b t before side is =
@@ -349,11 +349,11 @@ taken_way k program rom row a s p b t before side is =
 
 untaken_way :
     (k : Stack) (program : Program) (rom : List ℕ) (row : Row) (a : ℕ) (s : AbsState) (p : Product) (b : Branch) (t : Successor) → product_before k.setting.rules s ≡ Some p
-    → not_taken_side row.op s.cells p.core p.relations ≡ Some b → reduced_successor k.setting.rules (untaken_successor k row (behind_row a row) s b) ≡ Some t
+    → not_taken_side row.op (memory_before program s p) p.core p.relations ≡ Some b → reduced_successor k.setting.rules (untaken_successor k row (behind_row a row) s b) ≡ Some t
     → (successors_of k program rom row a s).not_taken ≡ Some t
 unfolding successors_of
 untaken_way k program rom row a s p b t before side is =
-    ap (option_and_then (not_taken_from k row (behind_row a row) s)) before
+    ap (option_and_then (not_taken_from k program row (behind_row a row) s)) before
     ∙ (ap (option_and_then (λ (c : Branch). reduced_successor k.setting.rules (untaken_successor k row (behind_row a row) s c))) side ∙ is)
 
 pub reduced_way : (rules : Rules) (t : Successor) (p : Product) → reduced rules t.state.core t.state.relations ≡ Some p → reduced_successor rules t ≡ Some (with_product t p)
@@ -404,14 +404,14 @@ Leads-at c p k e d =
 taken_executes :
     (k : Stack) (rom : List ℕ) (row : Row) (a : ℕ) (s : AbsState) (ranges : List Range) (entry : Activation) (base : ℕ) (x : MState) (reads : List ℕ) (p : Product) (b : Branch)
     → k.setting.rules ≡ Extended → Stands k.setting rom k.region row a s entry base x → IsRuled k entry.program rom row a s base → x.processor.halt_mark ≡ false → slice_index reads 0 ≤ 255
-    → product_before k.setting.rules s ≡ Some p → IsReduced (core_settle s.core) s.relations p → taken_side row.op s.cells p.core p.relations ≡ Some b → MeansBranch b entry (begun row x)
+    → product_before k.setting.rules s ≡ Some p → IsReduced (core_settle s.core) s.relations p → taken_side row.op (memory_before entry.program s p) p.core p.relations ≡ Some b → MeansBranch b entry (begun row x)
     → (effect rom row x reads).is_taken ≡ true
     → Executes k entry.program rom ranges row a s (successors_of k entry.program rom row a s) entry base x reads
 taken_executes k rom row a s ranges entry base x reads p b extended stands ruled mark byte before cut side meant taken =
-    let is : IsSideOf s.cells p.core p.relations b = side_facts _ b s.cells p.core p.relations side (taken_side_cuts row.op s.cells p.core p.relations _ refl) in
+    let is : IsSideOf (memory_before entry.program s p) p.core p.relations b = side_facts _ b (memory_before entry.program s p) p.core p.relations side (taken_side_cuts row.op (memory_before entry.program s p) p.core p.relations _ refl) in
     let told : AbsState = with_cell_if k.setting b.cell s in
     let cell : IfSome b.cell (IsToldCell k.region entry x) =
-    IsToldCell-side k.region s.cells p.core p.relations b entry x (subst (λ (o : OneByte). IsByteFree k.region o.address) (sym cut.relations.byte) stands.free) stands.vals is meant.cell in
+    IsToldCell-side k.region (memory_before entry.program s p) p.core p.relations b entry x (subst (λ (o : OneByte). IsByteFree k.region o.address) (sym cut.relations.byte) stands.free) (IsVal-memory_before entry.program s p stands.vals) is meant.cell in
     let c : Situation = record {
       stack = k;
       rom = rom;
@@ -430,7 +430,7 @@ taken_executes k rom row a s ranges entry base x reads p b extended stands ruled
     let way : (q : Product) → reduced k.setting.rules (parts_at c).state.core (related_at c) ≡ Some q → (successors_of k entry.program rom row a s).taken ≡ Some (with_product (said_successor m (related_successor (related_at c) (parts_at c))) q) =
     λ q e.
     taken_way k entry.program rom row a s p b (with_product (said_successor m (related_successor (related_at c) (parts_at c))) q) before side
-    (ap (reduced_successor k.setting.rules) (taken_told k entry.program rom row (behind_row a row) s b (IsTold-taken row.op s.cells p.core b.core p.relations b side))
+    (ap (reduced_successor k.setting.rules) (taken_told k entry.program rom row (behind_row a row) s b (IsTold-taken row.op (memory_before entry.program s p) p.core b.core p.relations b side))
     ∙ reduced_way k.setting.rules (said_successor m (related_successor (related_at c) (parts_at c))) q e) in
     let t : IsTakenIn c = record {
       stands = Stands-told k.setting rom k.region row a b.cell s entry base x cell stands;
@@ -487,15 +487,15 @@ followed_at Extended a = refl
 untaken_leads :
     (k : Stack) (program : Program) (rom : List ℕ) (row : Row) (a : ℕ) (s : AbsState) (ranges : List Range) (entry : Activation) (base : ℕ) (x : MState) (reads : List ℕ) (p : Product) (b : Branch)
     → k.setting.rules ≡ Extended → Stands k.setting rom k.region row a s entry base x → IsRuled k program rom row a s base → x.processor.halt_mark ≡ false
-    → product_before k.setting.rules s ≡ Some p → IsReduced (core_settle s.core) s.relations p → not_taken_side row.op s.cells p.core p.relations ≡ Some b → MeansBranch b entry (begun row x)
+    → product_before k.setting.rules s ≡ Some p → IsReduced (core_settle s.core) s.relations p → not_taken_side row.op (memory_before program s p) p.core p.relations ≡ Some b → MeansBranch b entry (begun row x)
     → (effect rom row x reads).is_taken ≡ false
     → Executes k program rom ranges row a s (successors_of k program rom row a s) entry base x reads
 untaken_leads k program rom row a s ranges entry base x reads p b extended stands ruled mark before cut side meant not_taken =
     let y : MState = outside (executed (within rom x) row reads) in
-    let is : IsSideOf s.cells p.core p.relations b = side_facts _ b s.cells p.core p.relations side (not_taken_side_cuts row.op s.cells p.core p.relations _ refl) in
+    let is : IsSideOf (memory_before program s p) p.core p.relations b = side_facts _ b (memory_before program s p) p.core p.relations side (not_taken_side_cuts row.op (memory_before program s p) p.core p.relations _ refl) in
     let told : AbsState = with_cell_if k.setting b.cell s in
     let cell : IfSome b.cell (IsToldCell k.region entry x) =
-    IsToldCell-side k.region s.cells p.core p.relations b entry x (subst (λ (o : OneByte). IsByteFree k.region o.address) (sym cut.relations.byte) stands.free) stands.vals is meant.cell in
+    IsToldCell-side k.region (memory_before program s p) p.core p.relations b entry x (subst (λ (o : OneByte). IsByteFree k.region o.address) (sym cut.relations.byte) stands.free) (IsVal-memory_before program s p stands.vals) is meant.cell in
     let keeps : Keeps told.core b.core = subst (λ d. Keeps d b.core) (sym (told_core k.setting b.cell s))
     (Keeps-both s.core p.core b.core (Keeps-both s.core (core_settle s.core) p.core (Keeps-settle s.core) (Keeps-cut (core_settle s.core) p.core cut.core)) (Keeps-cut p.core b.core is.core)) in
     let are : ArePairs b.relations.pairs = is.relations.pairs (cut.relations.pairs stands.pairs) in
@@ -525,17 +525,21 @@ executes_widely k program rom row a s ranges entry base x reads extended of stan
     let before = before_of k s entry (begun row x) stands.core stands.pairs (begun_core row x s.core entry stands.means.parts.core) (related_begun row x s.relations stands.means.related) in
     by_flags before (effect rom row x reads).is_taken refl
   where
-    known : (b : Before k s entry (begun row x)) → IsKnown s.cells b.product.relations entry (begun row x)
-    known b = record { memory = stands.means.parts.memory; cells = stands.means.parts.cells; related = b.means.related }
+    known : (b : Before k s entry (begun row x)) → IsKnown (memory_before program s b.product) b.product.relations entry (begun row x)
+    known b = record {
+      byte = held_before s b.product entry base x program of stands.means.parts stands.means.summary (values_begun row x (values_of b.product.core.registers b.product.relations.pairs) (Holds-values b.product.core b.product.relations entry (begun row x) b.means.core b.means.related));
+      related = b.means.related;
+    }
 
-    by_taken : (b : Before k s entry (begun row x)) (o : Option Branch) → taken_side row.op s.cells b.product.core b.product.relations ≡ o → (effect rom row x reads).is_taken ≡ true → IsMeantBranch o entry (begun row x)
+    by_taken : (b : Before k s entry (begun row x)) (o : Option Branch) → taken_side row.op (memory_before program s b.product) b.product.core b.product.relations ≡ o → (effect rom row x reads).is_taken ≡ true → IsMeantBranch o entry (begun row x)
         → Executes k program rom ranges row a s (successors_of k program rom row a s) entry base x reads
     by_taken b None e taken h = absurd h
     by_taken b (Some side) e taken h =
         subst (λ q. Executes k q rom ranges row a s (successors_of k q rom row a s) entry base x reads) of
-        (taken_executes k rom row a s ranges entry base x reads b.product side extended stands (subst (λ q. IsRuled k q rom row a s base) (sym of) ruled) mark byte b.is b.cut e h taken)
+        (taken_executes k rom row a s ranges entry base x reads b.product side extended stands (subst (λ q. IsRuled k q rom row a s base) (sym of) ruled) mark byte b.is b.cut
+        (subst (λ q. taken_side row.op (memory_before q s b.product) b.product.core b.product.relations ≡ Some side) (sym of) e) h taken)
 
-    by_not_taken : (b : Before k s entry (begun row x)) (o : Option Branch) → not_taken_side row.op s.cells b.product.core b.product.relations ≡ o → (effect rom row x reads).is_taken ≡ false → IsMeantBranch o entry (begun row x)
+    by_not_taken : (b : Before k s entry (begun row x)) (o : Option Branch) → not_taken_side row.op (memory_before program s b.product) b.product.core b.product.relations ≡ o → (effect rom row x reads).is_taken ≡ false → IsMeantBranch o entry (begun row x)
         → Executes k program rom ranges row a s (successors_of k program rom row a s) entry base x reads
     by_not_taken b None e not_taken h = absurd h
     by_not_taken b (Some side) e not_taken h = untaken_leads k program rom row a s ranges entry base x reads b.product side extended stands ruled mark b.is b.cut e h not_taken
@@ -543,7 +547,7 @@ executes_widely k program rom row a s ranges entry base x reads extended of stan
     by_flags : (b : Before k s entry (begun row x)) (t : Bool) → (effect rom row x reads).is_taken ≡ t → Executes k program rom ranges row a s (successors_of k program rom row a s) entry base x reads
     by_flags b true e =
         by_taken b _ refl e
-        ((taken_side_sound row.op s.cells b.product.core b.product.relations _ refl (b.cut.relations.pairs stands.pairs)).gives entry (begun row x) (given rom row x reads).low (given rom row x reads).high (known b) b.means.core e)
+        ((taken_side_sound row.op (memory_before program s b.product) b.product.core b.product.relations _ refl (b.cut.relations.pairs stands.pairs)).gives entry (begun row x) (given rom row x reads).low (given rom row x reads).high (known b) b.means.core e)
     by_flags b false e =
         by_not_taken b _ refl e
-        ((not_taken_side_sound row.op s.cells b.product.core b.product.relations _ refl (b.cut.relations.pairs stands.pairs)).gives entry (begun row x) (given rom row x reads).low (given rom row x reads).high (known b) b.means.core e)
+        ((not_taken_side_sound row.op (memory_before program s b.product) b.product.core b.product.relations _ refl (b.cut.relations.pairs stands.pairs)).gives entry (begun row x) (given rom row x reads).low (given rom row x reads).high (known b) b.means.core e)

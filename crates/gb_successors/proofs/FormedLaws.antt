@@ -60,7 +60,7 @@ use Rattle.gb_successors.specs.Behind.{starts, written_core, core_behind, ended}
 use Rattle.gb_successors.specs.Refined.{cut_write, with_carry, refined}
 use Rattle.gb_successors.specs.Sound.{IsOneOf, Stands}
 use Rattle.gb_successors.specs.Stacks.{moved_core}
-use Rattle.gb_successors.specs.Successors.{pointer_in, word_in, effect_in, taken_parts, relations_behind, taken_successor, untaken_successor, with_product, reduced_successor, woken, staying_successor, may_stay, stays, product_before, taken_from, not_taken_from, successors_of, summary_behind}
+use Rattle.gb_successors.specs.Successors.{pointer_in, word_in, effect_in, taken_parts, relations_behind, taken_successor, untaken_successor, with_product, reduced_successor, woken, staying_successor, may_stay, stays, product_before, taken_from, not_taken_from, successors_of, summary_behind, memory_before}
 use Rattle.gb_successors.specs.Way.{Successor}
 use Rattle.gb_successors.proofs.RelatedLaws.{IsCore-ended, has_operands}
 use Rattle.gb_successors.proofs.SimpleLaws.{behind_row}
@@ -183,8 +183,8 @@ record IsFormedBranch (region : Region) (b : Branch) : Type 0 where
   pairs : ArePairs b.relations.pairs
 
 branch_formed :
-    (region : Region) (s : AbsState) (p : Product) (b : Branch) → IsFormed region s → IsReduced (core_settle s.core) s.relations p → IsSideOf s.cells p.core p.relations b → IsFormedBranch region b
-branch_formed region s p b h cut is =
+    (region : Region) (memory : Val) (s : AbsState) (p : Product) (b : Branch) → IsFormed region s → IsReduced (core_settle s.core) s.relations p → IsSideOf memory p.core p.relations b → IsFormedBranch region b
+branch_formed region memory s p b h cut is =
     record {
       core = is.inhabited (cut.inhabited (IsCore-settle s.core h.core));
       free = subst (λ (o : OneByte). IsByteFree region o.address) (sym (is.relations.byte ∙ cut.relations.byte)) h.free;
@@ -282,31 +282,31 @@ unfolding successors_of product_before
 formed_taken k program rom row a s t entry base x stands operands h =
     from (reduced k.setting.rules (core_settle s.core) s.relations) (reduced_cuts k.setting.rules (core_settle s.core) s.relations _ refl) h
   where
-    at_side : (p : Product) → IsReduced (core_settle s.core) s.relations p → (o : Option Branch) → IfSome o (IsSideOf s.cells p.core p.relations)
+    at_side : (p : Product) → IsReduced (core_settle s.core) s.relations p → (o : Option Branch) → IfSome o (IsSideOf (memory_before program s p) p.core p.relations)
         → option_and_then (λ b. reduced_successor k.setting.rules (taken_successor k program rom row (behind_row a row) s b)) o ≡ Some t → IsFormed k.region t.state
     at_side p cut None is e = cc
     at_side p cut (Some b) is e =
         formed_reduced k.setting.rules k.region (taken_successor k program rom row (behind_row a row) s b) t e
-        (taken_formed k program rom row a s b entry base x stands operands (branch_formed k.region s p b (stands_formed k.setting rom k.region row a s entry base x stands) cut is))
+        (taken_formed k program rom row a s b entry base x stands operands (branch_formed k.region (memory_before program s p) s p b (stands_formed k.setting rom k.region row a s entry base x stands) cut is))
 
     from : (o : Option Product) → IfSome o (IsReduced (core_settle s.core) s.relations) → option_and_then (taken_from k program rom row (behind_row a row) s) o ≡ Some t → IsFormed k.region t.state
     from None cut e = cc
-    from (Some p) cut e = at_side p cut (taken_side row.op s.cells p.core p.relations) (taken_side_cuts row.op s.cells p.core p.relations _ refl) e
+    from (Some p) cut e = at_side p cut (taken_side row.op (memory_before program s p) p.core p.relations) (taken_side_cuts row.op (memory_before program s p) p.core p.relations _ refl) e
 
 formed_untaken :
     (k : Stack) (program : Program) (rom : List ℕ) (row : Row) (a : ℕ) (s : AbsState) (t : Successor) → IsFormed k.region s → (successors_of k program rom row a s).not_taken ≡ Some t → IsFormed k.region t.state
 unfolding successors_of product_before
 formed_untaken k program rom row a s t formed h = from (reduced k.setting.rules (core_settle s.core) s.relations) (reduced_cuts k.setting.rules (core_settle s.core) s.relations _ refl) h
   where
-    at_side : (p : Product) → IsReduced (core_settle s.core) s.relations p → (o : Option Branch) → IfSome o (IsSideOf s.cells p.core p.relations)
+    at_side : (p : Product) → IsReduced (core_settle s.core) s.relations p → (o : Option Branch) → IfSome o (IsSideOf (memory_before program s p) p.core p.relations)
         → option_and_then (λ b. reduced_successor k.setting.rules (untaken_successor k row (behind_row a row) s b)) o ≡ Some t → IsFormed k.region t.state
     at_side p cut None is e = cc
     at_side p cut (Some b) is e =
-        formed_reduced k.setting.rules k.region (untaken_successor k row (behind_row a row) s b) t e (untaken_formed k row (behind_row a row) s b (branch_formed k.region s p b formed cut is) formed.apart)
+        formed_reduced k.setting.rules k.region (untaken_successor k row (behind_row a row) s b) t e (untaken_formed k row (behind_row a row) s b (branch_formed k.region (memory_before program s p) s p b formed cut is) formed.apart)
 
-    from : (o : Option Product) → IfSome o (IsReduced (core_settle s.core) s.relations) → option_and_then (not_taken_from k row (behind_row a row) s) o ≡ Some t → IsFormed k.region t.state
+    from : (o : Option Product) → IfSome o (IsReduced (core_settle s.core) s.relations) → option_and_then (not_taken_from k program row (behind_row a row) s) o ≡ Some t → IsFormed k.region t.state
     from None cut e = cc
-    from (Some p) cut e = at_side p cut (not_taken_side row.op s.cells p.core p.relations) (not_taken_side_cuts row.op s.cells p.core p.relations _ refl) e
+    from (Some p) cut e = at_side p cut (not_taken_side row.op (memory_before program s p) p.core p.relations) (not_taken_side_cuts row.op (memory_before program s p) p.core p.relations _ refl) e
 
 formed_staying : (k : Stack) (program : Program) (rom : List ℕ) (row : Row) (a : ℕ) (s : AbsState) (t : Successor) → IsFormed k.region s → (successors_of k program rom row a s).stays ≡ Some t → IsFormed k.region t.state
 unfolding successors_of stays

@@ -51,7 +51,7 @@ use Rattle.gb_successors.specs.Refined.{cut_read, cut_write, moved_target, exten
 use Rattle.gb_successors.specs.Behind.{with_cell_if}
 use Rattle.gb_successors.specs.Refused.{is_unstorable, reads_closed_ram, writes_closed_ram, is_read_limited, is_write_limited, meets_closed, meets_oam_transfer}
 use Rattle.gb_successors.specs.Way.{Successor}
-use Rattle.gb_successors.specs.Successors.{related_successor, relations_behind, said_successor, summary_behind, taken_successor, with_product, successors_of}
+use Rattle.gb_successors.specs.Successors.{related_successor, relations_behind, said_successor, summary_behind, taken_successor, with_product, successors_of, memory_before}
 use Rattle.gb_successors.specs.Sound.{IsReady, IsFound, IsStackFit, bytes_moved, IsHalt, Leads, LeadsBy, LeadsWidely, StaysAt, Stands}
 use Rattle.gb_successors.proofs.PlainLaws.{Keeps-both, Keeps-settle, Keeps-cut}
 use Rattle.gb_successors.proofs.SaidLaws.{Leads-said}
@@ -67,6 +67,7 @@ use Rattle.gb_successors.proofs.LeadingLaws.{target_is, move_is}
 use Rattle.gb_successors.proofs.LedLaws.{IsAllowedAt, done_at}
 use Rattle.gb_successors.proofs.PossibleLaws.{possible, pairs_behind, bytes_behind_it}
 use Rattle.gb_successors.proofs.ExtendedWayLaws.{before_of, Leads-narrowed, LeadsWidely-related, taken_way, reduced_way}
+use Rattle.gb_domain.specs.declared.types.Val.{Val}
 
 -- ---- HALT
 
@@ -91,9 +92,9 @@ halt_target : (z : Setting) (o : Op) (next : ℕ) (w : Halves) (core : Core) (b 
 unfolding target_of
 halt_target z o next w core b m e f = ap (λ q. extended_target z q next w core b m (target_of q next core)) e ∙ ap (λ n. moved_target n next (target.At next)) f
 
-halt_side : (o : Op) (cells : List Cell) (p : Product) → o ≡ op.Halt → taken_side o cells p.core p.relations ≡ Some (record { core = p.core; relations = p.relations; cell = None })
+halt_side : (o : Op) (memory : Val) (p : Product) → o ≡ op.Halt → taken_side o memory p.core p.relations ≡ Some (record { core = p.core; relations = p.relations; cell = None })
 unfolding taken_side Flags.sides_of
-halt_side o cells p e = ap (λ (q : Op). side_where (Flags.condition_of q) cells p.relations (Flags.sides_by (Flags.condition_of q) p.core).taken) e
+halt_side o memory p e = ap (λ (q : Op). side_where (Flags.condition_of q) memory p.relations (Flags.sides_by (Flags.condition_of q) p.core).taken) e
 
 halt_stays_put : (c : Situation) → c.row.op ≡ op.Halt → move_at c ≡ move.Stay
 halt_stays_put c e = move_is c ∙ still_stays c.stack c.row.op (effect_at c).write (pointer_at c) (halt_still c.row.op e)
@@ -234,7 +235,7 @@ repeats_widely k rom row a s ranges entry base x extended stands halt off mark =
     (record { means = MeansParts-marked (parts_at c).state entry base (left_at c) led.means; goes = led.goes; room = led.room }) in
     record {
       successor = with_product parts some.product;
-      is_way = taken_way k entry.program rom row a s p (record { core = p.core; relations = p.relations; cell = None }) (with_product parts some.product) before.is (halt_side row.op s.cells p halt.op_is)
+      is_way = taken_way k entry.program rom row a s p (record { core = p.core; relations = p.relations; cell = None }) (with_product parts some.product) before.is (halt_side row.op (memory_before entry.program s p) p halt.op_is)
           (reduced_way k.setting.rules parts some.product some.is);
       held = as_many (subst (λ m. length (parts_at c).state.items ≡ bytes_moved m (length s.items)) (halt_stays_put c halt.op_is) done.bytes);
       leads = subst (λ y. Leads k.setting k.region ranges (with_product parts some.product) entry base x y) (sym (left_is rom row x [] halt off mark))

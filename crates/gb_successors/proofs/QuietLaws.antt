@@ -74,7 +74,7 @@ quiet_successor k program rom row a s t unknown q (inl e) =
     quiet_ways (taken_from k program rom row (behind_row a row) s) (product_before k.setting.rules s) t
     (λ p. quiet_sides k.setting.rules (taken_successor k program rom row (behind_row a row) s) _ t (λ b. quiet_taken k program rom row (behind_row a row) s b unknown q)) e
 quiet_successor k program rom row a s t unknown q (inr (inl e)) =
-    quiet_ways (not_taken_from k row (behind_row a row) s) (product_before k.setting.rules s) t
+    quiet_ways (not_taken_from k program row (behind_row a row) s) (product_before k.setting.rules s) t
     (λ p. quiet_sides k.setting.rules (untaken_successor k row (behind_row a row) s) _ t (λ b. quiet_untaken k row (behind_row a row) s b q)) e
 quiet_successor k program rom row a s t unknown q (inr (inr e)) =
     quiet_ways (λ p. stays row a s) (product_before k.setting.rules s) t (λ p. quiet_stays row a s t q) e

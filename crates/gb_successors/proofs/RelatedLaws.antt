@@ -35,7 +35,7 @@ use Rattle.gb_product.specs.Below.gb_abs_effects.Sound.{IsWrite}
 use Rattle.gb_product.proofs.Below.gb_abs_effects_laws.RangeLaws.{transfer_inhabited}
 use Rattle.gb_code.specs.Below.gb_abs_memory.Access.{stored_state}
 use Rattle.gb_code.proofs.Below.gb_abs_memory_laws.AfterStoreLaws.{IsCore-stored_state}
-use Rattle.gb_product.specs.Below.gb_pairs.Meaning.{AreBytes}
+use Rattle.gb_product.specs.Below.gb_pairs.Meaning.{AreBytes, Holds as HoldValues}
 use Rattle.gb_product.specs.Below.gb_copies.Meaning.{HoldOneByte}
 use Rattle.gb_product.specs.Below.gb_relations.Meaning.{HoldRelations}
 use Rattle.gb_product.specs.Below.gb_relations.Compared.{compared_after}
@@ -54,6 +54,7 @@ use Rattle.gb_successors.specs.Sound.{is_followed, IsAllowed, IsStackFit, LeadsS
 use Rattle.gb_successors.proofs.SaidLaws.{LeadsRelated}
 use Rattle.gb_successors.proofs.SimpleLaws.{behind_row, low_of, high_of, abs_effect, with_stack_of, simple_parts}
 use Rattle.gb_successors.proofs.SuccessorLaws.{begun, given, effect, left_by, is_word, IsWord-sp, state_is, executed_taken, IsTaken, is_write, leads_simply}
+use Rattle.gb_product.specs.Below.gb_pairs.declared.values.Values.{Values}
 
 -- ---- other things known together
 
@@ -177,6 +178,11 @@ by_rules rules region o sp vals low r x memory f simple byte bytes =
 pub related_begun : (row : Row) (x : MState) (r : Relations) → AreRelated r x → AreRelated r (begun row x)
 unfolding advanced
 related_begun row x r h = h
+
+-- so do the values of registers and pairs hold
+pub values_begun : (row : Row) (x : MState) (v : Values) → HoldValues v (begun row x).processor.registers → HoldValues v x.processor.registers
+unfolding advanced
+values_begun row x v h = h
 
 pub related_taken :
     (z : Setting) (rom : List ℕ) (region : Region) (ranges : List Range) (row : Row) (a : ℕ) (s : AbsState) (entry : Activation) (base : ℕ) (x : MState) (reads : List ℕ) (c : Core) (w : Target)

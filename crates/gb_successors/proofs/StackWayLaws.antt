@@ -49,7 +49,7 @@ use Rattle.gb_domain.specs.Summaries.{Program}
 use Rattle.gb_successors.specs.Way.{Successor}
 use Rattle.gb_product.specs.Below.gb_abs_effects.declared.targets.Target.{Target}
 use Rattle.gb_product.specs.Below.gb_abs_effects.declared.targets.Target.TheVariants as target
-use Rattle.gb_product.specs.Below.gb_abs_effects.Pairs.{any_word, known_word}
+use Rattle.gb_product.specs.Below.gb_abs_effects.Pairs.{any_word, known_word, word_or_any}
 use Rattle.gb_product.specs.Below.gb_abs_effects.Accesses.{read_of}
 use Rattle.gb_product.specs.Below.gb_abs_effects.Targets.{is_push, is_pop, is_call, is_return}
 use Rattle.gb_product.specs.Below.gb_abs_effects.Sound.{HoldsRead, HoldsWrite, HoldsTarget, IsWrite, Follows}
@@ -62,7 +62,6 @@ use Rattle.gb_successors.specs.Behind.{written, starts, ended}
 use Rattle.gb_successors.specs.Loads.{read_word, word_by}
 use Rattle.gb_successors.specs.Refused.{reads_closed_ram, is_stack_limited, is_read_limited, is_write_limited}
 use Rattle.gb_successors.specs.Sound.{bytes_behind, IsPushable, IsPoppable, IsReturnable, IsStackKnown, IsStackFree, IsStackFit, IsAllowed, LeadsParts, LeadsSimply}
-use Rattle.gb_successors.specs.Words.{word_or_any}
 use Rattle.gb_successors.proofs.SimpleLaws.{behind_row, known_read, low_of, high_of, abs_effect, with_stack_of, simple_parts}
 use Rattle.gb_successors.proofs.PlainLaws.{IsPlainRead}
 use Rattle.gb_successors.proofs.AccessLaws.{Loads, clear_stack}

@@ -42,7 +42,7 @@ use Rattle.gb_product.specs.Below.gb_abs_effects.declared.reads.AbsRead.TheVaria
 use Rattle.gb_product.specs.Below.gb_abs_effects.declared.writes.AbsWrite.{AbsWrite}
 use Rattle.gb_product.specs.Below.gb_abs_effects.declared.targets.Target.{Target}
 use Rattle.gb_product.specs.Below.gb_abs_effects.declared.targets.Target.TheVariants as target
-use Rattle.gb_product.specs.Below.gb_abs_effects.Pairs.{any_word}
+use Rattle.gb_product.specs.Below.gb_abs_effects.Pairs.{any_word, word_or_any}
 use Rattle.gb_product.specs.Below.gb_abs_effects.Accesses.{read_of}
 use Rattle.gb_product.specs.Below.gb_abs_effects.Targets.{target_of, moves_sp, is_sp, is_push}
 use Rattle.gb_product.specs.Below.gb_abs_effects.Transfer.{transfer}
@@ -58,7 +58,6 @@ use Rattle.gb_successors.specs.Behind.{written, starts, ended}
 use Rattle.gb_successors.specs.Loads.{read_word}
 use Rattle.gb_successors.specs.Refused.{is_unstorable, meets_closed, meets_oam_transfer, reads_closed_ram, writes_closed_ram, is_read_limited, is_write_limited}
 use Rattle.gb_successors.specs.Sound.{bytes_behind, IsAllowed, LeadsParts, LeadsSimply, LeadsTo, IsStackKnown, Stands}
-use Rattle.gb_successors.specs.Words.{word_or_any}
 use Rattle.gb_successors.proofs.SimpleLaws.{behind_row, known_read, low_of, high_of, abs_effect, with_stack_of, simple_parts}
 use Rattle.gb_successors.proofs.PlainLaws.{Keeps, Keeps-both, Keeps-transfer, IsPlainRead, IsPlainWrite, IsPlainTarget, IsPlainRead-read_of, IsPlainWrite-transfer, plain_target}
 use Rattle.gb_successors.proofs.AccessLaws.{IsSameGate, closed_same, limited_same, writes_same, write_limited_same, Loads, Loads-read, Stores, AtWrite, Stores-write}

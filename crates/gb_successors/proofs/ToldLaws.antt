@@ -1,5 +1,5 @@
 -- What a condition tells of a byte of memory is known of the states before the instruction too.
-use Rattle.std.proofs.Common.{◌≡◌, ℕ, Bool, true, false, cond, ◌||◌, ◌⊎◌, inl, inr, nat_lt, List, ◌∷◌, length, Option, Some, None, refl, sym, subst}
+use Rattle.std.proofs.Common.{◌≡◌, ℕ, Bool, true, false, cond, ◌||◌, ◌⊎◌, inl, inr, nat_lt, List, ◌∷◌, length, Option, Some, None, refl, sym, subst, ◌≤◌, ◌<◌, arith}
 use Rattle.std.specs.Prelude.{IfSome, is_some}
 use Rattle.std.specs.List.{AllByRecursion, filter, list_any}
 use Rattle.gb_ops.specs.declared.machine.Region.{Region}
@@ -20,7 +20,7 @@ use Rattle.gb_domain.specs.Limits.{cell_room}
 use Rattle.gb_domain.specs.Rules.{IsVal}
 use Rattle.gb_domain.specs.Types.{AbsState}
 use Rattle.gb_product.specs.Below.gb_abs.Cells.{is_below, is_above, is_at, entered, with_cell, IsPlaced, ArePlaced}
-use Rattle.gb_product.specs.Below.gb_abs.Meaning.{Activation, MeansParts}
+use Rattle.gb_product.specs.Below.gb_abs.Meaning.{Activation, MeansParts, Holds}
 use Rattle.gb_product.specs.Below.gb_abs.Operations.{with_core}
 use Rattle.gb_product.specs.Below.gb_abs.Stack.{AreInRegion}
 use Rattle.gb_product.specs.Below.gb_abs.Storage.{peek}
@@ -35,7 +35,7 @@ use Rattle.gb_product.specs.Below.gb_abs_effects.Sides as Flags
 use Rattle.gb_code.specs.Below.gb_abs_memory.Sound.{AreVals}
 use Rattle.gb_product.specs.declared.parts.Branch.{Branch}
 use Rattle.gb_product.specs.Below.gb_relations.Sound.{IsByteFree}
-use Rattle.gb_product.specs.Sides.{side_where, taken_side}
+use Rattle.gb_product.specs.Sides.{side_where, taken_side, memory_of}
 use Rattle.gb_product.specs.Sound.{HoldsCell, IsSideOf}
 use Rattle.gb_product.proofs.SideLaws.{side_placed}
 use Rattle.gb_product.proofs.SummaryLaws.{has_cells_with_cell, HoldSummary-with_cells}
@@ -43,6 +43,17 @@ use Rattle.gb_successors.specs.Behind.{with_cell_if}
 use Rattle.gb_successors.specs.Sound.{IsStackKnown, IsStackFit, IsAllowed, Stands}
 use Rattle.gb_successors.specs.Way.{Successor}
 use Rattle.gb_successors.proofs.SimpleLaws.{IsTold}
+use Rattle.gb_successors.specs.Successors.{memory_before}
+use Rattle.gb_product.proofs.ByteLaws.{IsVal-byte_in}
+use Rattle.gb_code.proofs.Below.gb_abs_memory_laws.LoadLaws.{IsVal-cell}
+use Rattle.gb_product.specs.Below.gb_pairs.Meaning.{Holds as HoldValues}
+use Rattle.gb_product.proofs.CoveringLaws.{Holds-byte_in_state}
+use Rattle.gb_domain.specs.declared.types.Val.{Val}
+use Rattle.gb_product.specs.Below.gb_pairs.declared.values.Values.{Values}
+use Rattle.gb_product.specs.Below.gb_relations.Transfer.{values_of}
+use Rattle.gb_product.specs.declared.parts.Product.{Product}
+use Rattle.gb_product.specs.Meaning.{IsSummarized}
+use Rattle.gb_domain.specs.Summaries.{Program}
 
 -- ---- cells alone change
 
@@ -77,9 +88,31 @@ IsToldCell-if region entry x (Some c) p v h = record { placed = p; val = v; hold
 
 -- that of a side
 pub IsToldCell-side :
-    (region : Region) (cells : List Cell) (core : Core) (r : Relations) (b : Branch) (entry : Activation) (x : MState)
-    → IsByteFree region r.byte.address → AreVals cells → IsSideOf cells core r b → IfSome b.cell (λ c. HoldsCell entry x c) → IfSome b.cell (IsToldCell region entry x)
-IsToldCell-side region cells core r b entry x free vals is h = IsToldCell-if region entry x b.cell (side_placed region cells core r b free is) (is.val vals) h
+    (region : Region) (memory : Val) (core : Core) (r : Relations) (b : Branch) (entry : Activation) (x : MState)
+    → IsByteFree region r.byte.address → IsVal memory → IsSideOf memory core r b → IfSome b.cell (λ c. HoldsCell entry x c) → IfSome b.cell (IsToldCell region entry x)
+IsToldCell-side region memory core r b entry x free val is h = IsToldCell-if region entry x b.cell (side_placed region memory core r b free is) (is.val val) h
+
+-- ---- the byte at the address among the places
+
+pub IsVal-memory_before : (program : Program) (s : AbsState) (p : Product) → AreVals s.cells → IsVal (memory_before program s p)
+IsVal-memory_before program s p vals = by p.relations.byte.address
+  where
+    v : Values
+    v = values_of p.core.registers p.relations.pairs
+
+    by : (o : Option ℕ) → IsVal (memory_of program v s.cells s.summary o)
+    by None = record { order = omega arith; hi = omega arith; strided = refl }
+    by (Some a) = IsVal-byte_in program v s.cells s.summary a (IsVal-cell s.cells a vals)
+
+pub held_before :
+    (s : AbsState) (p : Product) (entry : Activation) (base : ℕ) (x : MState) (program : Program)
+    → entry.program ≡ program → MeansParts s entry base x → IsSummarized s entry x → HoldValues (values_of p.core.registers p.relations.pairs) x.processor.registers
+    → (a : ℕ) → p.relations.byte.address ≡ Some a → Holds (memory_before program s p) entry (peek x.storage a)
+held_before s p entry base x program of means said values a e =
+    let v = values_of p.core.registers p.relations.pairs in
+    subst (λ q. Holds (memory_before q s p) entry (peek x.storage a)) of
+    (subst (λ o. Holds (memory_of entry.program v s.cells s.summary o) entry (peek x.storage a)) (sym e)
+    (Holds-byte_in_state v s a entry base x means said values))
 
 pub AllByRecursion-with_cell : (P : Cell → Type 0) (room : ℕ) (c : Cell) (cells : List Cell) → P c → AllByRecursion P cells → AllByRecursion P (with_cell room c cells)
 unfolding with_cell entered
@@ -159,10 +192,10 @@ IsAllowed-told z rom region ranges (Some c) s base t h = record { stores = h.sto
 
 -- ---- an instruction with a condition reads no byte
 
-none_told : (k : Option Condition) (cells : List Cell) (r : Relations) (o : Option Core) (b : Branch) → side_where k cells r o ≡ Some b → is_some k ≡ false → b.cell ≡ None
-none_told None cells r None b e h = cc
-none_told None cells r (Some core) b e h = cc
-none_told (Some k) cells r o b e h = cc
+none_told : (k : Option Condition) (memory : Val) (r : Relations) (o : Option Core) (b : Branch) → side_where k memory r o ≡ Some b → is_some k ≡ false → b.cell ≡ None
+none_told None memory r None b e h = cc
+none_told None memory r (Some core) b e h = cc
+none_told (Some k) memory r o b e h = cc
 
 plain_told : (cell : Option Cell) (what : AbsRead) → (what ≡ read.Nothing) ⊎ (what ≡ read.Top) → IsTold cell what
 plain_told None what h = tt
@@ -182,10 +215,10 @@ conditional_read (op.CallIf k w) c h = inl refl
 conditional_read (op.ReturnIf k) c h = inr refl
 conditional_read o c h = absurd (no_condition h)
 
-pub IsTold-taken : (o : Op) (cells : List Cell) (core c : Core) (r : Relations) (b : Branch) → taken_side o cells core r ≡ Some b → IsTold b.cell (read_of o c)
+pub IsTold-taken : (o : Op) (memory : Val) (core c : Core) (r : Relations) (b : Branch) → taken_side o memory core r ≡ Some b → IsTold b.cell (read_of o c)
 unfolding taken_side
-IsTold-taken o cells core c r b e = choose (is_some (Flags.condition_of o)) refl
+IsTold-taken o memory core c r b e = choose (is_some (Flags.condition_of o)) refl
   where
     choose : (t : Bool) → is_some (Flags.condition_of o) ≡ t → IsTold b.cell (read_of o c)
     choose true h = plain_told b.cell (read_of o c) (conditional_read o c h)
-    choose false h = subst (λ (cell : Option Cell). IsTold cell (read_of o c)) (sym (none_told (Flags.condition_of o) cells r _ b e h)) tt
+    choose false h = subst (λ (cell : Option Cell). IsTold cell (read_of o c)) (sym (none_told (Flags.condition_of o) memory r _ b e h)) tt

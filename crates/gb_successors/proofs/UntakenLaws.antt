@@ -47,6 +47,7 @@ use Rattle.gb_successors.proofs.PlainLaws.{Keeps, Keeps-both, Keeps-cut}
 use Rattle.gb_successors.proofs.RelatedLaws.{MeansParts-related, HoldRelations-same}
 use Rattle.gb_successors.proofs.SuccessorLaws.{begun, given, effect, begun_pc, begun_sp, left_by, executed_is, faults_are, MeansParts-ended, passed_peek, bytes-least}
 use Rattle.gb_successors.proofs.StackWayLaws.{no_write, nothing_stored, no_store_faults}
+use Rattle.gb_domain.specs.declared.types.Val.{Val}
 
 -- ---- not taken
 
@@ -139,8 +140,8 @@ untaken_executes z rom region ranges row a s entry base x reads c r stands runs 
 -- ---- sides
 
 -- a side keeps what its own core keeps
-pub keeps_side : (s settled : Core) (cells : List Cell) (r : Relations) (b : Branch) → Keeps s settled → IsSideOf cells settled r b → Keeps s b.core
-keeps_side s settled cells r b h is = Keeps-both s settled b.core h (Keeps-cut settled b.core is.core)
+pub keeps_side : (s settled : Core) (memory : Val) (r : Relations) (b : Branch) → Keeps s settled → IsSideOf memory settled r b → Keeps s b.core
+keeps_side s settled memory r b h is = Keeps-both s settled b.core h (Keeps-cut settled b.core is.core)
 
-pub side_facts : (o : Option Branch) (b : Branch) (cells : List Cell) (c : Core) (r : Relations) → o ≡ Some b → IfSome o (IsSideOf cells c r) → IsSideOf cells c r b
-side_facts o b cells c r e h = subst (λ (p : Option Branch). IfSome p (IsSideOf cells c r)) e h
+pub side_facts : (o : Option Branch) (b : Branch) (memory : Val) (c : Core) (r : Relations) → o ≡ Some b → IfSome o (IsSideOf memory c r) → IsSideOf memory c r b
+side_facts o b memory c r e h = subst (λ (p : Option Branch). IfSome p (IsSideOf memory c r)) e h

@@ -57,22 +57,24 @@ use Rattle.gb_successors.specs.declared.stacks.Stack.{Stack}
 use Rattle.gb_successors.specs.declared.successors.Successors.{Successors}
 use Rattle.gb_successors.specs.Behind.{starts, written, with_cell_if, ended}
 use Rattle.gb_successors.specs.Way.{Successor}
-use Rattle.gb_successors.specs.Successors.{word_in, related_successor, relations_behind, taken_successor, untaken_successor, with_product, reduced_successor, product_before, taken_from, not_taken_from, staying_successor, woken, may_stay, stays, successors_of, taken_parts, said_successor, summary_behind}
+use Rattle.gb_successors.specs.Successors.{word_in, related_successor, relations_behind, taken_successor, untaken_successor, with_product, reduced_successor, product_before, taken_from, not_taken_from, staying_successor, woken, may_stay, stays, successors_of, taken_parts, said_successor, summary_behind, memory_before}
 use Rattle.gb_successors.specs.Summaries.{summary_by}
 use Rattle.gb_successors.specs.Sound.{bytes_behind, IsAllowed, Leads, LeadsSimply, LeadsParts, LeadsBy, IsHalt, IsHeld, IsStackKnown, Stands, IsRuled, IsStackRuled, Executes, AreSoundSuccessors}
 use Rattle.gb_successors.proofs.SimpleLaws.{behind_row, with_stack_of, simple_parts, IsTold, taken_simply}
-use Rattle.gb_successors.proofs.ToldLaws.{told_core, told_items, IsToldCell, IsToldCell-side, Stands-told, IsStackKnown-told, IsAllowed-told, IsTold-taken}
+use Rattle.gb_successors.proofs.ToldLaws.{told_core, told_items, IsToldCell, IsToldCell-side, Stands-told, IsStackKnown-told, IsAllowed-told, IsTold-taken, IsVal-memory_before, held_before}
 use Rattle.gb_successors.proofs.PlainLaws.{Keeps, Keeps-settle}
 use Rattle.gb_successors.proofs.MarkLaws.{executed_mark}
 use Rattle.gb_successors.proofs.SaidLaws.{Leads-summarized, Leads-said, IsAllowed-said}
 use Rattle.gb_successors.proofs.SettledLaws.{HoldSummary-settled}
 use Rattle.gb_successors.proofs.SummaryLaws.{HoldSummary-passed}
-use Rattle.gb_successors.proofs.RelatedLaws.{MeansParts-related, IsAllowed-parts, LeadsSimply-related, by_rules, related_begun, Leads-taken, HoldRelations-same}
+use Rattle.gb_successors.proofs.RelatedLaws.{MeansParts-related, IsAllowed-parts, LeadsSimply-related, by_rules, related_begun, Leads-taken, HoldRelations-same, values_begun}
 use Rattle.gb_successors.proofs.SuccessorLaws.{begun, given, effect, begun_core, MeansParts-ended, passed_peek, leads_simply, IsTaken, Done}
 use Rattle.gb_successors.proofs.ExtendedWayLaws.{before_of, executes_widely}
 use Rattle.gb_successors.proofs.HaltBugLaws.{halt_repeats_widely}
 use Rattle.gb_successors.proofs.UntakenLaws.{ended_room, bytes_ended, leads_at, simple_untaken, untaken_simply, bytes_untaken, untaken_executes, keeps_side, side_facts}
 use Rattle.gb_successors.proofs.StackWayLaws.{taken_executes}
+use Rattle.gb_product.proofs.ReducedLaws.{Holds-values}
+use Rattle.gb_product.specs.Below.gb_relations.Transfer.{values_of}
 
 -- ---- executed
 
@@ -87,7 +89,7 @@ unfolding reduced_successor
 whole_successor rules t h = ap (option_map (with_product t)) (reduced_simply rules t.state.core t.state.relations h)
 
 taken_way : (k : Stack) (program : Program) (rom : List ℕ) (row : Row) (a : ℕ) (s : AbsState) (b : Branch) → k.setting.rules ≡ Simple
-    → taken_side row.op s.cells (core_settle s.core) s.relations ≡ Some b
+    → taken_side row.op (memory_before program s (product_of (core_settle s.core) s.relations)) (core_settle s.core) s.relations ≡ Some b
     → (successors_of k program rom row a s).taken ≡ Some (taken_successor k program rom row (behind_row a row) s b)
 unfolding successors_of product_before
 taken_way k program rom row a s b h e =
@@ -97,12 +99,12 @@ taken_way k program rom row a s b h e =
     ∙ whole_successor k.setting.rules (taken_successor k program rom row next s b) h)
 
 untaken_way : (k : Stack) (program : Program) (rom : List ℕ) (row : Row) (a : ℕ) (s : AbsState) (b : Branch) → k.setting.rules ≡ Simple
-    → not_taken_side row.op s.cells (core_settle s.core) s.relations ≡ Some b
+    → not_taken_side row.op (memory_before program s (product_of (core_settle s.core) s.relations)) (core_settle s.core) s.relations ≡ Some b
     → (successors_of k program rom row a s).not_taken ≡ Some (untaken_successor k row (behind_row a row) s b)
 unfolding successors_of product_before
 untaken_way k program rom row a s b h e =
     let next = behind_row a row in
-    ap (option_and_then (not_taken_from k row next s)) (reduced_simply k.setting.rules (core_settle s.core) s.relations h)
+    ap (option_and_then (not_taken_from k program row next s)) (reduced_simply k.setting.rules (core_settle s.core) s.relations h)
     ∙ (ap (option_and_then (λ (c : Branch). reduced_successor k.setting.rules (untaken_successor k row next s c))) e
     ∙ whole_successor k.setting.rules (untaken_successor k row next s b) h)
 
@@ -151,27 +153,36 @@ stack_simply k program rom row a s base e h = subst (λ r. IsStackRuled r k prog
 
 executes_simply :
     (k : Stack) (program : Program) (rom : List ℕ) (row : Row) (a : ℕ) (s : AbsState) (ranges : List Range) (entry : Activation) (base : ℕ) (x : MState) (reads : List ℕ)
-    → k.setting.rules ≡ Simple → Stands k.setting rom k.region row a s entry base x → IsRuled k program rom row a s base → x.processor.halt_mark ≡ false → slice_index reads 0 ≤ 255
+    → k.setting.rules ≡ Simple → entry.program ≡ program → Stands k.setting rom k.region row a s entry base x → IsRuled k program rom row a s base → x.processor.halt_mark ≡ false → slice_index reads 0 ≤ 255
     → Executes k program rom ranges row a s (successors_of k program rom row a s) entry base x reads
-executes_simply k program rom row a s ranges entry base x reads simple stands ruled mark byte =
+executes_simply k program rom row a s ranges entry base x reads simple of stands ruled mark byte =
     choose (effect rom row x reads).is_taken refl
   where
     settled : Core
     settled = core_settle s.core
 
-    known : IsKnown s.cells s.relations entry (begun row x)
-    known = record { memory = stands.means.parts.memory; cells = stands.means.parts.cells; related = related_begun row x s.relations stands.means.related }
+    memory : Val
+    memory = memory_before program s (product_of settled s.relations)
 
     begins : MeansCore settled entry (begun row x)
     begins = begun_core row x s.core entry stands.means.parts.core
 
-    by_taken : (o : Option Branch) → taken_side row.op s.cells settled s.relations ≡ o → (effect rom row x reads).is_taken ≡ true → IsMeantBranch o entry (begun row x)
+    related : AreRelated s.relations (begun row x)
+    related = related_begun row x s.relations stands.means.related
+
+    known : IsKnown memory s.relations entry (begun row x)
+    known = record {
+      byte = held_before s (product_of settled s.relations) entry base x program of stands.means.parts stands.means.summary (values_begun row x (values_of settled.registers s.relations.pairs) (Holds-values settled s.relations entry (begun row x) begins related));
+      related = related;
+    }
+
+    by_taken : (o : Option Branch) → taken_side row.op memory settled s.relations ≡ o → (effect rom row x reads).is_taken ≡ true → IsMeantBranch o entry (begun row x)
         → Executes k program rom ranges row a s (successors_of k program rom row a s) entry base x reads
     by_taken None e taken h = absurd h
     by_taken (Some b) e taken h =
-        let is = side_facts _ b s.cells settled s.relations e (taken_side_cuts row.op s.cells settled s.relations _ refl) in
+        let is = side_facts _ b memory settled s.relations e (taken_side_cuts row.op memory settled s.relations _ refl) in
         let told = with_cell_if k.setting b.cell s in
-        let cell : IfSome b.cell (IsToldCell k.region entry x) = IsToldCell-side k.region s.cells settled s.relations b entry x stands.free stands.vals is h.cell in
+        let cell : IfSome b.cell (IsToldCell k.region entry x) = IsToldCell-side k.region memory settled s.relations b entry x stands.free (IsVal-memory_before program s (product_of settled s.relations) stands.vals) is h.cell in
         let t : IsTaken k.setting rom k.region ranges row a told entry base x reads b.core = record {
           stands = Stands-told k.setting rom k.region row a b.cell s entry base x cell stands;
           rules = simple;
@@ -180,7 +191,7 @@ executes_simply k program rom row a s ranges entry base x reads simple stands ru
           stack = IsStackKnown-told k.setting k.region row.op b.cell s base (stack_simply k program rom row a s base simple ruled);
           mark = mark;
           byte = byte;
-          keeps = subst (λ c. Keeps c b.core) (sym (told_core k.setting b.cell s)) (keeps_side s.core settled s.cells s.relations b (Keeps-settle s.core) is);
+          keeps = subst (λ c. Keeps c b.core) (sym (told_core k.setting b.cell s)) (keeps_side s.core settled memory s.relations b (Keeps-settle s.core) is);
           means = h.core;
           core = is.inhabited (IsCore-settle s.core stands.core);
           taken = taken;
@@ -193,21 +204,21 @@ executes_simply k program rom row a s ranges entry base x reads simple stands ru
         (IsAllowed-said k.setting rom k.region ranges s base no_summary (simple_related k program rom row (behind_row a row) s b) allowed))) in
         record {
           successor = simple_taken k program rom row (behind_row a row) s b;
-          is_one = inl (taken_way k program rom row a s b simple e ∙ ap Some (taken_is k program rom row (behind_row a row) s b simple (IsTold-taken row.op s.cells settled b.core s.relations b e)));
+          is_one = inl (taken_way k program rom row a s b simple e ∙ ap Some (taken_is k program rom row (behind_row a row) s b simple (IsTold-taken row.op memory settled b.core s.relations b e)));
           mark = executed_mark rom x row reads;
           held = λ allowed. held_simply k program rom row a s (simple_taken k program rom row (behind_row a row) s b) simple (subst (λ items. length parts.state.items ≤ bytes_behind row.op (length items)) (told_items k.setting b.cell s) (done allowed).held);
           leads = λ allowed. Leads-behind k program rom ranges row a s entry base x reads b t h.related (done allowed).leads;
           faults = λ allowed. (done allowed).faults;
         }
 
-    by_not_taken : (o : Option Branch) → not_taken_side row.op s.cells settled s.relations ≡ o → (effect rom row x reads).is_taken ≡ false → IsMeantBranch o entry (begun row x)
+    by_not_taken : (o : Option Branch) → not_taken_side row.op memory settled s.relations ≡ o → (effect rom row x reads).is_taken ≡ false → IsMeantBranch o entry (begun row x)
         → Executes k program rom ranges row a s (successors_of k program rom row a s) entry base x reads
     by_not_taken None e not_taken h = absurd h
     by_not_taken (Some b) e not_taken h =
-        let is = side_facts _ b s.cells settled s.relations e (not_taken_side_cuts row.op s.cells settled s.relations _ refl) in
+        let is = side_facts _ b memory settled s.relations e (not_taken_side_cuts row.op memory settled s.relations _ refl) in
         let told = with_cell_if k.setting b.cell s in
-        let cell : IfSome b.cell (IsToldCell k.region entry x) = IsToldCell-side k.region s.cells settled s.relations b entry x stands.free stands.vals is h.cell in
-        let keeps : Keeps told.core b.core = subst (λ c. Keeps c b.core) (sym (told_core k.setting b.cell s)) (keeps_side s.core settled s.cells s.relations b (Keeps-settle s.core) is) in
+        let cell : IfSome b.cell (IsToldCell k.region entry x) = IsToldCell-side k.region memory settled s.relations b entry x stands.free (IsVal-memory_before program s (product_of settled s.relations) stands.vals) is h.cell in
+        let keeps : Keeps told.core b.core = subst (λ c. Keeps c b.core) (sym (told_core k.setting b.cell s)) (keeps_side s.core settled memory s.relations b (Keeps-settle s.core) is) in
         let done = untaken_executes k.setting rom k.region ranges row a told entry base x reads b.core b.relations (Stands-told k.setting rom k.region row a b.cell s entry base x cell stands) ruled.runs mark keeps h.core h.related not_taken in
         record {
           successor = simple_untaken row (behind_row a row) told b.core b.relations;
@@ -221,9 +232,9 @@ executes_simply k program rom row a s ranges entry base x reads simple stands ru
 
     choose : (b : Bool) → (effect rom row x reads).is_taken ≡ b → Executes k program rom ranges row a s (successors_of k program rom row a s) entry base x reads
     choose true e =
-        by_taken _ refl e ((taken_side_sound row.op s.cells settled s.relations _ refl stands.pairs).gives entry (begun row x) (given rom row x reads).low (given rom row x reads).high known begins e)
+        by_taken _ refl e ((taken_side_sound row.op memory settled s.relations _ refl stands.pairs).gives entry (begun row x) (given rom row x reads).low (given rom row x reads).high known begins e)
     choose false e =
-        by_not_taken _ refl e ((not_taken_side_sound row.op s.cells settled s.relations _ refl stands.pairs).gives entry (begun row x) (given rom row x reads).low (given rom row x reads).high known begins e)
+        by_not_taken _ refl e ((not_taken_side_sound row.op memory settled s.relations _ refl stands.pairs).gives entry (begun row x) (given rom row x reads).low (given rom row x reads).high known begins e)
 
 -- ---- HALT
 
@@ -310,9 +321,9 @@ repeated_core s entry x off m = record {
   stopped = m.stopped;
 }
 
-halt_side : (row : Row) (cells : List Cell) (c : Core) (r : Relations) → row.op ≡ op.Halt → taken_side row.op cells c r ≡ Some (record { core = c; relations = r; cell = None })
+halt_side : (row : Row) (memory : Val) (c : Core) (r : Relations) → row.op ≡ op.Halt → taken_side row.op memory c r ≡ Some (record { core = c; relations = r; cell = None })
 unfolding taken_side Flags.sides_of
-halt_side row cells c r e = ap (λ (o : Op). side_where (Flags.condition_of o) cells r (Flags.sides_by (Flags.condition_of o) c).taken) e
+halt_side row memory c r e = ap (λ (o : Op). side_where (Flags.condition_of o) memory r (Flags.sides_by (Flags.condition_of o) c).taken) e
 
 halt_state : (z : Setting) (rom : List ℕ) (region : Region) (row : Row) (a : ℕ) (s : AbsState) (c : Core) → IsHalt row → (simple_parts z rom region row (behind_row a row) s c).state ≡ ended false 1 (with_core s c)
 unfolding simple_parts transfer written starts with_stack_of
@@ -359,7 +370,7 @@ halt_repeats_simply k program rom row a s ranges entry base x simple stands halt
     }) in
     record {
       successor = simple_taken k program rom row (behind_row a row) s b;
-      is_way = taken_way k program rom row a s b simple (halt_side row s.cells c s.relations halt.op_is) ∙ ap Some (taken_is k program rom row (behind_row a row) s b simple tt);
+      is_way = taken_way k program rom row a s b simple (halt_side row (memory_before program s (product_of c s.relations)) c s.relations halt.op_is) ∙ ap Some (taken_is k program rom row (behind_row a row) s b simple tt);
       held = subst (λ (u : AbsState). length u.items ≤ length s.items) (sym (halt_state k.setting rom k.region row a s c halt)) (bytes_ended 1 (with_core s c));
       leads = Leads-said k.setting k.region ranges no_summary (related_successor (relations_behind k program rom row.op s (product_of c s.relations)) t) entry base x y
           (record {
@@ -379,7 +390,7 @@ executes :
 executes k program rom row a s ranges entry base x reads of stands ruled mark byte = by k.setting.rules refl
   where
     by : (r : Rules) → k.setting.rules ≡ r → Executes k program rom ranges row a s (successors_of k program rom row a s) entry base x reads
-    by Simple e = executes_simply k program rom row a s ranges entry base x reads e stands ruled mark byte
+    by Simple e = executes_simply k program rom row a s ranges entry base x reads e of stands ruled mark byte
     by Extended e = executes_widely k program rom row a s ranges entry base x reads e of stands ruled mark byte
 
 halt_repeats :

@@ -1,6 +1,5 @@
 -- The stack's instructions: what they read and write, where they go on, and what they make of the bytes that are held.
-use Rattle.std.proofs.Common.{◌≡◌, ℕ, ◌+◌, ◌/◌, ◌%◌, ◌≤◌, true, false, cond, nat_lt, ◌-◌, List, length, slice_index_or, refl, sym, ◌∙◌, ap, arith}
-use Rattle.std.proofs.lemmas.Bool.Decides.{nat_tests}
+use Rattle.std.proofs.Common.{◌≡◌, ℕ, ◌+◌, ◌/◌, ◌%◌, true, false, cond, nat_lt, length, refl, ap}
 use Rattle.gb_ops.specs.declared.op.Op.{Op}
 use Rattle.gb_ops.specs.declared.op.Op.TheVariants as op
 use Rattle.gb_domain.specs.declared.setting.Setting.{Setting}
@@ -10,8 +9,7 @@ use Rattle.gb_domain.specs.declared.types.Halves.{Halves}
 use Rattle.gb_domain.specs.Types.{AbsState}
 use Rattle.gb_domain.specs.Limits.{item_room}
 use Rattle.gb_product.specs.Below.gb_vals.Vals.{single}
-use Rattle.gb_product.specs.Below.gb_abs.Stack.{pushed, popped, youngest, last_word}
-use Rattle.gb_product.proofs.Below.gb_abs_laws.StackLaws.{youngest_is}
+use Rattle.gb_product.specs.Below.gb_abs.Stack.{pushed, popped}
 use Rattle.gb_product.specs.Below.gb_abs_effects.declared.reads.AbsRead.TheVariants as read
 use Rattle.gb_product.specs.Below.gb_abs_effects.declared.writes.AbsWrite.{AbsWrite}
 use Rattle.gb_product.specs.Below.gb_abs_effects.declared.writes.AbsWrite.TheVariants as write
@@ -19,9 +17,7 @@ use Rattle.gb_product.specs.Below.gb_abs_effects.declared.targets.Target.TheVari
 use Rattle.gb_product.specs.Below.gb_abs_effects.Accesses.{read_of}
 use Rattle.gb_product.specs.Below.gb_abs_effects.Targets.{target_of, is_push, is_pop, is_call, is_return}
 use Rattle.gb_product.specs.Below.gb_abs_effects.Transfer.{transfer}
-use Rattle.gb_product.specs.Below.gb_abs_effects.Pairs.{any_word}
 use Rattle.gb_successors.specs.Stacks.{pushed_if_room}
-use Rattle.gb_successors.specs.Words.{word_or_any}
 use Rattle.gb_successors.proofs.SimpleLaws.{with_stack_of}
 
 -- an instruction of another class
@@ -87,20 +83,3 @@ IsReturn-is_return z o next sp c low high h = absurd (no_other h)
 pub pushed-if_room : (z : Setting) (i : Halves) (s : AbsState) → nat_lt (item_room z.rules) (length s.items + 2) ≡ false → pushed_if_room z i s ≡ pushed i s
 unfolding pushed_if_room
 pushed-if_room z i s h = ap (λ b. cond b s (pushed i s)) h
-
--- ---- what is known of the word that was pushed last
-
-pub top_word_is :
-    (s : AbsState) (items : List Val) (d : Val) → items ≡ s.items → 2 ≤ length items
-    → record { high = slice_index_or items (length items - 2) d; low = slice_index_or items (length items - 1) d } ≡ word_or_any (youngest s)
-top_word_is s items d same some = sym (ap word_or_any (youngest_is s items d same some))
-
-pub no_word_is : (s : AbsState) (items : List Val) → items ≡ s.items → (2 ≤ length items → ⊥) → any_word ≡ word_or_any (youngest s)
-unfolding youngest
-no_word_is s items same few = sym (ap (λ xs. word_or_any (last_word xs)) (sym same) ∙ none)
-  where
-    short : nat_lt (length items) 2 ≡ true
-    short = grind (arith, nat_tests)
-
-    none : word_or_any (last_word items) ≡ any_word
-    none = rw short refl

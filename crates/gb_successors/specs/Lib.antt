@@ -6,7 +6,6 @@ pub mod Summaries
 pub mod Successors
 pub mod Refused
 pub mod Sound
-pub mod Words
 pub mod Way
 pub mod Below
 pub mod Opened

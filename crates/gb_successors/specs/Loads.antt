@@ -21,14 +21,13 @@ use Rattle.gb_product.specs.Below.gb_abs.Stack.{youngest}
 use Rattle.gb_product.specs.Below.gb_abs.Storage.{is_ram}
 use Rattle.gb_product.specs.Below.gb_abs_effects.declared.reads.AbsRead.{AbsRead}
 use Rattle.gb_product.specs.Below.gb_abs_effects.declared.reads.AbsRead.TheVariants as read
-use Rattle.gb_product.specs.Below.gb_abs_effects.Pairs.{any_word}
+use Rattle.gb_product.specs.Below.gb_abs_effects.Pairs.{any_word, word_or_any}
 use Rattle.gb_product.specs.Below.gb_pairs.declared.values.Values.{Values}
 use Rattle.gb_product.specs.Below.gb_summaries.Below.gb_ram_bounds.declared.addresses.AddressSet.{AddressSet}
 use Rattle.gb_product.specs.Below.gb_summaries.Below.gb_ram_bounds.Addresses.{joined_over}
 use Rattle.gb_product.specs.Covering.{uncopied, byte_in}
 use Rattle.gb_code.specs.Below.gb_abs_memory.Access.{home_of, is_table, loaded_val}
 use Rattle.gb_code.specs.Below.gb_abs_memory.Shown.{known_bank}
-use Rattle.gb_successors.specs.Words.{word_or_any}
 
 -- what is known of what is read by cells alone: of a byte, or of the word that was pushed last
 unfoldable pub read_word : Setting → List ℕ → AbsState → AbsRead → Halves

@@ -31,7 +31,7 @@ use Rattle.gb_successors.specs.declared.stacks.StackMove.{StackMove}
 use Rattle.gb_product.specs.declared.parts.Branch.{Branch}
 use Rattle.gb_product.specs.declared.parts.Product.{Product}
 use Rattle.gb_product.specs.Reduced.{product_of, reduced}
-use Rattle.gb_product.specs.Sides.{taken_side, not_taken_side}
+use Rattle.gb_product.specs.Sides.{memory_of, taken_side, not_taken_side}
 use Rattle.gb_product.specs.Below.gb_relations.Pointers.{pointer_bounds, known_carry}
 use Rattle.gb_product.specs.Below.gb_relations.Transfer.{relations_after, values_of}
 use Rattle.gb_successors.specs.Behind.{ended, with_relations, with_summary, with_cell_if, moved_state, core_behind}
@@ -39,6 +39,7 @@ use Rattle.gb_successors.specs.Refined.{cut_read, refined, refined_target}
 use Rattle.gb_successors.specs.Stacks.{stack_move}
 use Rattle.gb_successors.specs.Loads.{word_by}
 use Rattle.gb_successors.specs.Summaries.{pointed_bits, summary_by}
+use Rattle.gb_domain.specs.declared.types.Val.{Val}
 
 -- ---- successors
 
@@ -149,20 +150,24 @@ stays row a s = if may_stay row.op s.core then Some (staying_successor a s) else
 unfoldable pub product_before : Rules → AbsState → Option Product
 product_before rules s = reduced rules (core_settle s.core) s.relations
 
+-- what is known of the byte at the address among the places
+abbrev pub memory_before : Program → AbsState → Product → Val
+memory_before program s p = memory_of program (values_of p.core.registers p.relations.pairs) s.cells s.summary p.relations.byte.address
+
 abbrev pub taken_from : Stack → Program → List ℕ → Row → ℕ → AbsState → Product → Option Successor
 taken_from k program rom row next s p =
-    option_and_then (λ b. reduced_successor k.setting.rules (taken_successor k program rom row next s b)) (taken_side row.op s.cells p.core p.relations)
+    option_and_then (λ b. reduced_successor k.setting.rules (taken_successor k program rom row next s b)) (taken_side row.op (memory_before program s p) p.core p.relations)
 
-abbrev pub not_taken_from : Stack → Row → ℕ → AbsState → Product → Option Successor
-not_taken_from k row next s p =
-    option_and_then (λ b. reduced_successor k.setting.rules (untaken_successor k row next s b)) (not_taken_side row.op s.cells p.core p.relations)
+abbrev pub not_taken_from : Stack → Program → Row → ℕ → AbsState → Product → Option Successor
+not_taken_from k program row next s p =
+    option_and_then (λ b. reduced_successor k.setting.rules (untaken_successor k row next s b)) (not_taken_side row.op (memory_before program s p) p.core p.relations)
 
 -- each of the possible successors of the instruction at an address
 abbrev pub way_taken : Stack → Program → List ℕ → Row → ℕ → AbsState → Option Successor
 way_taken k program rom row a s = option_and_then (taken_from k program rom row ((a + row.length) % 65536) s) (product_before k.setting.rules s)
 
-abbrev pub way_not_taken : Stack → Row → ℕ → AbsState → Option Successor
-way_not_taken k row a s = option_and_then (not_taken_from k row ((a + row.length) % 65536) s) (product_before k.setting.rules s)
+abbrev pub way_not_taken : Stack → Program → Row → ℕ → AbsState → Option Successor
+way_not_taken k program row a s = option_and_then (not_taken_from k program row ((a + row.length) % 65536) s) (product_before k.setting.rules s)
 
 abbrev pub way_staying : Rules → Row → ℕ → AbsState → Option Successor
 way_staying rules row a s = option_and_then (λ (p : Product). stays row a s) (product_before rules s)
@@ -170,7 +175,7 @@ way_staying rules row a s = option_and_then (λ (p : Product). stays row a s) (p
 -- all of them
 unfoldable pub successors_of : Stack → Program → List ℕ → Row → ℕ → AbsState → Successors
 successors_of k program rom row a s =
-    record { taken = way_taken k program rom row a s; not_taken = way_not_taken k row a s; stays = way_staying k.setting.rules row a s }
+    record { taken = way_taken k program rom row a s; not_taken = way_not_taken k program row a s; stays = way_staying k.setting.rules row a s }
 
 -- ---- tests of all of them
 

@@ -40,6 +40,6 @@ pub use gb_domain::types::{
 };
 pub use gb_product::covering::covers;
 pub use gb_product::parts::Product;
-pub use gb_product::reduced::{reduce, reduced};
+pub use gb_product::reduced::{reduce, reduced, reduced_wholly};
 pub use gb_product::sides::{not_taken_side, taken_side};
 pub use gb_product::{AbsRead, AbsWrite, Program, Target};

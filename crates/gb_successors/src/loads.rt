@@ -9,7 +9,6 @@ ghost use Rattle.gb_domain.specs.Interval.{any_byte, bounds as all_from};
 ghost use Rattle.gb_domain.specs.Values.{interval_of as interval};
 ghost use Rattle.gb_product.specs.Below.gb_vals.Vals.{any_val};
 ghost use Rattle.gb_product.specs.Below.gb_abs.Operations.{with_core};
-ghost use Rattle.gb_product.specs.Below.gb_abs.Stack.{youngest};
 ghost use Rattle.gb_product.specs.Below.gb_abs_effects.declared.reads.AbsRead.TheVariants.{Byte};
 ghost use Rattle.gb_product.specs.Below.gb_relations.Transfer.{values_of};
 ghost use Rattle.gb_product.specs.Covering.{byte_in as known_in};
@@ -17,7 +16,6 @@ ghost use Rattle.gb_code.specs.Below.gb_abs_memory.Access.{home_of as home};
 ghost use Rattle.gb_product.specs.Below.gb_summaries.Below.gb_ram_bounds.Addresses.{joined_with as joined_so, or_any as any_if_none, joined_over};
 ghost use Rattle.gb_successors.specs.Loads as Loads;
 ghost use Rattle.gb_successors.specs.Summaries as Summaries;
-ghost use Rattle.gb_successors.specs.Words.{word_or_any};
 
 use crate::said::pointed_bits;
 use crate::stacks::Stack;
@@ -31,7 +29,7 @@ use gb_domain::values::interval_of;
 use gb_ops::machine::Region;
 use gb_ops::op::{Op, Row};
 use gb_product::{
-    AbsRead, AddressSet, Program, Span, Values, any, any_word, byte_in, is_in, uncopied,
+    AbsRead, AddressSet, Program, Span, Values, any, any_word, byte_in, is_in, top_word, uncopied,
 };
 
 /// An instruction that is taken, and the side that it is taken from, which is settled.
@@ -58,21 +56,6 @@ impl<'w, 'a> TakenSide<'w, 'a> {
             registers: self.core.registers,
             pairs: self.relations.pairs,
         }
-    }
-}
-
-/// The word that was pushed last, as far as it is known.
-#[inline(never)]
-#[tactic(auto, using(crate::proofs::WordLaws::top_word_is, crate::proofs::WordLaws::no_word_is))]
-fn top_word(state: &Abs) -> Halves
-    ensures { result ≡ word_or_any (youngest state.now) }
-{
-    match state.items() {
-        [.., high, low] => Halves {
-            high: *high,
-            low: *low,
-        },
-        _ => any_word(),
     }
 }
 

@@ -1,23 +1,24 @@
 //! All successors of an instruction.
 
-ghost use Rattle.std.specs.Prelude.{◌≡◌, ◌+◌, ◌%◌, false, List, Some, None};
+ghost use Rattle.std.specs.Prelude.{◌≡◌, ◌+◌, ◌%◌, false, Some, None};
 ghost use Rattle.gb_domain.specs.declared.relations.Relations.{Relations};
-ghost use Rattle.gb_domain.specs.declared.types.Cell.{Cell};
 ghost use Rattle.gb_domain.specs.declared.types.Core.{Core};
+ghost use Rattle.gb_domain.specs.declared.types.Val.{Val};
 ghost use Rattle.gb_product.specs.Sides.{taken_side, not_taken_side};
 ghost use Rattle.gb_successors.specs.Successors as Succession;
 ghost use Rattle.gb_successors.specs.Sound.{AreSoundSuccessors};
+ghost use Rattle.gb_product.specs.Reduced.{product_of};
 
 use crate::stacks::Stack;
 use crate::successor::{Successor, staying_successor, taken_successor, untaken_successor};
 use gb_code::Rom;
-use gb_domain::types::{Abs, Core, Rules};
-use gb_ops::machine::Kind;
+use gb_domain::relations::Relations;
+use gb_domain::types::{Abs, Core, Rules, Val};
 use gb_ops::op::{Op, Row};
 use gb_product::parts::{Branch, Product};
 use gb_product::reduced::reduced;
-use gb_product::sides::{not_taken_side, taken_side};
-use gb_product::{Program, condition_of, may_enable, settle};
+use gb_product::sides::{memory_of, not_taken_side, taken_side};
+use gb_product::{Program, Values, condition_of, may_enable, settle};
 
 /// The possible successors of an instruction.
 #[derive(Drop)]
@@ -75,10 +76,22 @@ pub fn product_before(rules: Rules, state: &Abs) -> Option<Product>
 /// Whether an instruction has a condition. Where it has none it is always taken, and nothing is cut.
 #[tactic(auto, unfolding(gb_product::specs::Sides::taken_side, gb_product::specs::Sides::not_taken_side, crate::specs::Opened::sides_of))]
 pub fn has_condition(op: Op) -> bool
-    ensures taken { result ≡ false → (cells : List Cell) (core : Core) (r : Relations) → taken_side op cells core r ≡ Some (record { core = core; relations = r; cell = None }) }
-    ensures not_taken { result ≡ false → (cells : List Cell) (core : Core) (r : Relations) → not_taken_side op cells core r ≡ None }
+    ensures taken { result ≡ false → (memory : Val) (core : Core) (r : Relations) → taken_side op memory core r ≡ Some (record { core = core; relations = r; cell = None }) }
+    ensures not_taken { result ≡ false → (memory : Val) (core : Core) (r : Relations) → not_taken_side op memory core r ≡ None }
 {
     condition_of(op).is_some()
+}
+
+/// What is known of the byte at the address among the places.
+pub fn memory_before(program: &Program<'_>, state: &Abs, core: &Core, relations: &Relations) -> Val
+    ensures { result ≡ Succession.memory_before program.now state.now (product_of core.now relations.now) }
+{
+    let values = Values {
+        registers: core.registers,
+        pairs: relations.pairs,
+    };
+    let address = relations.byte.address;
+    memory_of(program, &values, state.cells(), state.summary(), address)
 }
 
 /// A successor is reduced and put in the place of none, where something is meant by it.
@@ -126,7 +139,9 @@ fn put_taken_side<'a>(
     requires { way.old ≡ None }
     ensures { way.new ≡ Succession.taken_from stack program.now rom.now row next state.now product.now }
 {
-    if let Some(side) = taken_side(row.op, state.cells(), &product.core, &product.relations) {
+    let (core, relations) = (&product.core, &product.relations);
+    let memory = memory_before(program, state, core, relations);
+    if let Some(side) = taken_side(row.op, memory, core, relations) {
         put_reduced(
             stack.setting.rules,
             side_successor(stack, program, rom, row, next, state, &side),
@@ -163,7 +178,8 @@ fn put_taken_from<'a>(
 #[inline(never)]
 fn put_untaken<'a>(
     stack: Stack,
-    kind: Kind,
+    program: &Program<'_>,
+    rom: &Rom<'_>,
     row: Row,
     next: u16,
     state: &'a Abs,
@@ -171,12 +187,14 @@ fn put_untaken<'a>(
     way: &mut Option<Successor<'a>>,
 )
     requires { way.old ≡ None }
-    ensures { way.new ≡ Succession.not_taken_from stack row next state.now product.now }
+    ensures { way.new ≡ Succession.not_taken_from stack program.now row next state.now product.now }
 {
-    if let Some(side) = not_taken_side(row.op, state.cells(), &product.core, &product.relations) {
+    let (core, relations) = (&product.core, &product.relations);
+    let memory = memory_before(program, state, core, relations);
+    if let Some(side) = not_taken_side(row.op, memory, core, relations) {
         put_reduced(
             stack.setting.rules,
-            untaken_successor(stack, kind, row, next, state, &side),
+            untaken_successor(stack, rom.kind(), row, next, state, &side),
             way,
         );
     }
@@ -185,7 +203,8 @@ fn put_untaken<'a>(
 /// Where there is no condition, it isn't asked for.
 fn put_untaken_from<'a>(
     stack: Stack,
-    kind: Kind,
+    program: &Program<'_>,
+    rom: &Rom<'_>,
     row: Row,
     next: u16,
     state: &'a Abs,
@@ -193,10 +212,10 @@ fn put_untaken_from<'a>(
     way: &mut Option<Successor<'a>>,
 )
     requires { way.old ≡ None }
-    ensures { way.new ≡ Succession.not_taken_from stack row next state.now product.now }
+    ensures { way.new ≡ Succession.not_taken_from stack program.now row next state.now product.now }
 {
     if has_condition(row.op) {
-        put_untaken(stack, kind, row, next, state, product, way);
+        put_untaken(stack, program, rom, row, next, state, product, way);
     }
 }
 
@@ -242,7 +261,8 @@ fn put_taken<'a>(
 #[inline(always)]
 fn put_not_taken<'a>(
     stack: Stack,
-    kind: Kind,
+    program: &Program<'_>,
+    rom: &Rom<'_>,
     row: Row,
     address: u16,
     state: &'a Abs,
@@ -251,10 +271,19 @@ fn put_not_taken<'a>(
 )
     requires before { before.now ≡ Succession.product_before stack.setting.rules state.now }
     requires none { way.old ≡ None }
-    ensures { way.new ≡ Succession.way_not_taken stack row address state.now }
+    ensures { way.new ≡ Succession.way_not_taken stack program.now row address state.now }
 {
     if let Some(product) = before {
-        put_untaken_from(stack, kind, row, behind(row, address), state, product, way);
+        put_untaken_from(
+            stack,
+            program,
+            rom,
+            row,
+            behind(row, address),
+            state,
+            product,
+            way,
+        );
     }
 }
 
@@ -317,7 +346,8 @@ fn each_way<'a>(
     );
     put_not_taken(
         stack,
-        rom.kind(),
+        program,
+        rom,
         row,
         address,
         state,

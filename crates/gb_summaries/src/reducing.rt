@@ -30,6 +30,13 @@ fn has_shadow(shadows: &Shadows) -> bool
     is_some_register(&shadows.registers) || shadows.address.is_some()
 }
 
+/// Whether a window's register has a shadow.
+pub fn is_shadowed(window: BankWindow, summary: &Summary) -> bool
+    ensures { result ≡ Reducing.has_shadow (Reducing.shadows_of window summary.now) }
+{
+    has_shadow(&shadows_of(window, summary))
+}
+
 fn values_if(is_place: bool, values: StridedInterval) -> StridedInterval
     ensures { result ≡ Reducing.values_if is_place values }
 {

@@ -21,7 +21,7 @@ use crate::{
     alu as plain_alu, bits as plain_bits, logic as plain_logic, low_logic, low_shifts, low_sums,
     shifts as plain_shifts, sums as plain_sums,
 };
-use gb_domain::interval::{low_bits_of, with_low_bits};
+use gb_domain::interval::{StridedInterval, low_bits_of, with_low_bits};
 use gb_domain::low_bits::LowBits;
 use gb_domain::types::{Flg, May, Val};
 use gb_domain::values::interval_of;
@@ -36,11 +36,11 @@ pub fn low_of(val: Val) -> LowBits
     low_bits_of(interval_of(val))
 }
 
-#[tactic(auto, unfolding(crate::specs::Strided::cut_to))]
-fn least_to_greatest(known: LowBits, val: Val) -> Val
-    ensures { result ≡ Strided.cut_to known val }
+/// A value of which these bytes are left; all of it where none is.
+pub fn left_of(val: Val, left: Option<StridedInterval>) -> Val
+    ensures { result ≡ Strided.left_of val left }
 {
-    match with_low_bits(val.lo, val.hi, known) {
+    match left {
         None => val,
         Some(left) => Val {
             lo: left.lo,
@@ -49,6 +49,13 @@ fn least_to_greatest(known: LowBits, val: Val) -> Val
             origin: val.origin,
         },
     }
+}
+
+#[tactic(auto, unfolding(crate::specs::Strided::cut_to))]
+fn least_to_greatest(known: LowBits, val: Val) -> Val
+    ensures { result ≡ Strided.cut_to known val }
+{
+    left_of(val, with_low_bits(val.lo, val.hi, known))
 }
 
 /// A computed value cut to low bits. Where none of its bytes has them, it stays as it is.

@@ -6,8 +6,8 @@ use Rattle.gb_text.specs.Below.gb_header.Header as Header
 use Rattle.gb_rules.specs.Below.gb_fields.declared.fault.CertFault.{CertFault}
 use Rattle.gb_rules.specs.Below.gb_fields.declared.fault.CertFault.TheVariants as fault
 use Rattle.gb_rules.specs.Below.gb_domain.Certificate.{Certificate}
-use Rattle.gb_rules.specs.Below.gb_states.Reading.{read_certificate}
-use Rattle.gb_rules.specs.Below.gb_states.Spelling.{Spells}
+use Rattle.gb_rules.specs.Below.gb_states.WholeReading.{read_certificate}
+use Rattle.gb_rules.specs.Below.gb_states.WholeSpelling.{Spells}
 use Rattle.gb_text.specs.Text.{GainsBeginning}
 use Rattle.gb_verify.specs.Verdict.{verdict_of, IsVerdict, IsRight}
 use Rattle.gb_verify.specs.Headline.{IsSafe, IfAccepted}

@@ -4,7 +4,7 @@ use Rattle.std.specs.Result.{OnOk, OnErr}
 use Rattle.gb_rules.specs.Below.gb_fields.declared.fault.CertFault.{CertFault}
 use Rattle.gb_rules.specs.Below.gb_fields.declared.fault.CertFault.TheVariants as fault
 use Rattle.gb_rules.specs.Below.gb_domain.Certificate.{Certificate}
-use Rattle.gb_rules.specs.Below.gb_states.Reading.{read_certificate}
+use Rattle.gb_rules.specs.Below.gb_states.WholeReading.{read_certificate}
 use Rattle.gb_text.specs.Sink.{Gains}
 use Rattle.gb_text.specs.Text.{GainsBeginning}
 use Rattle.gb_verify.specs.Text.{certificate_text}

@@ -6,7 +6,7 @@ use Rattle.gb_ops.specs.Play.{MState}
 use Rattle.gb_rules.specs.Below.gb_abs.Meaning.{Activation}
 use Rattle.gb_rules.specs.Below.gb_domain.Types.{Node}
 use Rattle.gb_rules.specs.Below.gb_domain.Certificate.{Certificate}
-use Rattle.gb_rules.specs.Below.gb_states.Rules.{IsCertificate}
+use Rattle.gb_rules.specs.Below.gb_states.WholeRules.{IsCertificate}
 use Rattle.gb_rules.specs.Below.gb_abs.declared.reason.Reason.{Reason}
 use Rattle.gb_rules.specs.Below.gb_abs_memory.Sound.{IsRom}
 use Rattle.gb_rules.specs.Procedures.{program_of}

@@ -3,7 +3,7 @@ use Rattle.std.proofs.Common.{◌≡◌, ℕ, false, List, subst}
 use Rattle.gb_ops.specs.declared.machine.Event.{Event}
 use Rattle.gb_ops.specs.Play.{MState, IsStart}
 use Rattle.gb_rules.specs.Below.gb_domain.Certificate.{Certificate}
-use Rattle.gb_rules.specs.Below.gb_states.Rules.{IsCertificate}
+use Rattle.gb_rules.specs.Below.gb_states.WholeRules.{IsCertificate}
 use Rattle.gb_rules.specs.Frames.{IsStanding}
 use Rattle.gb_rules.proofs.FrameRunLaws.{AreEventsSafe, IsSafeRun, IsStanding-start, IsStanding-running, run_safe}
 use Rattle.gb_verify.specs.Verdict.{is_bad_entry}

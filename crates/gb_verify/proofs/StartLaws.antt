@@ -23,7 +23,8 @@ use Rattle.gb_rules.specs.Below.gb_domain.declared.types.KeptBanks.{KeptBanks}
 use Rattle.gb_rules.specs.Below.gb_domain.Summaries.{Program}
 use Rattle.gb_rules.specs.Below.gb_domain.Types.{AbsState, ProcedureParts, Node}
 use Rattle.gb_rules.specs.Below.gb_domain.Values.{have_same}
-use Rattle.gb_rules.specs.Below.gb_states.Rules.{IsCertificate, is_of, have_entries}
+use Rattle.gb_rules.specs.Below.gb_states.Rules.{is_of, have_entries}
+use Rattle.gb_rules.specs.Below.gb_states.WholeRules.{IsCertificate}
 use Rattle.gb_rules.specs.Below.gb_domain.Certificate.{Certificate}
 use Rattle.gb_rules.specs.Below.gb_abs.Storage.{peek, peek_by}
 use Rattle.gb_rules.specs.Below.gb_abs.Meaning.{Activation, Holds, HoldsFlags, HoldsLowBank, KeepsBanks, MeansCore, MeansParts, IsMemory, origin_value, ime_may_be}

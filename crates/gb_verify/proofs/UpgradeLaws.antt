@@ -1,5 +1,5 @@
 -- An upgrade, from its parts.
-use Rattle.std.proofs.Common.{◌≡◌, ℕ, ◌+◌, true, false, nat_lt, ◌==◌, List, ◌++◌, drop, slice_get, Option, Some, Ok, Err, inl, inr, refl, sym, ◌∙◌, ap, subst, arith}
+use Rattle.std.proofs.Common.{◌≡◌, ℕ, ◌+◌, Bool, true, false, nat_lt, ◌==◌, List, ◌++◌, drop, slice_get, Option, Some, Ok, Err, inl, inr, refl, sym, ◌∙◌, ap, subst, arith}
 use Rattle.std.proofs.lemmas.Bool.Decides.{nat_tests}
 use Rattle.std.specs.List.{flat_map}
 use Rattle.std.proofs.lemmas.List.{drop_more}
@@ -10,13 +10,18 @@ use Rattle.gb_rules.specs.Below.gb_fields.Format.{GivesUnlessMemory}
 use Rattle.gb_rules.specs.Below.gb_domain.Types.{ProcedureParts}
 use Rattle.gb_rules.specs.Below.gb_domain.Certificate.{Certificate}
 use Rattle.gb_rules.specs.Below.gb_domain.Limits.{rules_of}
-use Rattle.gb_rules.specs.Below.gb_domain.declared.rules.Rules.TheVariants.{Extended}
-use Rattle.gb_rules.specs.Below.gb_states.Rules.{is_version, IsCertificate}
-use Rattle.gb_rules.specs.Below.gb_states.Reading.{read_certificate}
+use Rattle.gb_rules.specs.Below.gb_domain.declared.rules.Rules.{Rules}
+use Rattle.gb_rules.specs.Below.gb_domain.declared.rules.Rules.TheVariants.{Simple, Extended}
+use Rattle.gb_rules.specs.Below.gb_fields.Rules.{is_any_version}
+use Rattle.gb_rules.specs.Below.gb_states.Rules as older
+use Rattle.gb_rules.specs.Below.gb_states.WholeRules.{IsCertificate}
+use Rattle.gb_rules.specs.Below.gb_states.WholeSpelling as whole
+use Rattle.gb_rules.specs.Below.gb_states.WholeReading.{read_certificate}
 use Rattle.gb_rules.specs.Below.gb_states.Spelling as spelled
-use Rattle.gb_rules.specs.Below.gb_states.Spelling.{Spells}
+use Rattle.gb_rules.specs.Below.gb_states.WholeSpelling.{Spells}
 use Rattle.gb_rules.specs.Below.gb_cert.Places.{upgraded_version}
-use Rattle.gb_rules.proofs.Below.gb_cert_laws.Lending.{upgraded as is_upgraded}
+use Rattle.gb_rules.proofs.Below.gb_cert_laws.OlderBodies.{upgraded as is_upgraded}
+use Rattle.gb_rules.proofs.Below.gb_cert_laws.OlderLaws.{any_certificate, older_certificate, spelled_older}
 use Rattle.gb_text.specs.Sink.{Gains}
 use Rattle.gb_text.specs.Text.{GainsBeginning}
 use Rattle.gb_text.proofs.Gained.{gains_both, begins_first, begins_second}
@@ -24,7 +29,7 @@ use Rattle.gb_text.proofs.Remaining.{Remains, remains_less, remains_cut}
 use Rattle.gb_verify.specs.Text.{certificate_text}
 use Rattle.gb_verify.specs.CertificateFile.{text_of, HasBeginning}
 use Rattle.gb_verify.specs.Upgrade.{is_before, text_in, upgraded, upgraded_text, upgraded_to, written, fault_outcome, GainsUpgrade}
-use Rattle.gb_verify.specs.Widened.{widened_by}
+use Rattle.gb_verify.specs.Widened.{widened, widened_by}
 use Rattle.gb_verify.specs.declared.upgrade.UpgradeTo.{UpgradeTo}
 use Rattle.gb_verify.specs.declared.upgrade.UpgradeTo.TheVariants.{Two, Three}
 use Rattle.gb_verify.proofs.WidenedLaws.{is_widened}
@@ -83,47 +88,87 @@ procedures_text c = flat_map (spelled.procedure (upgraded_version c.version)) c.
 
 -- all nodes, which an upgrade leaves as they are
 abbrev nodes_text : Certificate → List ℕ
-nodes_text c = flat_map (spelled.node (rules_of c.version)) c.nodes
+nodes_text c = flat_map (whole.node_by (c.version == 4) c.version) c.nodes
 
--- a certificate in its three parts
-certificate_parts : (c : Certificate) (head nodes : List ℕ) → head ≡ spelled.head (upgraded c) → nodes ≡ nodes_text c → head ++ (procedures_text c ++ nodes) ≡ upgraded_text c
+-- the rules of versions 1 and 2 aren't those of version 4
+pub not_fourth : (version : ℕ) → rules_of version ≡ Simple → (version == 4) ≡ false
+unfolding rules_of
+not_fourth version simple = grind (arith, nat_tests)
+
+upgraded_not_fourth : (version : ℕ) → (version == 4) ≡ false → (upgraded_version version == 4) ≡ false
+unfolding upgraded_version
+upgraded_not_fourth version h = grind (arith, nat_tests)
+
+-- a certificate of version 1, 2 or 3 in its three parts
+certificate_parts : (c : Certificate) (head nodes : List ℕ) → (c.version == 4) ≡ false → head ≡ spelled.head (upgraded c) → nodes ≡ nodes_text c → head ++ (procedures_text c ++ nodes) ≡ upgraded_text c
 unfolding spelled.spelling
-certificate_parts c head nodes e h =
+certificate_parts c head nodes older e h =
     ap (λ b. b ++ (procedures_text c ++ nodes)) e
-    ∙ ap (λ b. spelled.head (upgraded c) ++ (procedures_text c ++ b)) (h ∙ ap (λ rules. flat_map (spelled.node rules) c.nodes) (sym (upgraded_rules c.version)))
+    ∙ ap (λ b. spelled.head (upgraded c) ++ (procedures_text c ++ b))
+    (h ∙ (ap (λ (b : Bool). flat_map (whole.node_by b c.version) c.nodes) older ∙ ap (λ rules. flat_map (spelled.node rules) c.nodes) (sym (upgraded_rules c.version))))
+    ∙ sym (spelled_older (upgraded c) (upgraded_not_fourth c.version older))
 
-pub certificate_whole : (c : Certificate) (head nodes : List ℕ) (old first mid new : Option (List ℕ)) → head ≡ spelled.head (upgraded c) → nodes ≡ nodes_text c
+pub certificate_whole : (c : Certificate) (head nodes : List ℕ) (old first mid new : Option (List ℕ)) → (c.version == 4) ≡ false → head ≡ spelled.head (upgraded c) → nodes ≡ nodes_text c
     → Gains old head first → Gains first (procedures_text c) mid → Gains mid nodes new → Gains old (upgraded_text c) new
-certificate_whole c head nodes old first mid new e h f g i =
-    subst (λ t. Gains old t new) (certificate_parts c head nodes e h) (gains_both old first new head (procedures_text c ++ nodes) f (gains_both first mid new (procedures_text c) nodes g i))
+certificate_whole c head nodes old first mid new older e h f g i =
+    subst (λ t. Gains old t new) (certificate_parts c head nodes older e h) (gains_both old first new head (procedures_text c ++ nodes) f (gains_both first mid new (procedures_text c) nodes g i))
 
-pub certificate_begun : (c : Certificate) (head : List ℕ) (old new : Option (List ℕ)) → head ≡ spelled.head (upgraded c) → GainsBeginning old head new → GainsBeginning old (upgraded_text c) new
-certificate_begun c head old new e f =
-    subst (λ t. GainsBeginning old t new) (certificate_parts c head (nodes_text c) e refl) (begins_first old new head (procedures_text c ++ nodes_text c) f)
+pub certificate_begun : (c : Certificate) (head : List ℕ) (old new : Option (List ℕ)) → (c.version == 4) ≡ false → head ≡ spelled.head (upgraded c) → GainsBeginning old head new → GainsBeginning old (upgraded_text c) new
+certificate_begun c head old new older e f =
+    subst (λ t. GainsBeginning old t new) (certificate_parts c head (nodes_text c) older e refl) (begins_first old new head (procedures_text c ++ nodes_text c) f)
 
-pub certificate_headed : (c : Certificate) (head : List ℕ) (old first new : Option (List ℕ)) → head ≡ spelled.head (upgraded c)
+pub certificate_headed : (c : Certificate) (head : List ℕ) (old first new : Option (List ℕ)) → (c.version == 4) ≡ false → head ≡ spelled.head (upgraded c)
     → Gains old head first → GainsBeginning first (procedures_text c) new → GainsBeginning old (upgraded_text c) new
-certificate_headed c head old first new e f g =
-    subst (λ t. GainsBeginning old t new) (certificate_parts c head (nodes_text c) e refl)
+certificate_headed c head old first new older e f g =
+    subst (λ t. GainsBeginning old t new) (certificate_parts c head (nodes_text c) older e refl)
     (begins_second old first new head (procedures_text c ++ nodes_text c) f (begins_first first new (procedures_text c) (nodes_text c) g))
 
-pub certificate_numbered : (c : Certificate) (head nodes : List ℕ) (old first mid new : Option (List ℕ)) → head ≡ spelled.head (upgraded c) → nodes ≡ nodes_text c
+pub certificate_numbered : (c : Certificate) (head nodes : List ℕ) (old first mid new : Option (List ℕ)) → (c.version == 4) ≡ false → head ≡ spelled.head (upgraded c) → nodes ≡ nodes_text c
     → Gains old head first → Gains first (procedures_text c) mid → GainsBeginning mid nodes new → GainsBeginning old (upgraded_text c) new
-certificate_numbered c head nodes old first mid new e h f g i =
-    subst (λ t. GainsBeginning old t new) (certificate_parts c head nodes e h)
+certificate_numbered c head nodes old first mid new older e h f g i =
+    subst (λ t. GainsBeginning old t new) (certificate_parts c head nodes older e h)
     (begins_second old first new head (procedures_text c ++ nodes) f (begins_second first mid new (procedures_text c) nodes g i))
 
 -- ---- a certificate in the version that is asked for
 
--- one of version 3 stays what it is
-widened_same : (c : Certificate) → rules_of c.version ≡ Extended → spelled.spelling c ≡ text_in Three c
-widened_same c later = ap (λ rules. spelled.spelling (widened_by rules c)) (sym later)
+not_first : (version : ℕ) → rules_of version ≡ Extended → (version == 1) ≡ false
+unfolding rules_of
+not_first version later = grind (arith, nat_tests)
 
-pub same_written : (c : Certificate) (bytes : List ℕ) (old new : Option (List ℕ)) → rules_of c.version ≡ Extended → Spells bytes c → Gains old bytes new → Gains old (text_in Three c) new
-same_written c bytes old new later s g = subst (λ t. Gains old t new) (s.is_spelling ∙ widened_same c later) g
+fourth_extended : (version : ℕ) → (version == 4) ≡ true → rules_of version ≡ Extended
+unfolding rules_of
+fourth_extended version h = grind (arith, nat_tests)
 
-pub same_begun : (c : Certificate) (bytes : List ℕ) (old new : Option (List ℕ)) → rules_of c.version ≡ Extended → Spells bytes c → GainsBeginning old bytes new → GainsBeginning old (text_in Three c) new
-same_begun c bytes old new later s g = subst (λ t. GainsBeginning old t new) (s.is_spelling ∙ widened_same c later) g
+later_stays : (version : ℕ) → rules_of version ≡ Extended → upgraded_version version ≡ version
+unfolding upgraded_version
+later_stays version later = rw (not_first version later) refl
+
+-- one of version 3 or 4 stays what it is
+kept_as_it_is : (to : UpgradeTo) (c : Certificate) → rules_of c.version ≡ Extended → text_in to c ≡ whole.spelling c
+kept_as_it_is Two c later = ap (λ version. whole.spelling (record c { version = version })) (later_stays c.version later)
+kept_as_it_is Three c later = sym (ap (λ rules. whole.spelling (widened_by rules c)) (sym later))
+
+pub same_written : (to : UpgradeTo) (c : Certificate) (bytes : List ℕ) (old new : Option (List ℕ)) → rules_of c.version ≡ Extended → Spells bytes c → Gains old bytes new → Gains old (text_in to c) new
+same_written to c bytes old new later s g = subst (λ t. Gains old t new) (s.is_spelling ∙ sym (kept_as_it_is to c later)) g
+
+pub same_begun : (to : UpgradeTo) (c : Certificate) (bytes : List ℕ) (old new : Option (List ℕ)) → rules_of c.version ≡ Extended → Spells bytes c → GainsBeginning old bytes new → GainsBeginning old (text_in to c) new
+same_begun to c bytes old new later s g = subst (λ t. GainsBeginning old t new) (s.is_spelling ∙ sym (kept_as_it_is to c later)) g
+
+-- one of version 1 or 2 is widened
+pub widened_is : (c : Certificate) → rules_of c.version ≡ Simple → spelled.spelling (widened c) ≡ text_in Three c
+widened_is c simple =
+    ap (λ rules. spelled.spelling (widened_by rules c)) simple
+    ∙ (sym (spelled_older (widened_by Simple c) refl) ∙ ap (λ rules. whole.spelling (widened_by rules c)) (sym simple))
+
+pub widened_written : (c : Certificate) (old new : Option (List ℕ)) → rules_of c.version ≡ Simple → Gains old (spelled.spelling (widened c)) new → Gains old (text_in Three c) new
+widened_written c old new simple g = subst (λ t. Gains old t new) (widened_is c simple) g
+
+pub widened_begun : (c : Certificate) (old new : Option (List ℕ)) → rules_of c.version ≡ Simple → GainsBeginning old (spelled.spelling (widened c)) new → GainsBeginning old (text_in Three c) new
+widened_begun c old new simple g = subst (λ t. GainsBeginning old t new) (widened_is c simple) g
+
+-- its rules are those of versions 1 to 3
+pub older_of : (c : Certificate) → IsCertificate c → rules_of c.version ≡ Simple → older.IsCertificate c
+older_of c h simple = older_certificate c h (not_fourth c.version simple)
 
 -- ---- an upgrade
 
@@ -136,9 +181,20 @@ pub upgrade_begins : (to : UpgradeTo) (old new : Option (List ℕ)) (bytes : Lis
 upgrade_begins to old new bytes c h g = certificate_begins (text_in to) old new bytes c h g
 
 -- an upgrade is a certificate
+is_upgraded_any : (c : Certificate) → IsCertificate c → IsCertificate (upgraded c)
+is_upgraded_any c h = by (c.version == 4) refl
+  where
+    by : (b : Bool) → (c.version == 4) ≡ b → IsCertificate (upgraded c)
+    by true e = subst (λ version. IsCertificate (record c { version = version })) (sym (later_stays c.version (fourth_extended c.version e))) h
+    by false e = is_upgraded c h e
+
 is_upgrade : (to : UpgradeTo) (c : Certificate) → IsCertificate c → IsCertificate (upgraded_to to c)
-is_upgrade Two c h = is_upgraded c h
-is_upgrade Three c h = is_widened c h
+is_upgrade Two c h = is_upgraded_any c h
+is_upgrade Three c h = by (rules_of c.version) refl
+  where
+    by : (rules : Rules) → rules_of c.version ≡ rules → IsCertificate (widened_by (rules_of c.version) c)
+    by Simple e = any_certificate (widened c) (is_widened c (older_of c h e))
+    by Extended e = subst (λ rules. IsCertificate (widened_by rules c)) (sym e) h
 
 pub upgrade_gained : (to : UpgradeTo) (old new : Option (List ℕ)) (bytes : List ℕ) (c : Certificate) → Spells bytes c → Gains old (text_in to c) new → GainsUpgrade to old bytes new
 upgrade_gained to old new bytes c h g = record {
@@ -160,15 +216,15 @@ kept_version : (version : ℕ) → nat_lt version 2 ≡ false → upgraded_versi
 unfolding upgraded_version
 kept_version version h = rw (not_1 version h) refl
 
-is_later : (version : ℕ) → is_version version ≡ true → nat_lt version 3 ≡ false → rules_of version ≡ Extended
+is_later : (version : ℕ) → is_any_version version ≡ true → nat_lt version 3 ≡ false → rules_of version ≡ Extended
 unfolding rules_of
 is_later version h later = grind (arith, nat_tests)
 
-kept_text : (to : UpgradeTo) (c : Certificate) → IsCertificate c → is_before to c.version ≡ false → text_in to c ≡ spelled.spelling c
+kept_text : (to : UpgradeTo) (c : Certificate) → IsCertificate c → is_before to c.version ≡ false → text_in to c ≡ whole.spelling c
 kept_text Two c h later =
     let with : ℕ → Certificate = λ version. record c { version = version } in
-    ap (λ version. spelled.spelling (with version)) (kept_version c.version later)
-kept_text Three c h later = sym (widened_same c (is_later c.version h.version later))
+    ap (λ version. whole.spelling (with version)) (kept_version c.version later)
+kept_text Three c h later = kept_as_it_is Three c (is_later c.version h.version later)
 
 same_ok : (a b : Certificate) → GivesUnlessMemory {X = Certificate} (λ c. c) (Ok b) (Ok a) → a ≡ b
 same_ok a b h = cc

@@ -63,7 +63,7 @@ registers_sayable s h =
     let l = and_parts (of s.h) (of s.l) e.1 in
     both (val_sayable s.a a.0) (both (val_sayable s.b b.0) (both (val_sayable s.c c.0) (both (val_sayable s.d d.0) (both (val_sayable s.e e.0) (both (val_sayable s.h l.0) (val_sayable s.l l.1))))))
 
-sayable : (s : AbsState) → is_state_sayable Simple s ≡ true → is_state_sayable Extended s ≡ true
+pub sayable : (s : AbsState) → is_state_sayable Simple s ≡ true → is_state_sayable Extended s ≡ true
 sayable s h =
     let p = and_parts (is_core_sayable Simple s.core) (list_all (is_sayable Simple) s.items && (list_all (is_cell_sayable Simple) s.cells && is_silent s.summary)) h in
     let k = and_parts (is_all_or_none s.core.ctl.kept) (is_sayable Simple s.core.ie && are_sayable Simple s.core.registers) p.0 in

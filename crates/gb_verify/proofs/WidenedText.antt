@@ -1,7 +1,7 @@
 -- The text of a certificate in version 3, from its parts.
-use Rattle.std.proofs.Common.{◌≡◌, ℕ, zero, suc, ◌+◌, ◌/◌, ◌<◌, Bool, true, false, not, ◌==◌, List, [], ◌∷◌, ◌++◌, length, map, drop, get_or, slice_get, Option, Some, None, refl, sym, ◌∙◌, ap, subst, arith, append_assoc}
+use Rattle.std.proofs.Common.{◌≡◌, ℕ, zero, suc, ◌+◌, ◌/◌, ◌≤◌, ◌<◌, Bool, true, false, not, ◌==◌, List, [], ◌∷◌, ◌++◌, length, map, drop, get_or, slice_get, Option, Some, None, refl, sym, ◌∙◌, ap, subst, arith, append_assoc, ◌&&◌}
 use Rattle.std.specs.Prelude.{IfSome}
-use Rattle.std.specs.List.{flat_map}
+use Rattle.std.specs.List.{flat_map, list_all}
 use Rattle.std.proofs.lemmas.List.{drop_more}
 use Rattle.std.proofs.lemmas.Option.{slice_get_within, get_or_from_slice_get}
 use Rattle.gb_rules.specs.Below.gb_domain.declared.types.Val.{Val}
@@ -17,7 +17,7 @@ use Rattle.gb_rules.specs.Below.gb_domain.Rules.{IsChain}
 use Rattle.gb_ops.specs.declared.machine.Region.{Region}
 use Rattle.gb_rules.specs.Below.gb_states.declared.role.Role.{Role}
 use Rattle.gb_rules.specs.Below.gb_states.declared.role.Role.TheVariants as role
-use Rattle.gb_rules.specs.Below.gb_states.Rules.{IsState, IsProcedure, IsNode, IsCertificate, is_after, key}
+use Rattle.gb_rules.specs.Below.gb_states.Rules.{IsState, IsProcedure, IsNode, IsCertificate, is_after, key, is_core_sayable, is_sayable, is_cell_sayable, is_silent}
 use Rattle.std.proofs.lemmas.Bool.Decides.{nat_tests}
 use Rattle.gb_rules.specs.Below.gb_fields.Limits.{unit}
 use Rattle.gb_rules.specs.Below.gb_states.RelationSpelling.{relations, places, pairs}
@@ -28,7 +28,8 @@ use Rattle.gb_text.specs.Text.{GainsBeginning}
 use Rattle.gb_text.proofs.Gained.{gains_both, begins_first, begins_second}
 use Rattle.gb_text.proofs.Remaining.{Remains, remains_less, remains_cut}
 use Rattle.gb_verify.specs.Widened.{below_items, above_return_word, widened_node, widened_procedure, widened_procedures, widened_by, widened, IsNarrow}
-use Rattle.gb_verify.proofs.WidenedLaws.{map_long, procedures_long}
+use Rattle.gb_verify.proofs.WidenedLaws.{map_long, procedures_long, sayable}
+use Rattle.std.proofs.lemmas.Bool.{and_parts}
 
 -- ---- a text in two parts
 
@@ -170,7 +171,11 @@ widened_text c head simple e =
 
 narrow : (role : Role) (region : Region) (s : AbsState) → IsState Simple role region s → IsNarrow s
 unfolding item_room
-narrow role region s h = record { items = h.item_count; relations = h.known }
+narrow role region s h =
+    let p = and_parts (is_core_sayable Extended s.core) (list_all (is_sayable Extended) s.items && (list_all (is_cell_sayable Extended) s.cells && is_silent s.summary)) (sayable s h.sayable) in
+    let q = and_parts (list_all (is_sayable Extended) s.items) (list_all (is_cell_sayable Extended) s.cells && is_silent s.summary) p.1 in
+    let r = and_parts (list_all (is_cell_sayable Extended) s.cells) (is_silent s.summary) q.1 in
+    record { items = h.item_count; relations = h.known; core = p.0; items_sayable = q.0; cells_sayable = r.0 }
 
 nodes_narrow : (region : Region) (procedures : ℕ) (before : ℕ × ℕ) (ns : List Node) (i : ℕ) (n : Node) → IsChain (IsNode Simple region procedures) key before ns → slice_get ns i ≡ Some n → IsNarrow n.state
 nodes_narrow region procedures before [] i n h e = cc
@@ -179,6 +184,18 @@ nodes_narrow region procedures before (m ∷ ms) (suc i) n h e = nodes_narrow re
 
 pub node_narrow : (c : Certificate) (i : ℕ) (n : Node) → IsCertificate c → rules_of c.version ≡ Simple → slice_get c.nodes i ≡ Some n → IsNarrow n.state
 node_narrow c i n h simple e = nodes_narrow c.region (length c.procedures) (0, 0) c.nodes i n (subst (λ rules. IsChain (IsNode rules c.region (length c.procedures)) key (0, 0) c.nodes) simple h.nodes) e
+
+nodes_owned : (rules : Rules) (region : Region) (procedures : ℕ) (before : ℕ × ℕ) (ns : List Node) (i : ℕ) (n : Node) → IsChain (IsNode rules region procedures) key before ns → slice_get ns i ≡ Some n → n.procedure < procedures
+nodes_owned rules region procedures before [] i n h e = cc
+nodes_owned rules region procedures before (m ∷ ms) zero n h e = let same : m ≡ n = cc in subst (λ (z : Node). z.procedure < procedures) same h.0.procedure
+nodes_owned rules region procedures before (m ∷ ms) (suc i) n h e = nodes_owned rules region procedures (key m) ms i n h.1 e
+
+-- the number of a node's procedure is a byte
+pub owner_few : (c : Certificate) (i : ℕ) (n : Node) → IsCertificate c → slice_get c.nodes i ≡ Some n → n.procedure ≤ 255
+owner_few c i n h e =
+    let owned : n.procedure < length c.procedures = nodes_owned (rules_of c.version) c.region (length c.procedures) (0, 0) c.nodes i n h.nodes e in
+    let few : length c.procedures ≤ 255 = h.procedure_count in
+    omega arith
 
 exit_narrow : (region : Region) (o : Option AbsState) → IfSome o (IsState Simple role.Exit region) → IfSome o IsNarrow
 exit_narrow region None h = tt

@@ -2,7 +2,7 @@
 use Rattle.std.specs.Prelude.{ℕ, List, Option, Result, Ok, Err, ◌⊎◌}
 use Rattle.gb_rules.specs.Below.gb_fields.declared.fault.CertFault.{CertFault}
 use Rattle.gb_rules.specs.Below.gb_domain.Certificate.{Certificate}
-use Rattle.gb_rules.specs.Below.gb_states.Reading.{read_certificate}
+use Rattle.gb_rules.specs.Below.gb_states.WholeReading.{read_certificate}
 use Rattle.gb_text.specs.Text.{GainsBeginning}
 use Rattle.gb_verify.specs.Text.{certificate_text, memory_line}
 

@@ -6,8 +6,8 @@ use Rattle.gb_rules.specs.Below.gb_fields.declared.fault.CertFault.{CertFault}
 use Rattle.gb_rules.specs.Below.gb_fields.declared.fault.CertFault.TheVariants.{Memory}
 use Rattle.gb_rules.specs.Below.gb_fields.Fault as CertFaults
 use Rattle.gb_rules.specs.Below.gb_domain.Certificate.{Certificate}
-use Rattle.gb_rules.specs.Below.gb_states.Reading.{read_certificate}
-use Rattle.gb_rules.specs.Below.gb_states.Spelling.{Spells}
+use Rattle.gb_rules.specs.Below.gb_states.WholeReading.{read_certificate}
+use Rattle.gb_rules.specs.Below.gb_states.WholeSpelling.{Spells}
 use Rattle.gb_rules.specs.Below.gb_abs.Reason.{reason_number}
 use Rattle.gb_text.specs.Cartridge.{cartridge_text}
 use Rattle.gb_text.specs.Text.{line_feed, GainsBeginning}

@@ -3,8 +3,8 @@ use Rattle.std.specs.Prelude.{◌≡◌, ℕ, Bool, false, nat_lt, List, Option,
 use Rattle.gb_rules.specs.Below.gb_fields.declared.fault.CertFault.{CertFault}
 use Rattle.gb_rules.specs.Below.gb_fields.declared.fault.CertFault.TheVariants.{Memory}
 use Rattle.gb_rules.specs.Below.gb_domain.Certificate.{Certificate}
-use Rattle.gb_rules.specs.Below.gb_states.Reading.{read_certificate}
-use Rattle.gb_rules.specs.Below.gb_states.Spelling.{Spells, spelling}
+use Rattle.gb_rules.specs.Below.gb_states.WholeReading.{read_certificate}
+use Rattle.gb_rules.specs.Below.gb_states.WholeSpelling.{Spells, spelling}
 use Rattle.gb_rules.specs.Below.gb_cert.Places.{upgraded_version}
 use Rattle.gb_text.specs.Sink.{Gains}
 use Rattle.gb_verify.specs.Text.{memory_line}

@@ -8,6 +8,8 @@ use Rattle.gb_rules.specs.Below.gb_domain.Types.{AbsState, ProcedureParts, Node}
 use Rattle.gb_rules.specs.Below.gb_domain.Certificate.{Certificate}
 use Rattle.gb_rules.specs.Below.gb_domain.Limits.{rules_of}
 use Rattle.gb_rules.specs.Below.gb_domain.RelationRules.{is_test_alone}
+use Rattle.gb_rules.specs.Below.gb_states.Rules.{is_core_sayable, is_sayable, is_cell_sayable}
+use Rattle.std.specs.List.{list_all}
 
 -- the word that was pushed as the procedure was entered, its high byte first
 abbrev pub return_word : List Val
@@ -47,7 +49,11 @@ widened_by Extended c = c
 abbrev pub widened : Certificate → Certificate
 widened c = widened_by (rules_of c.version) c
 
--- A state is such as versions 1 and 2 have: of at most 16 words, and of whose parts nothing but a test of A is known together.
+-- A state is such as versions 1 and 2 have: of at most 16 words, of values that these can say, and of whose parts nothing but a test of A
+-- is known together.
 pub record IsNarrow (s : AbsState) : Type 0 where
   pub items : length s.items ≤ 32
   pub relations : is_test_alone s.relations ≡ true
+  pub core : is_core_sayable Extended s.core ≡ true
+  pub items_sayable : list_all (is_sayable Extended) s.items ≡ true
+  pub cells_sayable : list_all (is_cell_sayable Extended) s.cells ≡ true

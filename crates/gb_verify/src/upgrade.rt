@@ -1,10 +1,11 @@
 //! A certificate in a later version of its format.
 
-ghost use Rattle.std.specs.Prelude.{◌≡◌, false, is_err, IfOk, OnOk, OnErr};
+ghost use Rattle.std.specs.Prelude.{◌≡◌, ◌==◌, false, is_err, IfOk, OnOk, OnErr};
 ghost use Rattle.std.specs.List.{flat_map};
 ghost use Rattle.gb_rules.specs.Below.gb_domain.Limits.{rules_of};
 ghost use Rattle.gb_rules.specs.Below.gb_cert.Places.{upgraded_version};
-ghost use Rattle.gb_rules.specs.Below.gb_states.Rules.{IsCertificate};
+ghost use Rattle.gb_rules.specs.Below.gb_states.WholeRules.{IsCertificate};
+ghost use Rattle.gb_rules.specs.Below.gb_domain.declared.rules.Rules.TheVariants.{Simple};
 ghost use Rattle.gb_rules.specs.Below.gb_states.Spelling as spelled;
 ghost use Rattle.gb_text.specs.Sink.{Gains};
 ghost use Rattle.gb_text.specs.Text.{GainsBeginning};
@@ -71,7 +72,8 @@ fn put_procedure<W: Sink>(
 /// Writes all procedures as they are spelled where the certificate is upgraded.
 #[tactic(auto, using(crate::proofs::UpgradeLaws::procedure_taken))]
 fn put_procedures<W: Sink>(cert: &Cert<'_>, out: &mut W) -> Result<(), OutFault>
-    requires { W.has_failed out.old ≡ false }
+    requires works { W.has_failed out.old ≡ false }
+    requires older { (cert.now.version == 4) ≡ false }
     ensures whole { OnOk result (Gains (W.contents out.old) (flat_map (spelled.procedure (upgraded_version cert.now.version)) cert.now.procedures) (W.contents out.new)) }
     ensures beginning { OnErr result (GainsBeginning (W.contents out.old) (flat_map (spelled.procedure (upgraded_version cert.now.version)) cert.now.procedures) (W.contents out.new)) }
     ensures failed { W.has_failed out.new ≡ is_err result }
@@ -82,10 +84,11 @@ fn put_procedures<W: Sink>(cert: &Cert<'_>, out: &mut W) -> Result<(), OutFault>
     Ok(())
 }
 
-/// Writes a certificate, in version 2 if it is of version 1.
+/// Writes a certificate of version 1, 2 or 3, in version 2 if it is of version 1.
 #[tactic(auto, using(crate::proofs::UpgradeLaws::certificate_whole, crate::proofs::UpgradeLaws::certificate_begun, crate::proofs::UpgradeLaws::certificate_headed, crate::proofs::UpgradeLaws::certificate_numbered))]
 fn put_upgraded<W: Sink>(cert: &Cert<'_>, out: &mut W) -> Result<(), OutFault>
-    requires { W.has_failed out.old ≡ false }
+    requires works { W.has_failed out.old ≡ false }
+    requires older { (cert.now.version == 4) ≡ false }
     ensures whole { OnOk result (Gains (W.contents out.old) (upgraded_text cert.now) (W.contents out.new)) }
     ensures beginning { OnErr result (GainsBeginning (W.contents out.old) (upgraded_text cert.now) (W.contents out.new)) }
     ensures failed { W.has_failed out.new ≡ is_err result }
@@ -96,6 +99,7 @@ fn put_upgraded<W: Sink>(cert: &Cert<'_>, out: &mut W) -> Result<(), OutFault>
 }
 
 /// Writes a certificate in the version that is asked for, or in its own where that is a later one.
+#[tactic(auto, using(crate::proofs::UpgradeLaws::not_fourth, crate::proofs::UpgradeLaws::older_of, crate::proofs::UpgradeLaws::same_written, crate::proofs::UpgradeLaws::same_begun, crate::proofs::UpgradeLaws::widened_written, crate::proofs::UpgradeLaws::widened_begun))]
 fn put_certificate<W: Sink>(cert: &Cert<'_>, to: UpgradeTo, out: &mut W) -> Result<(), OutFault>
     requires works { W.has_failed out.old ≡ false }
     requires certificate { IsCertificate cert.now }
@@ -103,12 +107,10 @@ fn put_certificate<W: Sink>(cert: &Cert<'_>, to: UpgradeTo, out: &mut W) -> Resu
     ensures beginning { OnErr result (GainsBeginning (W.contents out.old) (text_in to cert.now) (W.contents out.new)) }
     ensures failed { W.has_failed out.new ≡ is_err result }
 {
-    match to {
-        UpgradeTo::Two => put_upgraded(cert, out),
-        UpgradeTo::Three => match Rules::of(cert.version()) {
-            Rules::Simple => put_widened(cert, out),
-            Rules::Extended => put_all(out, cert.bytes()),
-        },
+    match (Rules::of(cert.version()), to) {
+        (Rules::Extended, _) => put_all(out, cert.bytes()),
+        (Rules::Simple, UpgradeTo::Two) => put_upgraded(cert, out),
+        (Rules::Simple, UpgradeTo::Three) => put_widened(cert, out),
     }
 }
 

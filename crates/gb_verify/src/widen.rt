@@ -1,6 +1,6 @@
 //! A certificate of version 1 or 2 in version 3 of its format.
 
-ghost use Rattle.std.specs.Prelude.{◌≡◌, ◌≤◌, ◌∷◌, ◌++◌, false, is_err, length, map, IfSome, OnOk, OnErr};
+ghost use Rattle.std.specs.Prelude.{◌≡◌, ◌==◌, ◌≤◌, ◌∷◌, ◌++◌, false, is_err, length, map, IfSome, OnOk, OnErr};
 ghost use Rattle.std.specs.List.{flat_map};
 ghost use Rattle.gb_rules.specs.Below.gb_domain.declared.rules.Rules.TheVariants.{Simple, Extended};
 ghost use Rattle.gb_rules.specs.Below.gb_domain.Limits.{rules_of};
@@ -66,6 +66,7 @@ fn told(state: &StateRef<'_>) -> &'static [u8]
 #[tactic(auto, using(gb_text::proofs::Gained::gains_both, gb_text::proofs::Gained::begins_first, gb_text::proofs::Gained::begins_second))]
 fn put_cells<W: Sink>(state: &StateRef<'_>, out: &mut W) -> Result<(), OutFault>
     requires works { W.has_failed out.old ≡ false }
+    requires narrow { IsNarrow state.now }
     ensures whole { OnOk result (Gains (W.contents out.old) (spelled.counted spelled.cell state.now.cells) (W.contents out.new)) }
     ensures beginning { OnErr result (GainsBeginning (W.contents out.old) (spelled.counted spelled.cell state.now.cells) (W.contents out.new)) }
     ensures failed { W.has_failed out.new ≡ is_err result }
@@ -83,21 +84,22 @@ fn put_state<W: Sink>(state: &StateRef<'_>, is_entered: bool, out: &mut W) -> Re
     ensures beginning { OnErr result (GainsBeginning (W.contents out.old) (spelled.state Extended (above_return_word is_entered state.now)) (W.contents out.new)) }
     ensures failed { W.has_failed out.new ≡ is_err result }
 {
-    put_all(out, state.core())?;
+    put_all(out, &state.older_core())?;
     put_items(state, is_entered, out)?;
     put_all(out, told(state))?;
     put_cells(state, out)
 }
 
-/// What stands before a node's state.
+/// What stands before a node's state: versions 1 to 3 spell its procedure in one byte.
 #[tactic(auto, unfolding(crate::specs::Opened::word))]
 fn node_front(node: &NodeRef<'_>) -> [u8; 5]
+    requires { node.now.procedure ≤ 255 }
     ensures { result ≡ (node.now.procedure ∷ spelled.word node.now.address) ++ spelled.word node.now.bank }
 {
     let address = node.address();
     let bank = node.bank();
     [
-        node.procedure(),
+        node.procedure() as u8,
         (address % 256) as u8,
         (address / 256) as u8,
         (bank % 256) as u8,
@@ -108,6 +110,7 @@ fn node_front(node: &NodeRef<'_>) -> [u8; 5]
 /// Writes a node in version 3. Only main was never entered.
 fn put_node<W: Sink>(node: &NodeRef<'_>, out: &mut W) -> Result<(), OutFault>
     requires works { W.has_failed out.old ≡ false }
+    requires few { node.now.procedure ≤ 255 }
     requires narrow { IsNarrow node.now.state }
     ensures whole { OnOk result (Gains (W.contents out.old) (spelled.node Extended (widened_node node.now)) (W.contents out.new)) }
     ensures beginning { OnErr result (GainsBeginning (W.contents out.old) (spelled.node Extended (widened_node node.now)) (W.contents out.new)) }
@@ -266,6 +269,7 @@ fn put_nodes<W: Sink>(cert: &Cert<'_>, out: &mut W) -> Result<(), OutFault>
 pub(crate) fn put_widened<W: Sink>(cert: &Cert<'_>, out: &mut W) -> Result<(), OutFault>
     requires works { W.has_failed out.old ≡ false }
     requires certificate { IsCertificate cert.now }
+    requires older { (cert.now.version == 4) ≡ false }
     requires simple { rules_of cert.now.version ≡ Simple }
     ensures whole { OnOk result (Gains (W.contents out.old) (spelled.spelling (widened cert.now)) (W.contents out.new)) }
     ensures beginning { OnErr result (GainsBeginning (W.contents out.old) (spelled.spelling (widened cert.now)) (W.contents out.new)) }

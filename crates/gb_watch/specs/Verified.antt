@@ -2,7 +2,7 @@
 use Rattle.std.specs.Prelude.{◌≡◌, ℕ, List}
 use Rattle.gb_ops.specs.declared.machine.Region.{Region}
 use Rattle.gb_console.specs.Below.gb_domain.Certificate.{Certificate}
-use Rattle.gb_console.specs.Below.gb_states.Rules.{IsCertificate}
+use Rattle.gb_console.specs.Below.gb_states.WholeRules.{IsCertificate}
 use Rattle.gb_console.specs.Below.gb_verify.Verdict.{IsRight}
 
 -- some certificate with this region is right for the cartridge

@@ -1,6 +1,6 @@
 use Rattle.std.proofs.Common.{sym, ◌∙◌, ◌+◌, ap, drop, arith}
 use Rattle.gb_states.specs.WholeReading.{or_else}
-use Rattle.gb_cert.specs.AnyPlaces.{entries_fault_at}
+use Rattle.gb_cert.specs.Entries.{entries_fault_at}
 use Rattle.gb_cert.proofs.EntryFaults.{one_entry, no_entry, some_fault, no_fault}
 use Rattle.gb_cert.proofs.order.entries_fault_at.Goals as goal
 

@@ -1,5 +1,5 @@
 use Rattle.std.proofs.Common.{◌≡◌, drop}
-use Rattle.gb_cert.specs.AnyPlaces.{entries_fault_at}
+use Rattle.gb_cert.specs.Entries.{entries_fault_at}
 use Rattle.gb_cert.proofs.order.entries_fault_at.Given as goal
 
 abbrev pub invariant-loop-place : goal.invariant-loop-place

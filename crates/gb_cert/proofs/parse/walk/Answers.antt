@@ -3,7 +3,8 @@ use Rattle.std.proofs.lemmas.Result.{err_from_is_err_and}
 use Rattle.gb_states.specs.Below.gb_fields.Reading.{head_in}
 use Rattle.gb_states.specs.WholeReading.{procedures_at, nodes_at}
 use Rattle.gb_states.specs.WholeSpelling as spelled
-use Rattle.gb_cert.specs.AnyPlaces.{AreCounted, entries_fault_at}
+use Rattle.gb_cert.specs.Places.{AreCounted}
+use Rattle.gb_cert.specs.Entries.{entries_fault_at}
 use Rattle.gb_cert.proofs.WholeLaying.{is-head, last-small, few-facts, facts-left, no-head, no-facts, no-procedures, no-nodes, counts-few, walked, no-entries, some-left, is-found, none_of}
 use Rattle.gb_cert.proofs.parse.walk.Goals as goal
 

@@ -24,7 +24,7 @@ returns-in_err-after c =
     let p = err_from_is_err_and c.from_residual-in_err-after.result c.from_residual-in_err-after.ensures.1 in
     let e = bank_then c.args.head.version c.args.facts c.args.kept.now c.args.head.region c.args.head.procedures c.args.before c.args.bytes.now c.in_ok-key.key c.in_ok-key.rest.now c.in_ok-_bank._bank c.in_ok-_bank.state.now c.in_ok-key.ensures c.in_ok-_bank.ensures in
     let form : c.of-form.result ≡ form_by (c.args.head.version == 4) c.args.head.version c.args.facts (kept_of c.args.kept.now c.in_ok-key.key.0) = c.of-form.ensures ∙ ap (form_by (c.args.head.version == 4) c.args.head.version c.args.facts) c.kept_of.ensures in
-    let f = subst (λ (r : Role). skipped (state_by c.of-form.result r c.args.head.region) c.in_ok-_bank.state.now ≡ Err c.in_err-after.field-0.0) c.role_of.ensures c.in_err-after.ensures in
+    let f = subst (λ (r : Role). skipped (state_by c.of-form.result r c.args.head.region) c.in_ok-_bank.state.now ≡ Err c.in_err-after.field-0.0) c.of.ensures c.in_err-after.ensures in
     let g = subst (λ (m : Form). skipped (state_by m (role_of c.in_ok-key.key.0) c.args.head.region) c.in_ok-_bank.state.now ≡ Err c.in_err-after.field-0.0) form f in
     rw (p.1, p.2) (e ∙ ap (λ r. past r (λ rest. Ok (c.in_ok-key.key, rest))) g)
 
@@ -32,6 +32,6 @@ pub returns : goal.returns
 returns c =
     let e = bank_then c.args.head.version c.args.facts c.args.kept.now c.args.head.region c.args.head.procedures c.args.before c.args.bytes.now c.in_ok-key.key c.in_ok-key.rest.now c.in_ok-_bank._bank c.in_ok-_bank.state.now c.in_ok-key.ensures c.in_ok-_bank.ensures in
     let form : c.of-form.result ≡ form_by (c.args.head.version == 4) c.args.head.version c.args.facts (kept_of c.args.kept.now c.in_ok-key.key.0) = c.of-form.ensures ∙ ap (form_by (c.args.head.version == 4) c.args.head.version c.args.facts) c.kept_of.ensures in
-    let f = subst (λ (r : Role). skipped (state_by c.of-form.result r c.args.head.region) c.in_ok-_bank.state.now ≡ Ok c.in_ok-after.after.now) c.role_of.ensures c.in_ok-after.ensures in
+    let f = subst (λ (r : Role). skipped (state_by c.of-form.result r c.args.head.region) c.in_ok-_bank.state.now ≡ Ok c.in_ok-after.after.now) c.of.ensures c.in_ok-after.ensures in
     let g = subst (λ (m : Form). skipped (state_by m (role_of c.in_ok-key.key.0) c.args.head.region) c.in_ok-_bank.state.now ≡ Ok c.in_ok-after.after.now) form f in
     e ∙ ap (λ r. past r (λ rest. Ok (c.in_ok-key.key, rest))) g

@@ -16,10 +16,10 @@ returns-in_err-put_all-2-clause-beginning g c =
 
 pub returns-clause-whole : goal.returns-clause-whole
 returns-clause-whole g c =
-    let text = items_text c.args.is_entered c.args.state.now.items c.item_count.result c.below_items.result.now c.items.result.now c.item_count.ensures c.below_items.ensures c.items.ensures.items in
+    let text = items_text c.args.is_entered c.args.state.now.items c.item_count.result c.below_items.result.now c.items.result.now c.item_count.ensures c.below_items.ensures (c.items.ensures.older c.requires.narrow.items_sayable) in
     when_ok c.put_all-3.result (λ h. joined _ _ _ _ _ _ text c.in_ok-put_all.ensures.whole (gains_both _ _ _ _ _ c.in_ok-put_all-2.ensures.whole h)) c.put_all-3.ensures.whole
 
 pub returns-clause-beginning : goal.returns-clause-beginning
 returns-clause-beginning g c =
-    let text = items_text c.args.is_entered c.args.state.now.items c.item_count.result c.below_items.result.now c.items.result.now c.item_count.ensures c.below_items.ensures c.items.ensures.items in
+    let text = items_text c.args.is_entered c.args.state.now.items c.item_count.result c.below_items.result.now c.items.result.now c.item_count.ensures c.below_items.ensures (c.items.ensures.older c.requires.narrow.items_sayable) in
     when_err c.put_all-3.result (λ h. gone_on _ _ _ _ _ _ text c.in_ok-put_all.ensures.whole (begins_second _ _ _ _ _ c.in_ok-put_all-2.ensures.whole h)) c.put_all-3.ensures.beginning

@@ -1,6 +1,9 @@
 use Rattle.gb_verify.proofs.FileLaws.{on_err}
-use Rattle.gb_verify.proofs.WidenedText.{cut, node_at, node_narrow, taken}
+use Rattle.gb_verify.proofs.WidenedText.{cut, node_at, node_narrow, owner_few, taken}
 use Rattle.gb_verify.proofs.widen.put_nodes.Goals as goal
+
+pub put_node-requires-clause-few : goal.put_node-requires-clause-few
+put_node-requires-clause-few g c = owner_few c.args.cert.now c.loop-i.i c.node.result c.requires.certificate c.node.ensures
 
 pub put_node-requires-clause-narrow : goal.put_node-requires-clause-narrow
 put_node-requires-clause-narrow g c = node_narrow c.args.cert.now c.loop-i.i c.node.result c.requires.certificate c.requires.simple c.node.ensures

@@ -1,6 +1,6 @@
 use Rattle.std.proofs.Common.{sym, ◌∙◌, arith}
 use Rattle.std.proofs.lemmas.Result.{err_from_is_err_and}
-use Rattle.gb_cert.proofs.CertificateLaws.{found, again}
+use Rattle.gb_cert.proofs.WholeCertificateLaws.{found, again}
 use Rattle.gb_cert.proofs.cert.Cert.parse.Goals as goal
 
 pub returns-in_err-cert-clause-only : goal.returns-in_err-cert-clause-only

@@ -1,14 +1,15 @@
-use Rattle.std.proofs.Common.{◌∙◌}
+use Rattle.std.proofs.Common.{Bool, ◌∙◌, ap}
+use Rattle.gb_states.specs.Checked.{core_in}
 use Rattle.gb_cert.specs.Borrowed.{state_in}
-use Rattle.gb_cert.proofs.CheckedLaws.{core-stands, core-fits}
+use Rattle.gb_cert.proofs.StateLending.{core-stands, core-fits}
 use Rattle.gb_cert.proofs.state.StateRef.put_core.Goals as goal
 
 pub put_core-requires : goal.put_core-requires
 put_core-requires c =
     let i = c.self.inside in
-    core-fits i.rules i.role i.region i.bytes.now (state_in i.rules i.role i.region i.bytes.now) c.self.invariant
+    core-fits i.form i.role i.region i.bytes.now (state_in i.form i.role i.region i.bytes.now) c.self.invariant
 
 pub returns : goal.returns
 returns c =
     let i = c.self.inside in
-    rw (← c.self.view_is) (c.put_core.ensures ∙ core-stands i.rules i.role i.region i.bytes.now (state_in i.rules i.role i.region i.bytes.now) c.self.invariant)
+    rw (← c.self.view_is) (c.put_core.ensures ∙ (ap (λ (b : Bool). core_in b i.bytes.now) c.is_fourth.ensures ∙ core-stands i.form i.role i.region i.bytes.now (state_in i.form i.role i.region i.bytes.now) c.self.invariant))
