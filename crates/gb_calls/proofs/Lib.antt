@@ -3,6 +3,7 @@ pub mod EnteringLaws
 pub mod ToldLaws
 pub mod CoveringLaws
 pub mod CalleeLaws
+pub mod NumberLaws
 pub mod RangeLaws
 pub mod CellLaws
 pub mod CellsBackLaws

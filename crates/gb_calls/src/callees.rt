@@ -1,6 +1,7 @@
 //! Which procedure is called.
 
 ghost use Rattle.std.specs.Prelude.{◌≡◌, ◌≤◌};
+ghost use Rattle.gb_cert.specs.Namesakes.{AreAmong};
 ghost use Rattle.gb_product.specs.Covering.{covers};
 ghost use Rattle.gb_calls.specs.Calls as Calls;
 
@@ -102,6 +103,19 @@ fn is_entry(
         )
 }
 
+/// The numbers among which all procedures behind main are that begin at the address: from the first to below the second. In
+/// version 4 procedures stand by these addresses, and it is no others; in versions 1 to 3 they stand in any order.
+fn numbers_at(cert: &Cert<'_>, address: u16) -> (u16, u16)
+    ensures { AreAmong cert.now address result.0 result.1 }
+{
+    if cert.version() == 4 {
+        let found = cert.find_procedures(address);
+        (found.first, found.after)
+    } else {
+        (1, cert.procedures())
+    }
+}
+
 /// The callee of a call to an address in these states, which stand in the setting: the first procedure but main whose
 /// entry node has the address, and that may begin there (own). By the rules of version 3 the return word is among the
 /// items of these states, which have those that the entry node has, and a base that the procedure says is right. Other states
@@ -117,7 +131,8 @@ pub fn callee_in(
 ) -> Option<u16>
     ensures exact { result ≡ Calls.callee_of program.now cert.now setting address state.now }
 {
-    for i in 1..cert.procedures() {
+    let (first, after) = numbers_at(cert, address);
+    for i in first..after {
         let procedure = cert.procedure(i);
         if is_entry(program, cert, setting, address, state, &procedure, room) {
             return Some(i);

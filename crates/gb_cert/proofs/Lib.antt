@@ -5,6 +5,7 @@ pub mod FourthSkipping
 pub mod HeadLaws
 pub mod Lending
 pub mod Marking
+pub mod NamesakeLaws
 pub mod OlderBodies
 pub mod OlderLaws
 pub mod Placing

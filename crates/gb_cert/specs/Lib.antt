@@ -1,5 +1,6 @@
 pub mod Borrowed
 pub mod Entries
+pub mod Namesakes
 pub mod Places
 pub mod Skipping
 pub mod Spelled

@@ -7,11 +7,12 @@
 //! that they don't keep.
 //!
 //! To be read in this order: walk (passing over states, ranges, procedures and nodes, over the readers
-//! of `gb_states`), order (the entries of procedures), parse, then cert with node, procedure and state, and find.
+//! of `gb_states`), order (the entries of procedures), parse, then cert with node, procedure and state, find and namesakes.
 #![tactic(auto)]
 
 mod cert;
 mod find;
+mod namesakes;
 mod node;
 mod order;
 mod parse;
@@ -28,6 +29,7 @@ pub use cert::{Cert, encode, older_rules, one_spelling};
 pub use find::{First, Search};
 pub use gb_rows::Found;
 pub use gb_states::CertFault;
+pub use namesakes::Namesakes;
 pub use node::NodeRef;
 pub use procedure::ProcedureRef;
 pub use state::{StateRef, Told};

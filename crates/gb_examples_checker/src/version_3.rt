@@ -360,6 +360,9 @@ fn is_exit(exit: &Option<Abs>) -> bool {
 
 /// Whether the procedures are as they were spelled.
 fn are_procedures(cert: &Cert<'_>) -> bool {
+    if cert.version() == 4 {
+        return false;
+    }
     if cert.procedures() != 2 {
         return false;
     }

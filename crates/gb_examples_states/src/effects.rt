@@ -430,6 +430,7 @@ pub fn leaves_test(before: Option<u8>, op: Op, after: Option<u8>) -> bool {
     let registers = entered().registers;
     let left = relations_after(
         Rules::Simple,
+        false,
         REGION,
         op,
         ANY_BOUNDS,

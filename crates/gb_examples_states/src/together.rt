@@ -21,13 +21,15 @@ type Facts = &'static [StateFact];
 #[derive(Clone, Copy)]
 pub enum TogetherStep {
     Leaves(Op, Facts, Facts),
+    /// By the rules of version 4.
+    LeavesWhole(Op, Facts, Facts),
     /// SP has these bounds.
     LeavesWithSp(u16, u16, Op, Facts, Facts),
     /// What is read at HL has these bounds.
     LeavesWithRead(u8, u8, Op, Facts, Facts),
 }
 
-use TogetherStep::{Leaves, LeavesWithRead, LeavesWithSp};
+use TogetherStep::{Leaves, LeavesWhole, LeavesWithRead, LeavesWithSp};
 
 const REGION: Region = Region {
     first: 0xDF00,
@@ -35,10 +37,11 @@ const REGION: Region = Region {
 };
 
 /// Whether an instruction leaves this known together.
-fn leaves(op: Op, sp: Bounds, low: Val, before: Facts, after: Facts) -> bool {
+fn leaves(is_whole: bool, op: Op, sp: Bounds, low: Val, before: Facts, after: Facts) -> bool {
     let known = KnownFact::new(before);
     let left = relations_after(
         Rules::Extended,
+        is_whole,
         REGION,
         op,
         sp,
@@ -52,12 +55,13 @@ fn leaves(op: Op, sp: Bounds, low: Val, before: Facts, after: Facts) -> bool {
 /// Whether a step comes out so.
 fn agrees(step: &TogetherStep) -> bool {
     match *step {
-        Leaves(op, before, after) => leaves(op, ANY_BOUNDS, ANY, before, after),
+        Leaves(op, before, after) => leaves(false, op, ANY_BOUNDS, ANY, before, after),
+        LeavesWhole(op, before, after) => leaves(true, op, ANY_BOUNDS, ANY, before, after),
         LeavesWithSp(first, last, op, before, after) => {
-            leaves(op, Bounds { first, last }, ANY, before, after)
+            leaves(false, op, Bounds { first, last }, ANY, before, after)
         }
         LeavesWithRead(lo, hi, op, before, after) => {
-            leaves(op, ANY_BOUNDS, from_to(lo, hi), before, after)
+            leaves(false, op, ANY_BOUNDS, from_to(lo, hi), before, after)
         }
     }
 }
@@ -78,6 +82,8 @@ const IN_C: Operand = Operand::Register(C);
 const IN_D: Operand = Operand::Register(D);
 
 const IN_E: Operand = Operand::Register(E);
+
+const IN_H: Operand = Operand::Register(H);
 
 const IN_L: Operand = Operand::Register(L);
 
@@ -596,6 +602,80 @@ const TESTED: &[TogetherStep] = &[
     Leaves(Op::DecimalAdjust, &[Same(&[A]), Compared(3), Zero(Bc)], &[]),
 ];
 
+/// Pairs that a copy makes equal.
+const PAIRS_COPIED: &[TogetherStep] = &[
+    // C is L already, so that BC is HL behind LD B,H; what was known of BC is forgotten, and what its link said.
+    LeavesWhole(
+        Op::Load(IN_B, IN_H),
+        &[
+            Same(&[C, L]),
+            Word(Bc, 0x0003, 0x0005),
+            Link(Bc, 1, Other::Register(A), 0x0100),
+            Word(Hl, 0xC010, 0xC100),
+        ],
+        &[
+            Same(&[C, L]),
+            Word(Bc, 0xC010, 0xC100),
+            Word(Hl, 0xC010, 0xC100),
+        ],
+    ),
+    // HL is C020 to C1F0 by its bytes, and C010 to C100 as a pair: both hold of BC.
+    LeavesWhole(
+        Op::Load(IN_B, IN_H),
+        &[
+            Same(&[C, L]),
+            Byte(H, 0xC0, 0xC1),
+            Byte(L, 0x20, 0xF0),
+            Word(Hl, 0xC010, 0xC100),
+        ],
+        &[
+            Same(&[C, L]),
+            Word(Bc, 0xC020, 0xC100),
+            Word(Hl, 0xC010, 0xC100),
+        ],
+    ),
+    // The low bytes, where the high ones are the same.
+    LeavesWhole(
+        Op::Load(IN_E, IN_C),
+        &[Same(&[A, B, D]), Word(Bc, 0x1234, 0x1300)],
+        &[
+            Same(&[A, B, D]),
+            Word(Bc, 0x1234, 0x1300),
+            Word(De, 0x1234, 0x1300),
+        ],
+    ),
+    // By the rules of version 3 nothing is known of the pair.
+    Leaves(
+        Op::Load(IN_B, IN_H),
+        &[Same(&[C, L]), Word(Hl, 0xC010, 0xC100)],
+        &[Same(&[C, L]), Word(Hl, 0xC010, 0xC100)],
+    ),
+    // Nor where the other bytes aren't the same,
+    LeavesWhole(
+        Op::Load(IN_B, IN_H),
+        &[Same(&[A, C]), Word(Hl, 0xC010, 0xC100)],
+        &[Same(&[A, C]), Word(Hl, 0xC010, 0xC100)],
+    ),
+    // a low byte is copied to a high one,
+    LeavesWhole(
+        Op::Load(IN_B, IN_L),
+        &[Same(&[C, H]), Word(Hl, 0xC010, 0xC100)],
+        &[Same(&[C, H]), Word(Hl, 0xC010, 0xC100)],
+    ),
+    // or both are one register, which stays.
+    LeavesWhole(
+        Op::Load(IN_H, IN_H),
+        &[Same(&[A, L]), Byte(H, 0xC0, 0xC1), Word(Hl, 0x0000, 0xC100)],
+        &[Same(&[A, L]), Word(Hl, 0x0000, 0xC100)],
+    ),
+    // A is in no pair.
+    LeavesWhole(
+        Op::Load(IN_A, IN_B),
+        &[Same(&[C, L]), Word(Bc, 0x1234, 0x1300)],
+        &[Same(&[A, B]), Word(Bc, 0x1234, 0x1300)],
+    ),
+];
+
 #[test]
 fn what_is_written_is_forgotten(rt: HostRuntime) {
     play(&rt, FORGOTTEN);
@@ -610,5 +690,6 @@ fn steps_move_bounds_and_links(rt: HostRuntime) {
 #[test]
 fn copies_and_tests_are_known(rt: HostRuntime) {
     play(&rt, COPIED);
+    play(&rt, PAIRS_COPIED);
     play(&rt, TESTED);
 }

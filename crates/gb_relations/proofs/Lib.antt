@@ -8,6 +8,7 @@ pub mod ComparedLaws
 pub mod FreeLaws
 pub mod ZeroLaws
 pub mod PairLaws
+pub mod PairCopyLaws
 pub mod TransferLaws
 pub mod PointerLaws
 pub mod ReturnLaws

@@ -1,5 +1,5 @@
 -- What an instruction leaves holds behind each of its effects.
-use Rattle.std.proofs.Common.{◌≡◌, ℕ, ◌<◌, sym, subst, arith}
+use Rattle.std.proofs.Common.{◌≡◌, Bool, ℕ, ◌<◌, sym, subst, arith}
 use Rattle.gb_ops.specs.declared.op.Register.TheVariants.{B, C, D, E, H, L}
 use Rattle.gb_ops.specs.declared.op.Op.{Op}
 use Rattle.gb_ops.specs.declared.machine.Region.{Region}
@@ -25,6 +25,7 @@ use Rattle.gb_relations.proofs.MachineLaws.{effect_of-bytes}
 use Rattle.gb_relations.proofs.ComparedLaws.{HoldOneByte-compared_after, compared_after-free}
 use Rattle.gb_relations.proofs.ZeroLaws.{IsZero-zero_after}
 use Rattle.gb_relations.proofs.PairLaws.{AreWords, HoldPairs-pairs_after, pairs_after-kept}
+use Rattle.gb_relations.proofs.PairCopyLaws.{HoldPairs-with_pair_copied, with_pair_copied-kept}
 
 pub are_words : (s : Pairs) → s.bc.bounds.last < 65536 → s.de.bounds.last < 65536 → s.hl.bounds.last < 65536 → AreWords s
 are_words s b d h = record { each = each }
@@ -51,52 +52,54 @@ ArePairs-nothing = record { each = each }
     each words.De = record { last = omega arith; link = tt }
     each words.Hl = record { last = omega arith; link = tt }
 
-relations_after-free : (rules : Rules) (region : Region) (o : Op) (sp : Bounds) (vals : Registers Val) (low : Val) (r : Relations)
-    → IsByteFree region r.byte.address → IsByteFree region (relations_after rules region o sp vals low r).byte.address
+relations_after-free : (rules : Rules) (is_whole : Bool) (region : Region) (o : Op) (sp : Bounds) (vals : Registers Val) (low : Val) (r : Relations)
+    → IsByteFree region r.byte.address → IsByteFree region (relations_after rules is_whole region o sp vals low r).byte.address
 unfolding relations_after
-relations_after-free Simple region o sp vals low r h = compared_after-free region o r.byte
-relations_after-free Extended region o sp vals low r h = byte_after-free region o (values_of vals r.pairs) low r.byte h
+relations_after-free Simple is_whole region o sp vals low r h = compared_after-free region o r.byte
+relations_after-free Extended is_whole region o sp vals low r h = byte_after-free region o (values_of vals r.pairs) low r.byte h
 
 HoldRelations-relations_after :
-    (rules : Rules) (region : Region) (o : Op) (sp : Bounds) (vals : Registers Val) (low : Val) (r : Relations) (p : Processor) (memory after : ℕ → ℕ) (l h : ℕ)
+    (rules : Rules) (is_whole : Bool) (region : Region) (o : Op) (sp : Bounds) (vals : Registers Val) (low : Val) (r : Relations) (p : Processor) (memory after : ℕ → ℕ) (l h : ℕ)
     → HasBytes o → sp.last < 65536 → AreWords r.pairs
     → Begins region o sp vals low r p memory l h → Writes region (effect_of o p l h).write memory after
-    → HoldRelations (relations_after rules region o sp vals low r) (effect_of o p l h).processor.registers after (effect_of o p l h).processor.flags
+    → HoldRelations (relations_after rules is_whole region o sp vals low r) (effect_of o p l h).processor.registers after (effect_of o p l h).processor.flags
 unfolding relations_after
-HoldRelations-relations_after Simple region o sp vals low r p memory after l h has small are b w =
+HoldRelations-relations_after Simple is_whole region o sp vals low r p memory after l h has small are b w =
     record {
       byte = HoldOneByte-compared_after o r.byte p memory after l h has b.bytes b.relations.byte;
       zero = tt;
       pairs = HoldPairs-nothing _ (effect_of-bytes o p l h has b.low_small b.high_small b.bytes);
     }
-HoldRelations-relations_after Extended region o sp vals low r p memory after l h has small are b w =
+HoldRelations-relations_after Extended is_whole region o sp vals low r p memory after l h has small are b w =
     record {
       byte = HoldOneByte-byte_after region o sp vals low r p memory after l h has b w;
       zero = IsZero-zero_after o r.byte r.zero p memory l h b.relations.byte b.relations.zero;
-      pairs = HoldPairs-pairs_after o sp (values_of vals r.pairs) p l h has b.sp_first b.sp_last small are b.low_small b.high_small b.bytes (Holds-begun b);
+      pairs =
+          HoldPairs-with_pair_copied is_whole o r.byte (values_of vals r.pairs) _ p memory l h b.relations.byte (Holds-begun b)
+          (HoldPairs-pairs_after o sp (values_of vals r.pairs) p l h has b.sp_first b.sp_last small are b.low_small b.high_small b.bytes (Holds-begun b));
     }
 
 pub relations_after_sound :
-    (rules : Rules) (region : Region) (o : Op) (sp : Bounds) (vals : Registers Val) (low : Val) (r after : Relations)
-    → after ≡ relations_after rules region o sp vals low r → HasBytes o → sp.last < 65536
+    (rules : Rules) (is_whole : Bool) (region : Region) (o : Op) (sp : Bounds) (vals : Registers Val) (low : Val) (r after : Relations)
+    → after ≡ relations_after rules is_whole region o sp vals low r → HasBytes o → sp.last < 65536
     → r.pairs.bc.bounds.last < 65536 → r.pairs.de.bounds.last < 65536 → r.pairs.hl.bounds.last < 65536
     → IsSoundTransfer region o sp vals low r after
 unfolding relations_after
-relations_after_sound rules region o sp vals low r after e has small bc de hl =
+relations_after_sound rules is_whole region o sp vals low r after e has small bc de hl =
     let are = are_words r.pairs bc de hl in
     subst (λ k. IsSoundTransfer region o sp vals low r k) (sym e)
     (record {
-      gives = λ p memory written l h b w. HoldRelations-relations_after rules region o sp vals low r p memory written l h has small are b w;
-      free = λ h. relations_after-free rules region o sp vals low r h;
+      gives = λ p memory written l h b w. HoldRelations-relations_after rules is_whole region o sp vals low r p memory written l h has small are b w;
+      free = λ h. relations_after-free rules is_whole region o sp vals low r h;
     })
 
 pub relations_after_kept :
-    (rules : Rules) (region : Region) (o : Op) (sp : Bounds) (vals : Registers Val) (low : Val) (r after : Relations)
-    → after ≡ relations_after rules region o sp vals low r → ArePairs r.pairs → ArePairs after.pairs
+    (rules : Rules) (is_whole : Bool) (region : Region) (o : Op) (sp : Bounds) (vals : Registers Val) (low : Val) (r after : Relations)
+    → after ≡ relations_after rules is_whole region o sp vals low r → ArePairs r.pairs → ArePairs after.pairs
 unfolding relations_after
-relations_after_kept rules region o sp vals low r after e are =
+relations_after_kept rules is_whole region o sp vals low r after e are =
     subst (λ (k : Relations). ArePairs k.pairs) (sym e) (kept rules)
   where
-    kept : (z : Rules) → ArePairs (relations_after z region o sp vals low r).pairs
+    kept : (z : Rules) → ArePairs (relations_after z is_whole region o sp vals low r).pairs
     kept Simple = ArePairs-nothing
-    kept Extended = pairs_after-kept o sp (values_of vals r.pairs) are
+    kept Extended = with_pair_copied-kept is_whole o r.byte (values_of vals r.pairs) _ are (pairs_after-kept o sp (values_of vals r.pairs) are)

@@ -22,7 +22,8 @@ use Rattle.gb_pairs.proofs.RegisterLaws.{word_other}
 use Rattle.gb_copies.specs.Meaning.{HoldOneByte}
 use Rattle.gb_relations.specs.Meaning.{IsZero}
 use Rattle.gb_relations.specs.Written.{written, writes_flags}
-use Rattle.gb_relations.specs.Transfer.{zero_without, zero_without_registers, other_half, zero_by, zero_after}
+use Rattle.gb_relations.specs.Pairs.{other_half}
+use Rattle.gb_relations.specs.Transfer.{zero_without, zero_without_registers, zero_by, zero_after}
 use Rattle.gb_relations.proofs.ResultLaws.{or-high, or-low}
 use Rattle.gb_relations.proofs.MachineLaws.{Overwrites, overwritten, effect_of-registers, effect_of-flags}
 

@@ -1,7 +1,7 @@
 -- What an instruction leaves of the pairs (abstract interpretation: transfer functions; own).
 use Rattle.std.specs.Prelude.{Bool, true, false, List, [], ◌∷◌, Option, Some, None}
 use Rattle.gb_ops.specs.declared.op.Register.{Register}
-use Rattle.gb_ops.specs.declared.op.Register.TheVariants.{A}
+use Rattle.gb_ops.specs.declared.op.Register.TheVariants.{A, B, C, D, E, H, L}
 use Rattle.gb_ops.specs.declared.op.Operand.TheVariants as operand
 use Rattle.gb_ops.specs.declared.op.Indirect.{Indirect}
 use Rattle.gb_ops.specs.declared.op.Indirect.TheVariants as indirect
@@ -22,6 +22,16 @@ use Rattle.gb_relations.specs.Written.{written}
 abbrev pub without_registers : List Register → Pairs → Pairs
 without_registers [] s = s
 without_registers (r ∷ rest) s = without_registers rest (without_register r s)
+
+-- the other byte of a register's pair, and the pair
+abbrev pub other_half : Register → Option (Register × WordPair)
+other_half A = None
+other_half B = Some (C, words.Bc)
+other_half C = Some (B, words.Bc)
+other_half D = Some (E, words.De)
+other_half E = Some (D, words.De)
+other_half H = Some (L, words.Hl)
+other_half L = Some (H, words.Hl)
 
 abbrev pub pair_of : Pair → Option WordPair
 pair_of pair.Bc = Some words.Bc

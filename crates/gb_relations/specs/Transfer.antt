@@ -1,7 +1,6 @@
 -- What an instruction leaves of what is known of several parts together (abstract interpretation: transfer functions; own).
-use Rattle.std.specs.Prelude.{◌&&◌, List, [], ◌∷◌, Option, Some, None, if◌then◌else◌}
+use Rattle.std.specs.Prelude.{Bool, ◌&&◌, List, [], ◌∷◌, Option, Some, None, if◌then◌else◌}
 use Rattle.gb_ops.specs.declared.op.Register.{Register}
-use Rattle.gb_ops.specs.declared.op.Register.TheVariants.{A, B, C, D, E, H, L}
 use Rattle.gb_ops.specs.declared.op.AluOp.TheVariants as alu
 use Rattle.gb_ops.specs.declared.op.Operand.TheVariants as operand
 use Rattle.gb_ops.specs.declared.op.Op.{Op}
@@ -11,7 +10,6 @@ use Rattle.gb_ops.specs.declared.registers.Registers.{Registers}
 use Rattle.gb_ops.specs.Registers.{get}
 use Rattle.gb_domain.specs.declared.types.Val.{Val}
 use Rattle.gb_domain.specs.declared.pairs.WordPair.{WordPair}
-use Rattle.gb_domain.specs.declared.pairs.WordPair.TheVariants as words
 use Rattle.gb_domain.specs.declared.pairs.Bounds.{Bounds}
 use Rattle.gb_domain.specs.declared.places.OneByte.{OneByte}
 use Rattle.gb_domain.specs.declared.relations.Relations.{Relations}
@@ -21,7 +19,8 @@ use Rattle.gb_domain.specs.Relations.{no_relations}
 pub use Rattle.gb_pairs.specs.Reduced.{values_of}
 use Rattle.gb_pairs.specs.Written.{is_half}
 use Rattle.gb_relations.specs.Written.{written, writes_flags}
-use Rattle.gb_relations.specs.Pairs.{pairs_after}
+use Rattle.gb_relations.specs.Pairs.{other_half, pairs_after}
+use Rattle.gb_relations.specs.PairCopies.{with_pair_copied}
 use Rattle.gb_relations.specs.Bytes.{byte_after}
 use Rattle.gb_relations.specs.Compared.{compared_after}
 
@@ -35,16 +34,6 @@ abbrev pub zero_without_registers : List Register → Option WordPair → Option
 zero_without_registers [] zero = zero
 zero_without_registers (r ∷ rest) zero = zero_without_registers rest (zero_without r zero)
 
--- the other byte of a register's pair, and the pair
-abbrev pub other_half : Register → Option (Register × WordPair)
-other_half A = None
-other_half B = Some (C, words.Bc)
-other_half C = Some (B, words.Bc)
-other_half D = Some (E, words.De)
-other_half E = Some (D, words.De)
-other_half H = Some (L, words.Hl)
-other_half L = Some (H, words.Hl)
-
 abbrev pub zero_by : Option (Register × WordPair) → OneByte → Option WordPair
 zero_by None b = None
 zero_by (Some half) b = if b.registers.a && get half.0 b.registers then Some half.1 else None
@@ -57,13 +46,14 @@ zero_after o b zero = if writes_flags o then None else zero_without_registers (w
 -- ---- all of it
 
 -- what is known together behind a taken instruction; registers and relations are those before it, sp has SP's bounds, and low is
--- what was read at an address; by the rules of versions 1 and 2 a comparison of A alone
-unfoldable pub relations_after : Rules → Region → Op → Bounds → Registers Val → Val → Relations → Relations
-relations_after Simple region o sp registers low r = record no_relations { byte = compared_after o r.byte }
-relations_after Extended region o sp registers low r =
+-- what was read at an address; by the rules of versions 1 and 2 a comparison of A alone; by those of version 4, is_whole, pairs that
+-- become equal share their bounds
+unfoldable pub relations_after : Rules → Bool → Region → Op → Bounds → Registers Val → Val → Relations → Relations
+relations_after Simple is_whole region o sp registers low r = record no_relations { byte = compared_after o r.byte }
+relations_after Extended is_whole region o sp registers low r =
     let v = values_of registers r.pairs in
     record {
       byte = byte_after region o v low r.byte;
       zero = zero_after o r.byte r.zero;
-      pairs = pairs_after o sp v;
+      pairs = with_pair_copied is_whole o r.byte v (pairs_after o sp v);
     }

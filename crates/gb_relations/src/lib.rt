@@ -4,11 +4,12 @@
 //!
 //! Read `transfer`, whose `relations_after` is what its definition says and holds behind every effect of the instruction. It
 //! stands on `compared` (by the rules of versions 1 and 2), and on `written`, the registers that are overwritten, on `places`, where a byte is stored or read, and on `bytes` and
-//! `pairs`, what is left of each part. `pointers` says where an instruction reads or writes by a pair, and the carry of ADD HL.
+//! `pairs`, what is left of each part. `pair_copies` are the copies by which two pairs become equal. `pointers` says where an instruction reads or writes by a pair, and the carry of ADD HL.
 #![tactic(auto)]
 
 pub mod bytes;
 pub mod compared;
+pub mod pair_copies;
 pub mod pairs;
 pub mod places;
 pub mod pointers;

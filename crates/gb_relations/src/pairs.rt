@@ -2,7 +2,7 @@
 
 ghost use Rattle.std.specs.Prelude.{◌≡◌};
 ghost use Rattle.gb_relations.specs.Written.{list_of};
-ghost use Rattle.gb_relations.specs.Pairs.{without_registers, pair_of, after_increment, after_decrement, after_indirect, addend, is_hl, pairs_after};
+ghost use Rattle.gb_relations.specs.Pairs.{without_registers, other_half, pair_of, after_increment, after_decrement, after_indirect, addend, is_hl, pairs_after};
 
 use crate::written::{Written, written_by};
 use gb_domain::pairs::{Bounds, Pairs, WordPair};
@@ -23,6 +23,21 @@ fn without_registers(written: Written, pairs: &Pairs) -> Pairs
             let left = without_register(r, &without_register(q, pairs));
             without_register(s, &left)
         }
+    }
+}
+
+/// The other byte of a register's pair, and the pair.
+pub(crate) fn other_half(register: Register) -> Option<(Register, WordPair)>
+    ensures { result ≡ other_half register }
+{
+    match register {
+        Register::A => None,
+        Register::B => Some((Register::C, WordPair::Bc)),
+        Register::C => Some((Register::B, WordPair::Bc)),
+        Register::D => Some((Register::E, WordPair::De)),
+        Register::E => Some((Register::D, WordPair::De)),
+        Register::H => Some((Register::L, WordPair::Hl)),
+        Register::L => Some((Register::H, WordPair::Hl)),
     }
 }
 

@@ -1,6 +1,6 @@
 //! What an instruction leaves of what is known of several parts together.
 
-ghost use Rattle.std.specs.Prelude.{◌≡◌, ◌<◌, true};
+ghost use Rattle.std.specs.Prelude.{◌≡◌, ◌<◌, Bool, true};
 ghost use Rattle.gb_domain.specs.declared.rules.Rules.TheVariants.{Extended};
 ghost use Rattle.gb_domain.specs.Pairs.{ArePairs};
 ghost use Rattle.gb_pairs.specs.Written as Halves;
@@ -10,7 +10,8 @@ ghost use Rattle.gb_relations.specs.Sound.{HasBytes, IsSoundTransfer};
 
 use crate::bytes::byte_after;
 use crate::compared::compared_after;
-use crate::pairs::pairs_after;
+use crate::pair_copies::copy_pair;
+use crate::pairs::{other_half, pairs_after};
 use crate::written::{Written, writes_flags, written_by};
 use gb_domain::pairs::{Bounds, Pairs, WordPair};
 use gb_domain::places::OneByte;
@@ -41,21 +42,6 @@ fn zero_without_registers(written: Written, zero: Option<WordPair>) -> Option<Wo
         Written::One(q) => zero_without(q, zero),
         Written::Two(q, r) => zero_without(r, zero_without(q, zero)),
         Written::Three(q, r, s) => zero_without(s, zero_without(r, zero_without(q, zero))),
-    }
-}
-
-/// The other byte of a register's pair, and the pair.
-fn other_half(register: Register) -> Option<(Register, WordPair)>
-    ensures { result ≡ Transfer.other_half register }
-{
-    match register {
-        Register::A => None,
-        Register::B => Some((Register::C, WordPair::Bc)),
-        Register::C => Some((Register::B, WordPair::Bc)),
-        Register::D => Some((Register::E, WordPair::De)),
-        Register::E => Some((Register::D, WordPair::De)),
-        Register::H => Some((Register::L, WordPair::Hl)),
-        Register::L => Some((Register::H, WordPair::Hl)),
     }
 }
 
@@ -94,10 +80,11 @@ pub(crate) fn holds_words(pairs: Pairs)
     ensures hl { pairs.hl.bounds.last < 65536 }
 {}
 
-/// By the rules of version 3.
+/// By the rules of versions 3 and 4.
 #[inline(never)]
 #[tactic(auto, unfolding(crate::specs::Transfer::relations_after))]
 fn related_after(
+    is_whole: bool,
     region: Region,
     op: Op,
     sp: Bounds,
@@ -105,24 +92,25 @@ fn related_after(
     low: Val,
     relations: &Relations,
 ) -> Relations
-    ensures { result ≡ Transfer.relations_after Extended region op sp registers.now low relations.now }
+    ensures { result ≡ Transfer.relations_after Extended is_whole region op sp registers.now low relations.now }
 {
     let values = Values {
         registers: *registers,
         pairs: relations.pairs,
     };
+    let byte = &relations.byte;
     Relations {
-        byte: byte_after(region, op, &values, low, &relations.byte),
-        zero: zero_after(op, &relations.byte, relations.zero),
-        pairs: pairs_after(op, sp, &values),
+        byte: byte_after(region, op, &values, low, byte),
+        zero: zero_after(op, byte, relations.zero),
+        pairs: copy_pair(is_whole, op, byte, &values, pairs_after(op, sp, &values)),
     }
 }
 
 /// Whether an instruction writes neither a register of those, nor a flag, nor a byte but on the stack: then all stays known.
 #[inline(always)]
-#[tactic(auto, unfolding(crate::specs::Transfer::relations_after, crate::specs::Bytes::byte_after, crate::specs::Transfer::zero_after, crate::specs::Pairs::pairs_after, crate::specs::Written::written, crate::specs::Written::writes_flags))]
+#[tactic(auto, unfolding(crate::specs::Transfer::relations_after, crate::specs::Bytes::byte_after, crate::specs::Transfer::zero_after, crate::specs::Pairs::pairs_after, crate::specs::PairCopies::pair_copy, crate::specs::Written::written, crate::specs::Written::writes_flags))]
 fn leaves_all_known(op: Op) -> bool
-    ensures { result ≡ true → (region : Region) (sp : Bounds) (registers : Registers Val) (low : Val) (r : Relations) → Transfer.relations_after Extended region op sp registers low r ≡ r }
+    ensures { result ≡ true → (is_whole : Bool) (region : Region) (sp : Bounds) (registers : Registers Val) (low : Val) (r : Relations) → Transfer.relations_after Extended is_whole region op sp registers low r ≡ r }
 {
     matches!(
         op,
@@ -148,6 +136,7 @@ fn leaves_all_known(op: Op) -> bool
 #[tactic(auto, unfolding(crate::specs::Transfer::relations_after))]
 fn apply(
     rules: Rules,
+    is_whole: bool,
     region: Region,
     op: Op,
     sp: Bounds,
@@ -155,7 +144,7 @@ fn apply(
     low: Val,
     relations: &Relations,
 ) -> Relations
-    ensures { result ≡ Transfer.relations_after rules region op sp registers.now low relations.now }
+    ensures { result ≡ Transfer.relations_after rules is_whole region op sp registers.now low relations.now }
 {
     match rules {
         Rules::Simple => Relations {
@@ -166,7 +155,7 @@ fn apply(
             if leaves_all_known(op) {
                 *relations
             } else {
-                related_after(region, op, sp, registers, low, relations)
+                related_after(is_whole, region, op, sp, registers, low, relations)
             }
         }
     }
@@ -178,6 +167,7 @@ fn apply(
 #[tactic(auto, using(crate::proofs::TransferLaws::relations_after_sound, crate::proofs::TransferLaws::relations_after_kept))]
 pub fn relations_after(
     rules: Rules,
+    is_whole: bool,
     region: Region,
     op: Op,
     sp: Bounds,
@@ -185,11 +175,11 @@ pub fn relations_after(
     low: Val,
     relations: &Relations,
 ) -> Relations
-    ensures exact { result ≡ Transfer.relations_after rules region op sp registers.now low relations.now }
+    ensures exact { result ≡ Transfer.relations_after rules is_whole region op sp registers.now low relations.now }
     ensures sound { IsSoundTransfer region op sp registers.now low relations.now result }
     ensures kept { ArePairs relations.now.pairs → ArePairs result.pairs }
 {
     holds_bytes(op);
     holds_words(relations.pairs);
-    apply(rules, region, op, sp, registers, low, relations)
+    apply(rules, is_whole, region, op, sp, registers, low, relations)
 }

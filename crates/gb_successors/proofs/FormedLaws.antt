@@ -235,9 +235,9 @@ relations_formed :
     → IsByteFree k.region (relations_behind k program rom row.op s p).byte.address × ArePairs (relations_behind k program rom row.op s p).pairs
 unfolding relations_behind
 relations_formed k program rom row a s p entry base x stands operands are free = (
-  (relations_after_sound k.setting.rules k.region row.op (sp_bounds k.setting s) p.core.registers (word_in k program rom row.op s p).low p.relations _ refl
+  (relations_after_sound k.setting.rules k.setting.is_whole k.region row.op (sp_bounds k.setting s) p.core.registers (word_in k program rom row.op s p).low p.relations _ refl
       (has_operands row.op operands) (sp_below k.setting s entry base x stands.based stands.means.parts) (are.each pairs.Bc).last (are.each pairs.De).last (are.each pairs.Hl).last).free free,
-  relations_after_kept k.setting.rules k.region row.op _ p.core.registers (word_in k program rom row.op s p).low p.relations _ refl are,
+  relations_after_kept k.setting.rules k.setting.is_whole k.region row.op _ p.core.registers (word_in k program rom row.op s p).low p.relations _ refl are,
 )
 
 taken_formed :

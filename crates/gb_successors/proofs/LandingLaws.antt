@@ -166,7 +166,7 @@ pub record Leaves (c : Situation) : Type 0 where
 free_behind : (c : Situation) → IsTakenIn c → relations.IsByteFree c.stack.region (related_at c).byte.address
 unfolding relations_behind
 free_behind c k =
-    (relations_after_sound c.stack.setting.rules c.stack.region c.row.op (sp_bounds c.stack.setting c.state) c.product.core.registers (word_at c).low c.product.relations _ refl
+    (relations_after_sound c.stack.setting.rules c.stack.setting.is_whole c.stack.region c.row.op (sp_bounds c.stack.setting c.state) c.product.core.registers (word_at c).low c.product.relations _ refl
     (has_operands c.row.op k.operands) (sp_below c k) (k.pairs.each pairs.Bc).last (k.pairs.each pairs.De).last (k.pairs.each pairs.Hl).last).free k.free
 
 related_left : (c : Situation) → IsTakenIn c → LoadsAt c → relations.Writes c.stack.region (acted_at c).write (ram_at c.machine.storage) (ram_at (stored_at c).storage)

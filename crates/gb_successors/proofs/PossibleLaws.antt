@@ -478,7 +478,7 @@ some_reduced Extended core r x are bytes h =
 
 pub pairs_behind : (c : Situation) → IsTakenIn c → ArePairs (related_at c).pairs
 unfolding relations_behind
-pairs_behind c k = relations_after_kept c.stack.setting.rules c.stack.region c.row.op _ c.product.core.registers (word_at c).low c.product.relations _ refl k.pairs
+pairs_behind c k = relations_after_kept c.stack.setting.rules c.stack.setting.is_whole c.stack.region c.row.op _ c.product.core.registers (word_at c).low c.product.relations _ refl k.pairs
 
 pub bytes_behind_it : (c : Situation) (l h : ℕ) → IsTakenIn c → AreGiven c l h → AreBytes (effect_by c l h).processor.registers
 bytes_behind_it c l h k g =

@@ -164,16 +164,16 @@ has_operands (op.AluImmediate how v) h = h
 has_operands o h = tt
 
 simply :
-    (region : Region) (o : Op) (sp : Bounds) (vals : Registers Val) (low : Val) (r : Relations) (x : Registers ℕ) (memory : ℕ → ℕ) (f : Flags)
-    → HoldOneByte (compared_after o r.byte) x memory f → AreBytes x → HoldRelations (relations_after Simple region o sp vals low r) x memory f
+    (is_whole : Bool) (region : Region) (o : Op) (sp : Bounds) (vals : Registers Val) (low : Val) (r : Relations) (x : Registers ℕ) (memory : ℕ → ℕ) (f : Flags)
+    → HoldOneByte (compared_after o r.byte) x memory f → AreBytes x → HoldRelations (relations_after Simple is_whole region o sp vals low r) x memory f
 unfolding relations_after
-simply region o sp vals low r x memory f byte bytes = record { byte = byte; zero = tt; pairs = HoldPairs-nothing x bytes }
+simply is_whole region o sp vals low r x memory f byte bytes = record { byte = byte; zero = tt; pairs = HoldPairs-nothing x bytes }
 
 pub by_rules :
-    (rules : Rules) (region : Region) (o : Op) (sp : Bounds) (vals : Registers Val) (low : Val) (r : Relations) (x : Registers ℕ) (memory : ℕ → ℕ) (f : Flags)
-    → rules ≡ Simple → HoldOneByte (compared_after o r.byte) x memory f → AreBytes x → HoldRelations (relations_after rules region o sp vals low r) x memory f
-by_rules rules region o sp vals low r x memory f simple byte bytes =
-    subst (λ q. HoldRelations (relations_after q region o sp vals low r) x memory f) (sym simple) (simply region o sp vals low r x memory f byte bytes)
+    (rules : Rules) (is_whole : Bool) (region : Region) (o : Op) (sp : Bounds) (vals : Registers Val) (low : Val) (r : Relations) (x : Registers ℕ) (memory : ℕ → ℕ) (f : Flags)
+    → rules ≡ Simple → HoldOneByte (compared_after o r.byte) x memory f → AreBytes x → HoldRelations (relations_after rules is_whole region o sp vals low r) x memory f
+by_rules rules is_whole region o sp vals low r x memory f simple byte bytes =
+    subst (λ q. HoldRelations (relations_after q is_whole region o sp vals low r) x memory f) (sym simple) (simply is_whole region o sp vals low r x memory f byte bytes)
 
 pub related_begun : (row : Row) (x : MState) (r : Relations) → AreRelated r x → AreRelated r (begun row x)
 unfolding advanced
@@ -189,7 +189,7 @@ pub related_taken :
     → IsTaken z rom region ranges row a s entry base x reads c → is_followed Simple w ≡ true
     → LeadsSimply region w (simple_parts z rom region row (behind_row a row) s c) entry base x (outside (executed (within rom x) row reads))
     → (sp : Bounds) (low : Val) (r : Relations) → AreRelated r (begun row x)
-    → AreRelated (relations_after z.rules region row.op sp c.registers low r) (outside (executed (within rom x) row reads))
+    → AreRelated (relations_after z.rules z.is_whole region row.op sp c.registers low r) (outside (executed (within rom x) row reads))
 related_taken z rom region ranges row a s entry base x reads c w k known led sp low r before =
     let t = simple_parts z rom region row (behind_row a row) s c in
     let e = effect rom row x reads in
@@ -199,21 +199,21 @@ related_taken z rom region ranges row a s entry base x reads c w k known led sp 
     let byte : HoldOneByte (compared_after row.op r.byte) e.processor.registers (peek (left_by rom x e row.cycles).storage) e.processor.flags =
     HoldOneByte-compared_after row.op r.byte (begun row x).processor (peek x.storage) (peek (left_by rom x e row.cycles).storage)
     (given rom row x reads).low (given rom row x reads).high (has_operands row.op k.operands) (AreBytes-core c entry (begun row x) k.core k.means) before.byte in
-    subst (λ (v : MState). AreRelated (relations_after z.rules region row.op sp c.registers low r) v) (sym is)
-    (by_rules z.rules region row.op sp c.registers low r _ _ _ k.rules byte (subst (λ (v : MState). AreBytes v.processor.registers) is bytes))
+    subst (λ (v : MState). AreRelated (relations_after z.rules z.is_whole region row.op sp c.registers low r) v) (sym is)
+    (by_rules z.rules z.is_whole region row.op sp c.registers low r _ _ _ k.rules byte (subst (λ (v : MState). AreBytes v.processor.registers) is bytes))
 
 pub Leads-taken :
     (z : Setting) (rom : List ℕ) (region : Region) (ranges : List Range) (row : Row) (a : ℕ) (s : AbsState) (entry : Activation) (base : ℕ) (x : MState) (reads : List ℕ) (c : Core)
     → IsTaken z rom region ranges row a s entry base x reads c
     → LeadsParts z region ranges (simple_parts z rom region row (behind_row a row) s c) entry base x (outside (executed (within rom x) row reads))
     → (sp : Bounds) (low : Val) (r : Relations) → AreRelated r (begun row x)
-    → LeadsRelated z region ranges (related_successor (relations_after z.rules region row.op sp c.registers low r) (simple_parts z rom region row (behind_row a row) s c)) entry base x
+    → LeadsRelated z region ranges (related_successor (relations_after z.rules z.is_whole region row.op sp c.registers low r) (simple_parts z rom region row (behind_row a row) s c)) entry base x
     (outside (executed (within rom x) row reads))
 Leads-taken z rom region ranges row a s entry base x reads c k led sp low r before =
     let t = simple_parts z rom region row (behind_row a row) s c in
     record {
       to = leads_simply z region t.target _ entry base x _ k.rules
-          (LeadsSimply-related region t.target (relations_after z.rules region row.op sp c.registers low r) t entry base x _ (led_simply z region t.target t entry base x _ k.rules led.to));
+          (LeadsSimply-related region t.target (relations_after z.rules z.is_whole region row.op sp c.registers low r) t entry base x _ (led_simply z region t.target t entry base x _ k.rules led.to));
       kept = led.kept;
       related = λ known. related_taken z rom region ranges row a s entry base x reads c t.target k (followed_simply z t.target k.rules known) (led_simply z region t.target t entry base x _ k.rules led.to) sp low r before;
     }

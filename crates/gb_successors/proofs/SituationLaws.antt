@@ -258,7 +258,7 @@ unfolding relations_behind
 related_behind c l h written k g w =
     let known = bounds_sound c.stack.setting c.state (sp_bounds c.stack.setting c.state) refl in
     let word = is_word_at c k in
-    (relations_after_sound c.stack.setting.rules c.stack.region c.row.op (sp_bounds c.stack.setting c.state) c.product.core.registers (word_at c).low c.product.relations _ refl
+    (relations_after_sound c.stack.setting.rules c.stack.setting.is_whole c.stack.region c.row.op (sp_bounds c.stack.setting c.state) c.product.core.registers (word_at c).low c.product.relations _ refl
     (has_operands c.row.op k.operands) (sp_below c k) (k.pairs.each pairs.Bc).last (k.pairs.each pairs.De).last (k.pairs.each pairs.Hl).last).gives
     (advanced c.machine.processor c.row) (ram_at c.machine.storage) written l h
     (record {

@@ -340,7 +340,7 @@ halt_related :
     → AreRelated (relations_behind k program rom row.op s (product_of (core_settle s.core) s.relations)) y
 unfolding relations_behind compared_after comparison_of writes_a writes_flags written_registers
 halt_related k program rom row a s entry base x y simple stands halt registers flags =
-    by_rules k.setting.rules k.region row.op _ _ _ s.relations _ _ _ simple
+    by_rules k.setting.rules k.setting.is_whole k.region row.op _ _ _ s.relations _ _ _ simple
     (subst (λ (o : Op). HoldOneByte (compared_after o s.relations.byte) y.processor.registers (peek y.storage) y.processor.flags) (sym halt.op_is)
     (HoldOneByte-only_of_a s.relations.byte x.processor.registers y.processor.registers (peek x.storage) (peek y.storage) x.processor.flags y.processor.flags
     (ap (λ (r : Registers ℕ). r.a) registers) flags stands.means.related.byte))

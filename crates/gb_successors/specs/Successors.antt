@@ -90,7 +90,7 @@ related_successor r t = record t { state = with_relations r t.state }
 -- what is known together behind it
 unfoldable pub relations_behind : Stack → Program → List ℕ → Op → AbsState → Product → Relations
 relations_behind k program rom o s p =
-    relations_after k.setting.rules k.region o (sp_bounds k.setting s) p.core.registers (word_in k program rom o s p).low p.relations
+    relations_after k.setting.rules k.setting.is_whole k.region o (sp_bounds k.setting s) p.core.registers (word_in k program rom o s p).low p.relations
 
 -- the same states, which say something else of the whole program
 abbrev pub said_successor : SummaryParts → Successor → Successor

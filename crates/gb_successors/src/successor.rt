@@ -185,7 +185,16 @@ fn successor_by<'a>(
         rules, stack, program, op, state, core, relations, write, moved,
     );
     let low = inputs.word.low;
-    let relations = relations_after(rules, stack.region, op, sp, &core.registers, low, relations);
+    let relations = relations_after(
+        rules,
+        setting.is_whole,
+        stack.region,
+        op,
+        sp,
+        &core.registers,
+        low,
+        relations,
+    );
     end_core(
         setting.is_whole,
         kind,
