@@ -44,7 +44,7 @@ pub fn in_newest_version<R: AllocGlobal>(
     rom: &[u8],
     cert: Vec<u8>,
 ) -> Vec<u8> {
-    if task.rules.is_some() {
+    if task.edition.is_some() {
         return cert;
     }
     let mut newest = Vec::new(rt.alloc());
@@ -67,7 +67,7 @@ pub fn made<R: Eprint + Clock + AllocGlobal>(
         nodes: task.nodes as usize,
         rounds: ROUNDS,
         region: task.region,
-        rules: task.rules,
+        edition: task.edition,
     };
     let mut progress = RoundsShown::new(rt, is_shown, task.seconds);
     Ok(make(rt.alloc(), rom, limits, &mut progress)?)

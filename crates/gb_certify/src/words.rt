@@ -6,7 +6,7 @@ use clap::{Arg, ArgAction, ArgMatches, Command, Error};
 use gb_command_line::messages::FileNames;
 use gb_command_line::stack::{WRONG_STACK, region_of};
 use gb_ops::machine::Region;
-use gb_refine::Rules;
+use gb_refine::Edition;
 use std::alloc::{AllocError, Global};
 
 /// The most nodes that may be allowed: a certificate of versions 2 and 3 has no more.
@@ -57,7 +57,7 @@ pub struct CertifyTask<'a> {
     pub hunt: Option<u32>,
     pub region: Option<Region>,
     /// The rules by which alone a certificate is sought.
-    pub rules: Option<Rules>,
+    pub edition: Option<Edition>,
     pub is_json: bool,
 }
 
@@ -172,9 +172,9 @@ fn with_options<'a>(alloc: Global) -> Result<Command<'a>, AllocError> {
         alloc,
         "rules",
         "N",
-        "Use the rules of version 1, 2 or 3 only; default: 3, then 1 and 2",
+        "Use the rules of version 1, 2, 3 or 4 only; default: 3, then 4, then 1 and 2",
     )
-    .value_parser(clap::value_parser!(u32).range(1..=3));
+    .value_parser(clap::value_parser!(u32).range(1..=4));
     let report = option_arg(
         alloc,
         "report",
@@ -260,10 +260,11 @@ fn stack_of(alloc: Global, matches: &ArgMatches<'_>) -> Result<Option<Region>, E
 }
 
 /// By which rules alone a certificate is sought.
-fn rules_of(matches: &ArgMatches<'_>) -> Option<Rules> {
+fn edition_of(matches: &ArgMatches<'_>) -> Option<Edition> {
     match matches.get_one::<u32>("rules") {
-        Some(3) => Some(Rules::Extended),
-        Some(_) => Some(Rules::Simple),
+        Some(4) => Some(Edition::Fourth),
+        Some(3) => Some(Edition::Third),
+        Some(_) => Some(Edition::Early),
         None => None,
     }
 }
@@ -338,7 +339,7 @@ pub fn read_words<'a>(alloc: Global, words: &'a [&'a str]) -> Result<CertifyTask
         seconds: matches.get_one::<u32>("seconds"),
         hunt: hunt_of(alloc, &matches, work)?,
         region: stack_of(alloc, &matches)?,
-        rules: rules_of(&matches),
+        edition: edition_of(&matches),
         is_json: matches.get_flag("json"),
     })
 }

@@ -4,7 +4,7 @@ use crate::order::order;
 use gb_cert::{CertificatePlan, NodePlan, ProcedurePlan, Version, WriteFault, write_certificate};
 use gb_fixpoint::limits::COMPARED;
 use gb_fixpoint::types::{Run, RunNode, RunProcedure};
-use gb_fixpoint::{Abs, Program, Region, Rules, covers, known_bank};
+use gb_fixpoint::{Abs, Edition, Region, covers, known_bank};
 use std::alloc::{AllocError, Global};
 
 /// Where a node stands in a certificate: by its procedure, then by its address.
@@ -15,8 +15,8 @@ struct NodeStanding {
     node: usize,
 }
 
-/// The bytes of the certificate of a finished run, whose needs were found, with this stack region: in version 3; or by the
-/// rules of versions 1 and 2 in version 1, and in version 2 where it has more than 65,535 nodes.
+/// The bytes of the certificate of a finished run, whose needs were found, with this stack region: in version 4 or 3, as
+/// its rules are; by those of versions 1 and 2 in version 1, and in version 2 where it has more than 65,535 nodes.
 ///
 /// # Errors
 ///
@@ -27,11 +27,11 @@ pub fn certificate_of(alloc: Global, run: &Run<'_>, region: Region) -> Result<Ve
     let places = places(alloc, run, standings.as_slice())?;
     let procedures = procedures(alloc, run, order.as_slice(), places.as_slice())?;
     let nodes = nodes(alloc, run, standings.as_slice())?;
-    let version = version_of(run.rules(), nodes.len());
+    let version = version_of(run.configuration.edition, nodes.len());
     let plan = CertificatePlan {
         version,
         region,
-        facts: &[],
+        facts: run.program().facts,
         procedures: procedures.as_slice(),
         nodes: nodes.as_slice(),
     };
@@ -39,11 +39,12 @@ pub fn certificate_of(alloc: Global, run: &Run<'_>, region: Region) -> Result<Ve
 }
 
 /// The version of a certificate with so many nodes.
-fn version_of(rules: Rules, nodes: usize) -> Version {
-    match rules {
-        Rules::Extended => Version::Three,
-        Rules::Simple if nodes > Version::One.node_limit() as usize => Version::Two,
-        Rules::Simple => Version::One,
+fn version_of(edition: Edition, nodes: usize) -> Version {
+    match edition {
+        Edition::Fourth => Version::Four,
+        Edition::Third => Version::Three,
+        Edition::Early if nodes > Version::One.node_limit() as usize => Version::Two,
+        Edition::Early => Version::One,
     }
 }
 
@@ -58,7 +59,8 @@ fn procedures<'a>(
     for number in order {
         if let Some(procedure) = run.procedures.get(*number) {
             let base = base_of(run, *number);
-            procedures.push(procedure_plan(procedure, base, places))?;
+            let kept = kept_by(run, *number);
+            procedures.push(procedure_plan(procedure, base, kept, places))?;
         }
     }
     Ok(procedures)
@@ -73,10 +75,20 @@ fn base_of(run: &Run<'_>, number: usize) -> u16 {
     }
 }
 
-/// A procedure with this base. What is too large for its field is above the limit that the writer names.
+/// The addresses whose bytes a procedure keeps: main keeps none.
+fn kept_by<'a>(run: &'a Run<'_>, number: usize) -> &'a [u16] {
+    if number == 0 {
+        &[]
+    } else {
+        run.kept.as_slice()
+    }
+}
+
+/// A procedure with this base, which keeps the bytes at these addresses. What is too large for its field is above the limit that the writer names.
 fn procedure_plan<'a>(
     procedure: &'a RunProcedure,
     base: u16,
+    kept: &'a [u16],
     places: &[usize],
 ) -> ProcedurePlan<'a> {
     let entry = match procedure.entry {
@@ -88,7 +100,7 @@ fn procedure_plan<'a>(
         base,
         need: u16::try_from(procedure.need).unwrap_or(u16::MAX - 1),
         ranges: procedure.ranges.as_slice(),
-        kept: &[],
+        kept,
         mark: 0,
         exit: exit_of(procedure),
     }
@@ -243,7 +255,7 @@ fn is_spare(run: &Run<'_>, number: usize, nodes: &[usize], spare: &[bool]) -> bo
 /// Whether a node stands for all that another one does.
 fn stands_for(run: &Run<'_>, number: usize, node: &RunNode) -> bool {
     match run.nodes.get(number) {
-        Some(other) => covers(&Program::unknown(), &node.state, &other.state),
+        Some(other) => covers(&run.program(), &node.state, &other.state),
         None => false,
     }
 }
@@ -251,7 +263,7 @@ fn stands_for(run: &Run<'_>, number: usize, node: &RunNode) -> bool {
 /// Whether a node stands for all that the node with a number does.
 fn is_above(run: &Run<'_>, node: &RunNode, number: usize) -> bool {
     match run.nodes.get(number) {
-        Some(other) => covers(&Program::unknown(), &other.state, &node.state),
+        Some(other) => covers(&run.program(), &other.state, &node.state),
         None => false,
     }
 }

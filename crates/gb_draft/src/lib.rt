@@ -11,7 +11,7 @@ mod order;
 
 pub use certificate::certificate_of;
 pub use needs::find_needs;
-pub use order::{Precedence, add_in_order};
+pub use order::{Precedence, add_in_order, by_address};
 
 // What lies below, for the crates above.
 pub use gb_cert::{
@@ -19,11 +19,12 @@ pub use gb_cert::{
 };
 pub use gb_fixpoint::cause::{Cause, Failure, RunEnd, StackMisuse, Wish};
 pub use gb_fixpoint::code_point::CodePoint;
-pub use gb_fixpoint::configuration::{Configuration, TargetPlace};
+pub use gb_fixpoint::configuration::{Configuration, Edition, TargetPlace};
+pub use gb_fixpoint::fact_table::FactTable;
 pub use gb_fixpoint::register_set::{REGISTERS, RegisterSet};
 pub use gb_fixpoint::types::{Run, Spot};
 pub use gb_fixpoint::{
-    Abs, AbsRead, AbsWrite, Cell, Cert, Core, Ctl, Flg, INTERRUPT_COUNT, KnownRegisters, May,
+    Abs, AbsRead, AbsWrite, Cell, Cert, Core, Ctl, Fact, Flg, INTERRUPT_COUNT, KnownRegisters, May,
     NOTHING_KNOWN, OneByte, Origin, PADDING, PairFacts, Pairs, Program, Range, Relations, Resumed,
     Rom, Rules, Span, Stack, Successor, Successors, Target, Val, Verdict, any, callee_at, check,
     check_irqs, check_node, covers, covers_core, enter, exit_of, handler, is_ram, kept_of,

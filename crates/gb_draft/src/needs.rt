@@ -1,6 +1,5 @@
 //! The bytes of stack that procedures need.
 
-use gb_fixpoint::limits::PROCEDURES;
 use gb_fixpoint::types::{CallSite, Run};
 use std::alloc::{AllocError, Global};
 use std::collections::{BTreeMap, BTreeSet};
@@ -13,7 +12,7 @@ type Held = BTreeMap<CallSite, usize>;
 pub fn find_needs(alloc: Global, run: &mut Run<'_>) -> Result<Option<usize>, AllocError> {
     let held = held_at_calls(alloc, run)?;
     set_own_needs(run);
-    for _ in 0..=PROCEDURES {
+    for _ in 0..=run.procedures.len() {
         if !raise_needs(run, &held) {
             return Ok(None);
         }

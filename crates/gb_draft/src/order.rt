@@ -6,7 +6,7 @@ use gb_fixpoint::entries::Entered;
 use gb_fixpoint::keys::ProcedureKey;
 use gb_fixpoint::register_set::REGISTERS;
 use gb_fixpoint::types::{Run, RunProcedure};
-use gb_fixpoint::{Abs, Core, ImeSet, Program, Rules, Val, covers};
+use gb_fixpoint::{Abs, Core, ImeSet, Rules, Val, covers};
 use std::alloc::{AllocError, Global};
 use std::collections::{BTreeMap, BTreeSet};
 
@@ -68,8 +68,16 @@ fn state_width(state: &Abs) -> usize {
         .saturating_add(unknown)
 }
 
+/// A procedure of version 4, by the address of its entry and its place among those of one address.
+#[derive(Clone, Copy, PartialEq, Eq, PartialOrd, Ord)]
+struct Addressed {
+    address: u16,
+    place: usize,
+    number: usize,
+}
+
 /// The numbers of the procedures in the order of a certificate: main, then narrow ones first, but none before one
-/// that has to precede it.
+/// that has to precede it. In version 4 they stand by the addresses of their entries, and so only where these are one.
 pub(crate) fn order(alloc: Global, run: &Run<'_>) -> Result<Vec<usize>, AllocError> {
     let mut open = by_width(alloc, run)?;
     let mut precedences = precedences(alloc, run)?;
@@ -80,7 +88,48 @@ pub(crate) fn order(alloc: Global, run: &Run<'_>) -> Result<Vec<usize>, AllocErr
         &mut precedences,
         &mut order,
     )?;
+    if run.is_fourth() {
+        let addresses = addresses(alloc, run)?;
+        return by_address(alloc, order.as_slice(), addresses.as_slice());
+    }
     Ok(order)
+}
+
+/// The addresses of the entries of a run's procedures.
+fn addresses(alloc: Global, run: &Run<'_>) -> Result<Vec<u16>, AllocError> {
+    run.procedures
+        .iter()
+        .map(|procedure| procedure.key.target)
+        .collect(alloc)
+}
+
+/// These procedures by the addresses of their entries, main first; those of one address as they stood.
+///
+/// # Errors
+///
+/// Where memory ran out.
+pub fn by_address(
+    alloc: Global,
+    order: &[usize],
+    addresses: &[u16],
+) -> Result<Vec<usize>, AllocError> {
+    let mut addressed = Vec::new(alloc);
+    for (place, number) in order.iter().enumerate() {
+        let address = match addresses.get(*number) {
+            Some(address) if *number != 0 => *address,
+            _ => 0,
+        };
+        addressed.push(Addressed {
+            address,
+            place,
+            number: *number,
+        })?;
+    }
+    addressed.sort()?;
+    addressed
+        .iter()
+        .map(|procedure| procedure.number)
+        .collect(alloc)
 }
 
 /// Takes open procedures one after another, none before one that has to precede it, until there are so many.
@@ -235,7 +284,7 @@ fn covers_entry(run: &Run<'_>, procedure: usize, entered: &Entered) -> bool {
     };
     match run.nodes.get(entry) {
         Some(node) => fits(run, procedure, entered)
-            && covers(&Program::unknown(), &entered.state, &node.state),
+            && covers(&run.program(), &entered.state, &node.state),
         None => false,
     }
 }

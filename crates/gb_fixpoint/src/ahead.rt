@@ -5,7 +5,7 @@ use crate::bounds::box_of;
 use crate::instruction::decoded;
 use crate::relating::hull;
 use crate::types::{Run, RunNode};
-use gb_verify::{Abs, Program, Span, Successor, Target, WordPair, successors_of};
+use gb_verify::{Abs, Span, Successor, Target, WordPair};
 use std::alloc::AllocError;
 
 /// The most instructions that are stepped through.
@@ -50,8 +50,6 @@ impl<'a> Run<'a> {
     /// lowest to the highest. None if no way leads back there.
     pub fn span_ahead(&self, node: &RunNode, address: u16) -> Result<Option<Span>, AllocError> {
         let around = node.key.address;
-        let stack = self.stack_of(node.key.procedure);
-        let program = Program::unknown();
         let mut all = None;
         let mut left = Vec::new(self.alloc);
         left.push(StateAhead {
@@ -68,14 +66,7 @@ impl<'a> Run<'a> {
                 });
             }
             if let Ok(row) = decoded(self.rom, &ahead.state, ahead.address) {
-                let ways = successors_of(
-                    stack,
-                    &program,
-                    self.rom,
-                    row,
-                    ahead.address,
-                    &ahead.state,
-                );
+                let ways = self.ways_from(node.key.procedure, row, ahead.address, &ahead.state);
                 // The last one is followed first: a branch that is taken.
                 add_way(&ways.not_taken, around, &mut left)?;
                 add_way(&ways.taken, around, &mut left)?;

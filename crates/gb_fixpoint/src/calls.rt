@@ -4,14 +4,11 @@ use crate::cause::Cause;
 use crate::code_point::CodePoint;
 use crate::contexts::Context;
 use crate::keys::{ControllerKey, KnownRegisters, NodeKey, ProcedureKey};
-use crate::limits::PROCEDURES;
 use crate::probing::Arrival;
 use crate::register_set::RegisterSet;
 use crate::stop::RunStop;
-use crate::tracking::keep_tracked;
 use crate::types::{CallSite, Run, RunProcedure};
-use arrayvec::ArrayVec;
-use gb_verify::{Abs, Core, Program, Range, Resumed, Rules, enter, resume};
+use gb_verify::{Abs, Core, Range, Resumed, Rules};
 use std::collections::BTreeSet;
 use std::mem;
 
@@ -37,22 +34,23 @@ impl<'a> Run<'a> {
         }
         self.ask_callee(procedure, caller, point)?;
         let context = self.context(procedure, caller, point);
-        let mut entered = enter(
-            &Program::unknown(),
-            self.rules(),
-            context.taken,
-            &ArrayVec::new(),
-            caller,
-        );
-        keep_tracked(&mut entered, self.tracked.as_slice());
+        let mut entered = self.entered(context.taken, caller);
+        self.settle(&mut entered);
+        self.offer_fills(&mut entered, target);
         let cells = self.number_entry_cells(point, entered.cells())?;
-        let key = self.procedure_key(entered.core(), point, is_handler, cells, context);
+        let key = ProcedureKey {
+            has_all_facts: self.has_facts() && self.claims_all(&entered),
+            ..self.procedure_key(entered.core(), point, is_handler, cells, context)
+        };
         if let Some(probed) = &mut self.probed {
             probed.push(Arrival::Procedure(key))?;
             return self.go_behind_probed(number, point, caller, back);
         }
         let callee = self.procedure_with(key)?;
         self.link(number, procedure, callee, target)?;
+        if is_handler {
+            self.lower_at_handler(&mut entered)?;
+        }
         self.arrive(Some(number), NodeKey::of_entry(callee, point), &entered)?;
         self.inherit_ranges(procedure, callee)?;
         self.go_behind(number, callee, caller, back)
@@ -66,26 +64,8 @@ impl<'a> Run<'a> {
         caller: &Abs,
         back: u16,
     ) -> Result<(), RunStop> {
-        let Some(called) = self.procedures.get(callee) else {
-            return Ok(());
-        };
-        match &called.exit {
-            Some(exit) => {
-                let taken = called.key.taken;
-                let ranges = called.ranges.as_slice();
-                let program = Program::unknown();
-                let resumed = resume(
-                    &program,
-                    self.rules(),
-                    false,
-                    taken,
-                    ranges,
-                    &ArrayVec::new(),
-                    caller,
-                    exit,
-                );
-                self.go_on_with(number, back, resumed)
-            }
+        match self.resumed(callee, caller) {
+            Some(resumed) => self.go_on_with(number, back, resumed),
             None => Ok(()),
         }
     }
@@ -132,6 +112,7 @@ impl<'a> Run<'a> {
             cells: if is_flat { 0 } else { cells },
             base: context.base,
             taken: context.taken,
+            has_all_facts: false,
         }
     }
 
@@ -141,7 +122,7 @@ impl<'a> Run<'a> {
             return Ok(*number);
         }
         let number = self.procedures.len();
-        if number >= PROCEDURES {
+        if number >= self.configuration.edition.procedures() {
             return Err(RunStop::Crowded);
         }
         self.procedure_index.insert(key, number)?;
@@ -181,7 +162,7 @@ impl<'a> Run<'a> {
         let mut seen = BTreeSet::new(self.alloc);
         seen.insert(from)?;
         let mut open = vec![in self.alloc; from]?;
-        for _ in 0..=PROCEDURES {
+        for _ in 0..=self.procedures.len() {
             let Some(procedure) = open.pop() else {
                 return Ok(false);
             };

@@ -96,6 +96,8 @@ pub enum Wish {
     Base(CodePoint),
     /// They take over so many more of their callers' bytes.
     Arguments { target: CodePoint, more: u8 },
+    /// The nodes of the procedures that begin there are told apart by the bank, though RAM shadows it.
+    Banks(CodePoint),
     /// Main's stack begins below this address.
     Top(u16),
 }
@@ -120,9 +122,10 @@ impl Wish {
     /// The target that it is about; none of the place of main's stack.
     pub fn target(self) -> Option<CodePoint> {
         match self {
-            Wish::Inline(target) | Wish::Base(target) | Wish::Arguments { target, .. } => Some(
-                target,
-            ),
+            Wish::Inline(target)
+            | Wish::Base(target)
+            | Wish::Arguments { target, .. }
+            | Wish::Banks(target) => Some(target),
             Wish::Top(_) => None,
         }
     }

@@ -1,8 +1,9 @@
 //! How finely a run tells states apart.
 
 use crate::code_point::CodePoint;
-use crate::limits::NODES;
+use crate::limits::{MANY_PROCEDURES, NODES, PROCEDURES};
 use crate::register_set::RegisterSet;
+use gb_domain::summary::Fact;
 use gb_ops::machine::Region;
 use gb_verify::Rules;
 use std::alloc::{AllocError, Global};
@@ -58,12 +59,46 @@ impl EntryCells {
     }
 }
 
+/// By the rules of which versions of certificates states are taken on.
+#[derive(Clone, Copy, PartialEq, Eq)]
+pub enum Edition {
+    /// Of versions 1 and 2.
+    Early,
+    /// Of version 3.
+    Third,
+    /// Of version 4, whose states know what the whole program does to memory and to the controller.
+    Fourth,
+}
+
+impl Edition {
+    /// The rules by which single states are taken on.
+    pub fn rules(self) -> Rules {
+        match self {
+            Edition::Early => Rules::Simple,
+            Edition::Third | Edition::Fourth => Rules::Extended,
+        }
+    }
+
+    /// Whether states know of the whole program.
+    pub fn is_fourth(self) -> bool {
+        self == Edition::Fourth
+    }
+
+    /// The most procedures of a certificate.
+    pub fn procedures(self) -> usize {
+        match self {
+            Edition::Early | Edition::Third => PROCEDURES,
+            Edition::Fourth => MANY_PROCEDURES,
+        }
+    }
+}
+
 /// What refinement has decided so far. Each failure adds an edit; the last one may be taken back, and at the end what a
 /// certificate doesn't need is.
 #[derive(Clone, Drop)]
 pub struct Configuration {
     /// The rules by which states are taken on.
-    pub rules: Rules,
+    pub edition: Edition,
     /// The stack region.
     pub region: Region,
     /// Whether LD SP,n16 was met, by which the region is set.
@@ -72,6 +107,12 @@ pub struct Configuration {
     pub is_stack_given: bool,
     /// The memory cells that are kept, as many as a state holds.
     pub tracked: BTreeSet<u16>,
+    /// What the certificate says of RAM for the whole program, by the rules of version 4.
+    pub facts: Vec<Fact>,
+    /// How many of them hold wherever the start is done; the others come last.
+    pub early_facts: usize,
+    /// The addresses whose bytes procedures but main keep: by the rules of version 4, as many as one names.
+    pub kept: BTreeSet<u16>,
     /// Where the known registers are part of the key.
     pub keyed: HashSet<TargetPlace>,
     /// Where H and D are taken value by value, while they have at most 8 values, and are part of the key.
@@ -93,6 +134,8 @@ pub struct Configuration {
     pub parted: HashMap<CodePoint, RegisterSet>,
     /// Where procedures begin that are parted by the controller, by the rules of version 3; by those of versions 1 and 2 all are.
     pub by_controller: HashSet<CodePoint>,
+    /// Where procedures begin whose nodes are told apart by the bank though RAM shadows it.
+    pub banked: HashSet<CodePoint>,
     /// By where procedures begin, the cells by whose known values they are parted.
     pub by_cells: HashMap<CodePoint, EntryCells>,
     /// Where procedures begin of which it is known which key cells they or what they call may read or write.
@@ -127,9 +170,9 @@ const POINTS: [u8; 16] = [0, 1, 2, 3, 4, 7, 8, 15, 16, 31, 32, 63, 64, 127, 128,
 
 impl Configuration {
     /// The coarsest one. Its region is that of the stack at power-up, one word below FFFE.
-    pub fn new(alloc: Global, rules: Rules) -> Result<Configuration, AllocError> {
+    pub fn new(alloc: Global, edition: Edition) -> Result<Configuration, AllocError> {
         Ok(Configuration {
-            rules,
+            edition,
             region: Region {
                 first: 0xFFFC,
                 last: 0xFFFD,
@@ -137,6 +180,9 @@ impl Configuration {
             is_stack_seen: false,
             is_stack_given: false,
             tracked: BTreeSet::new(alloc),
+            facts: Vec::new(alloc),
+            early_facts: 0,
+            kept: BTreeSet::new(alloc),
             keyed: HashSet::new(alloc),
             paged: HashSet::new(alloc),
             split: HashMap::new(alloc),
@@ -146,6 +192,7 @@ impl Configuration {
             peeled: HashMap::new(alloc),
             parted: HashMap::new(alloc),
             by_controller: HashSet::new(alloc),
+            banked: HashSet::new(alloc),
             by_cells: HashMap::new(alloc),
             known_targets: HashSet::new(alloc),
             touched: BTreeSet::new(alloc),
@@ -164,7 +211,7 @@ impl Configuration {
     /// How many of its caller's bytes a procedure takes over that begins at a target: by the rules of versions 1 and 2
     /// none.
     pub fn taken_at(&self, target: CodePoint) -> u8 {
-        match self.rules {
+        match self.edition.rules() {
             Rules::Simple => 0,
             Rules::Extended => RETURN_WORD.saturating_add(self.arguments_at(target)),
         }
@@ -180,13 +227,15 @@ impl Configuration {
 
     /// Whether the procedures that begin at a target are parted by the controller.
     pub fn is_by_controller(&self, target: CodePoint) -> bool {
-        let is_asked = self.rules == Rules::Simple || self.by_controller.contains(&target);
+        let is_asked = self.edition == Edition::Early || self.by_controller.contains(&target);
         is_asked && !self.flat.contains(&target)
     }
 
-    /// Whether a key cell is part of the keys of the procedures that begin at a target: unless it is known that they don't touch it.
+    /// Whether a key cell is part of the keys of the procedures that begin at a target: unless it is known that they don't touch it, or
+    /// its byte is kept, so that callers know it behind them.
     pub fn is_key_at(&self, target: CodePoint, cell: u16) -> bool {
         self.key_cells.contains(&cell)
+            && !self.kept.contains(&cell)
             && (!self.known_targets.contains(&target)
                 || self.touched.contains(&TouchedCell { target, cell }))
     }

@@ -1,6 +1,10 @@
-//! Whether a node holds a state already: the checker's test, with both lists of cells gone through once.
+//! Whether a node holds a state already: the checker's test, with both lists of cells gone through once where nothing but cells tells
+//! of RAM.
 
-use gb_verify::{Abs, Cell, Program, Val, any, covers_core, covers_relations, covers_val};
+use crate::basis::Basis;
+use gb_verify::{
+    Abs, Cell, States, Val, any, covers, covers_core, covers_relations, covers_said, covers_val,
+};
 
 /// The cells from an address on; they are in order of address.
 fn from_address(address: u16, cells: &[Cell]) -> &[Cell] {
@@ -36,13 +40,23 @@ pub(crate) fn are_items_known(items: &[Val], others: &[Val]) -> bool {
 }
 
 /// Whether a state stands for all that another one does.
-pub(crate) fn is_covered(other: &Abs, state: &Abs) -> bool {
-    covers_core(Program::unknown().kind, other.core(), state.core())
+pub(crate) fn is_covered(basis: &Basis<'_>, other: &Abs, state: &Abs) -> bool {
+    let said = other.summary();
+    if said.level() != 0 || !said.fills().is_empty() {
+        return covers(&basis.program, other, state);
+    }
+    covers_core(basis.program.kind, other.core(), state.core())
         && are_items_known(state.items(), other.items())
         && are_cells_known(state.cells(), other.cells())
         && covers_relations(
             &other.core().registers,
             other.relations(),
             state.relations(),
+        )
+        && covers_said(
+            &basis.program,
+            &States::of(other),
+            state.cells(),
+            state.summary(),
         )
 }

@@ -3,6 +3,7 @@
 
 use crate::instruction::decoded;
 use crate::limits::{CREEPS, POINT_STEPS};
+use crate::steps::with_known_bits;
 use crate::stop::RunStop;
 use crate::types::{CellPoint, Creep, Run, RunNode};
 use arrayvec::ArrayVec;
@@ -156,10 +157,8 @@ impl<'a> Run<'a> {
                 hi = point.point.min(hi);
             }
         }
-        Val {
-            lo: if val.lo < before.lo { lo } else { val.lo },
-            hi: if before.hi < val.hi { hi } else { val.hi },
-            ..val
-        }
+        let lo = if val.lo < before.lo { lo } else { val.lo };
+        let hi = if before.hi < val.hi { hi } else { val.hi };
+        with_known_bits(lo, hi, val)
     }
 }

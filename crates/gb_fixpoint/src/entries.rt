@@ -3,13 +3,9 @@
 use crate::code_point::CodePoint;
 use crate::contexts::Context;
 use crate::instruction::decoded;
-use crate::tracking::keep_tracked;
 use crate::types::Run;
-use arrayvec::ArrayVec;
 use gb_spelling::INTERRUPT_COUNT;
-use gb_verify::{
-    Abs, Program, Successor, Target, enter, left_by_dispatch, may_come, successors_of,
-};
+use gb_verify::{Abs, Successor, Target, left_by_dispatch, may_come};
 use std::alloc::AllocError;
 
 /// What a node enters, and where.
@@ -34,17 +30,8 @@ impl<'a> Run<'a> {
             return Ok(all);
         };
         if let Ok(row) = decoded(self.rom, &node.state, node.key.address) {
-            let stack = self.stack_of(node.key.procedure);
-            let program = Program::unknown();
-            let ways = successors_of(
-                stack,
-                &program,
-                self.rom,
-                row,
-                node.key.address,
-                &node.state,
-            );
             let caller = node.key.procedure;
+            let ways = self.ways_from(caller, row, node.key.address, &node.state);
             let taken = self.called_by(caller, &ways.taken);
             let not_taken = self.called_by(caller, &ways.not_taken);
             let stays = self.called_by(caller, &ways.stays);
@@ -86,14 +73,8 @@ impl<'a> Run<'a> {
         caller: &Abs,
     ) -> Entered {
         let context = self.context(procedure, caller, target);
-        let mut state = enter(
-            &Program::unknown(),
-            self.rules(),
-            context.taken,
-            &ArrayVec::new(),
-            caller,
-        );
-        keep_tracked(&mut state, self.tracked.as_slice());
+        let mut state = self.entered(context.taken, caller);
+        self.settle(&mut state);
         Entered {
             target,
             is_handler,

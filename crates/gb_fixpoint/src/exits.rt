@@ -2,15 +2,16 @@
 
 use crate::bounds::{WORD_PAIRS, facts_of, halves_of, set_facts};
 use crate::covering::is_covered;
-use crate::limits::{EXIT_GROWTHS, PAIR_GROWTHS};
+use crate::limits::{EXIT_GROWTHS, FILL_GROWTHS, PAIR_GROWTHS};
+use crate::register_set::REGISTERS;
 use crate::steps::Growth;
 use crate::stop::RunStop;
-use crate::types::Run;
+use crate::types::{Run, RunProcedure};
 use arrayvec::ArrayVec;
 use gb_ops::registers::Registers;
 use gb_verify::{
     Abs, Cell, Core, Ctl, Flg, KeptBanks, May, NOTHING_KNOWN, OneByte, Origin, Pairs, Range,
-    Relations, Val,
+    Relations, Val, any,
 };
 
 /// Any value of a bit.
@@ -164,11 +165,128 @@ fn seen(ranges: &[Range], exit: &Abs) -> Abs {
     )
 }
 
+/// A value; with any bounds, where it is a copy of this: what its caller knows of that comes back then.
+fn given_back_val(origin: Origin, val: Val) -> Val {
+    if val.origin == Some(origin) {
+        Val {
+            origin: Some(origin),
+            ..any()
+        }
+    } else {
+        val
+    }
+}
+
+fn given_back_registers(registers: &Registers<Val>) -> Registers<Val> {
+    let mut left = *registers;
+    for register in REGISTERS {
+        let val = registers.get(register);
+        left.set(register, given_back_val(Origin::of(register), val));
+    }
+    left
+}
+
+/// The origin of the byte that is kept at an address, by all that are.
+pub(crate) fn kept_origin(kept: &[u16], address: u16) -> Option<Origin> {
+    match kept.binary_search(&address) {
+        Ok(number) => Some(Origin::Kept(u8::try_from(number).unwrap_or(0))),
+        Err(_) => None,
+    }
+}
+
+fn given_back_cells(kept: &[u16], cells: &[Cell]) -> ArrayVec<Cell, 64> {
+    let mut left = ArrayVec::new();
+    for cell in cells {
+        let val = match kept_origin(kept, cell.address) {
+            Some(origin) => given_back_val(origin, cell.val),
+            None => cell.val,
+        };
+        let _ = left.try_push(Cell {
+            address: cell.address,
+            val,
+        });
+    }
+    left
+}
+
+/// What a procedure is said to return with, by the rules of version 4, where so many addresses are kept: of what it gives back its
+/// callers know more than it does.
+fn told_exit(kept: &[u16], exit: &Abs) -> Abs {
+    let core = exit.core();
+    let mut told = exit.with_core(Core {
+        ie: given_back_val(Origin::Ie, core.ie),
+        registers: given_back_registers(&core.registers),
+        ..*core
+    });
+    told.set_cells(given_back_cells(kept, exit.cells()));
+    told
+}
+
+/// The controller, of which nothing is said that the callers' own stands for.
+fn seen_controller(ctl: &Ctl) -> Ctl {
+    let mut seen = *ctl;
+    if ctl.kept.bank && ctl.kept.high_bank {
+        seen.bank_lo = KEPT.bank_lo;
+        seen.bank_hi = KEPT.bank_hi;
+    }
+    if ctl.kept.second {
+        seen.second_lo = KEPT.second_lo;
+        seen.second_hi = KEPT.second_hi;
+    }
+    if ctl.kept.gate {
+        seen.gate = EITHER;
+    }
+    if ctl.kept.mode {
+        seen.mode = EITHER;
+    }
+    seen
+}
+
+/// The cells in the ranges, with what they are copies of.
+fn given_cells(ranges: &[Range], cells: &[Cell]) -> ArrayVec<Cell, 64> {
+    let mut given = ArrayVec::new();
+    for cell in cells {
+        let is_given = ranges.iter().any(|range| range.first <= cell.address
+            && cell.address <= range.last);
+        if is_given {
+            let _ = given.try_push(*cell);
+        }
+    }
+    given
+}
+
+/// What the callers of a procedure with these ranges see of an exit that it is said to return with, by the rules of version 4: each
+/// value that is a copy is cut to what they know of what it is a copy of.
+fn seen_as_told(ranges: &[Range], exit: &Abs) -> Abs {
+    let core = exit.core();
+    let mut seen = exit.with_core(Core {
+        ctl: seen_controller(&core.ctl),
+        flags: seen_flags(core.flags),
+        ..*core
+    });
+    seen.set_cells(given_cells(ranges, exit.cells()));
+    seen.set_relations(seen_relations(exit));
+    seen
+}
+
+impl RunProcedure {
+    /// What it returns with, if it has returned yet.
+    fn exact_exit(&self) -> Option<&Abs> {
+        match (&self.exact, &self.exit) {
+            (Some(exact), _) => Some(exact),
+            (None, Some(exit)) => Some(exit),
+            (None, None) => None,
+        }
+    }
+}
+
 impl<'a> Run<'a> {
     /// A procedure's exit becomes one above it and a state. Where its callers see that it grew, they go on again.
     pub(crate) fn exit(&mut self, procedure: usize, state: &Abs) -> Result<(), RunStop> {
         if self.is_held_by_exit(procedure, state) {
             Ok(())
+        } else if self.has_facts() {
+            self.grow_exit_with_facts(procedure, state)
         } else {
             self.grow_exit(procedure, state)
         }
@@ -177,8 +295,8 @@ impl<'a> Run<'a> {
     /// Whether a procedure's exit holds a state already.
     fn is_held_by_exit(&self, procedure: usize, state: &Abs) -> bool {
         match self.procedures.get(procedure) {
-            Some(left) => match &left.exit {
-                Some(exit) => is_covered(state, exit),
+            Some(left) => match left.exact_exit() {
+                Some(exit) => is_covered(&self.basis(), state, exit),
                 None => false,
             },
             None => true,
@@ -188,12 +306,21 @@ impl<'a> Run<'a> {
     /// A procedure's exit grows to hold a state. Out of line: room for states is cleared only then.
     #[inline(never)]
     fn grow_exit(&mut self, procedure: usize, state: &Abs) -> Result<(), RunStop> {
-        let Some(exit) = self.grown_exit(procedure, state) else {
+        let Some(mut exit) = self.grown_exit(procedure, state) else {
             return Ok(());
         };
-        let is_seen = self.is_growth_seen(procedure, &exit);
+        if self.has_facts() {
+            self.keep_exit_facts(procedure, state, &mut exit)?;
+        }
+        let (told, exact) = if self.is_fourth() {
+            (told_exit(self.kept.as_slice(), &exit), Some(exit))
+        } else {
+            (exit, None)
+        };
+        let is_seen = self.is_growth_seen(procedure, &told);
         if let Some(left) = self.procedures.get_mut(procedure) {
-            left.exit = Some(exit);
+            left.exit = Some(told);
+            left.exact = exact;
             left.growths = left.growths.saturating_add(1);
         }
         if is_seen {
@@ -205,7 +332,7 @@ impl<'a> Run<'a> {
     /// A procedure's exit with one more state.
     fn grown_exit(&self, procedure: usize, state: &Abs) -> Option<Abs> {
         let left = self.procedures.get(procedure)?;
-        let Some(exit) = &left.exit else {
+        let Some(exit) = left.exact_exit() else {
             return Some(state.copied());
         };
         let growth = if left.growths > PAIR_GROWTHS {
@@ -215,7 +342,24 @@ impl<'a> Run<'a> {
         } else {
             Growth::Joined
         };
-        Some(self.widening.grown(self.rules(), growth, exit, state))
+        Some(self.widening.grown(&self.basis(), growth, exit, state))
+    }
+
+    /// A procedure's exit has grown to hold a state: of cells and fills what both have.
+    fn keep_exit_facts(
+        &mut self,
+        procedure: usize,
+        state: &Abs,
+        grown: &mut Abs,
+    ) -> Result<(), RunStop> {
+        let (old, is_early) = match self.procedures.get(procedure) {
+            Some(left) => match left.exact_exit() {
+                Some(exit) => (exit.copied(), left.growths < FILL_GROWTHS),
+                None => return Ok(()),
+            },
+            None => return Ok(()),
+        };
+        self.join_facts(&old, state, grown, is_early)
     }
 
     /// Whether a procedure's callers see that its exit grows to this one.
@@ -227,6 +371,34 @@ impl<'a> Run<'a> {
             return true;
         };
         let ranges = left.ranges.as_slice();
-        !is_covered(&seen(ranges, grown), &seen(ranges, exit))
+        let basis = self.basis();
+        if self.is_fourth() {
+            !is_covered(
+                &basis,
+                &seen_as_told(ranges, grown),
+                &seen_as_told(ranges, exit),
+            )
+        } else {
+            !is_covered(&basis, &seen(ranges, grown), &seen(ranges, exit))
+        }
+    }
+}
+
+impl<'a> Run<'a> {
+    /// A procedure's exit grows to hold a state, in a run with facts.
+    #[inline(never)]
+    fn grow_exit_with_facts(&mut self, procedure: usize, state: &Abs) -> Result<(), RunStop> {
+        let old = match self.procedures.get(procedure) {
+            Some(left) => match left.exact_exit() {
+                Some(exit) => exit.copied(),
+                None => return self.grow_exit(procedure, state),
+            },
+            None => return Ok(()),
+        };
+        let state = self.given_back(state, &old)?;
+        if is_covered(&self.basis(), &state, &old) {
+            return Ok(());
+        }
+        self.grow_exit(procedure, &state)
     }
 }

@@ -1,21 +1,26 @@
 //! States flow to the nodes of their keys.
 
+use crate::basis::Basis;
 use crate::code_point::CodePoint;
 use crate::configuration::{EntryCells, TargetPlace};
 use crate::covering::is_covered;
-use crate::keys::{KnownRegisters, NodeKey};
+use crate::joining::val_of;
+use crate::keys::{ControllerKey, KnownRegisters, NodeKey};
 use crate::limits::{
     GROWTHS, HEAD_GROWTHS, PAGES, PAIR_GROWTHS, SIMPLE_GROWTHS, SIMPLE_HEAD_GROWTHS,
 };
 use crate::probing::Arrival;
 use crate::register_set::{REGISTERS, RegisterSet};
+use crate::shadowing::is_bank_shadowed;
 use crate::steps::{Growth, link_in};
 use crate::stop::RunStop;
-use crate::tracking::keep_tracked;
 use crate::types::{CellValue, Edge, Run, RunNode, Spot};
 use arrayvec::ArrayVec;
+use gb_domain::interval::{bounds, cut};
+use gb_domain::values::interval_of;
 use gb_ops::op::Register;
-use gb_verify::{Abs, Cell, Core, Rules, Val, reduced};
+use gb_verify::{Abs, Cell, Core, Rules, reduced};
+use std::mem;
 
 impl<'a> Run<'a> {
     /// A state goes on from a node to an address of the same procedure.
@@ -37,7 +42,8 @@ impl<'a> Run<'a> {
         point: CodePoint,
         state: &mut Abs,
     ) -> Result<(), RunStop> {
-        keep_tracked(state, self.tracked.as_slice());
+        self.settle(state);
+        self.offer_fills(state, point.address);
         let place = TargetPlace {
             target: self.target(procedure),
             point,
@@ -112,11 +118,12 @@ impl<'a> Run<'a> {
         None
     }
 
-    /// A state in which a register has other bounds; none where nothing is meant then.
+    /// A state in which a register's values are cut to bounds; none where nothing is meant then.
     fn with_bounds(&self, register: Register, lo: u8, hi: u8, state: &Abs) -> Option<Abs> {
         let mut core = *state.core();
         let val = core.registers.get(register);
-        core.registers.set(register, Val { lo, hi, ..val });
+        let interval = cut(interval_of(val), bounds(lo, hi))?;
+        core.registers.set(register, val_of(interval, val.origin));
         let product = reduced(self.rules(), &core, state.relations())?;
         let mut single = state.with_core(product.core);
         single.set_relations(product.relations);
@@ -220,12 +227,28 @@ impl<'a> Run<'a> {
             procedure,
             place.point,
             core,
+            self.controller_key(procedure, state),
             state.items().len(),
             self.key_registers(place, core),
             cells,
             words,
         );
         self.arrive(Some(from), key, state)
+    }
+
+    /// What of the controller tells a procedure's nodes apart: by the rules of version 4 no bank that isn't known, and none that an
+    /// address of RAM shadows, which tells more, unless it was asked for.
+    fn controller_key(&self, procedure: usize, state: &Abs) -> ControllerKey {
+        let key = ControllerKey::of(&state.core().ctl);
+        if !self.is_fourth() {
+            return key;
+        }
+        let is_asked = self.configuration.banked.contains(&self.target(procedure));
+        if is_bank_shadowed(state) && !is_asked {
+            key.of_known_banks().without_bank()
+        } else {
+            key.of_known_banks()
+        }
     }
 
     /// The key cells that have one value alone, and those of a procedure's own that have.
@@ -316,6 +339,9 @@ impl<'a> Run<'a> {
             probed.push(Arrival::Node(key))?;
             return Ok(());
         }
+        if self.is_fourth() {
+            self.record_shadows(state)?;
+        }
         match self.node_index.get(&key) {
             Some(number) => {
                 let number = *number;
@@ -355,24 +381,24 @@ impl<'a> Run<'a> {
         let Some(node) = self.nodes.get(number) else {
             return Ok(());
         };
-        if is_covered(state, &node.state) {
+        if is_covered(&self.basis(), state, &node.state) {
             return Ok(());
+        }
+        if self.has_facts() {
+            return self.grow_with_facts(number, state);
         }
         self.grow_to_hold(number, state)
     }
 
     /// Lets a node grow to hold a state that it doesn't hold yet.
     #[inline(never)]
-    fn grow_to_hold(&mut self, number: usize, state: &Abs) -> Result<(), RunStop> {
+    pub(crate) fn grow_to_hold(&mut self, number: usize, state: &Abs) -> Result<(), RunStop> {
         let Some(node) = self.nodes.get(number) else {
             return Ok(());
         };
         let growth = self.growth_of(node);
         if growth == Growth::Linked {
-            let rules = self.rules();
-            if let Some(node) = self.nodes.get_mut(number) {
-                link_in(rules, &mut node.state, state);
-            }
+            self.link_to(number, state);
         } else {
             self.widen(number, growth, state)?;
         }
@@ -380,6 +406,18 @@ impl<'a> Run<'a> {
             node.growths = node.growths.saturating_add(1);
         }
         self.enqueue(number)
+    }
+
+    /// A node's state becomes its join with another one, in place. The facts are taken out meanwhile, so that they and the nodes are
+    /// not lent by one owner.
+    fn link_to(&mut self, number: usize, state: &Abs) {
+        let facts = mem::replace(&mut self.configuration.facts, Vec::new(self.alloc));
+        let edition = self.configuration.edition;
+        let basis = Basis::of(edition, self.rom.kind(), facts.as_slice());
+        if let Some(node) = self.nodes.get_mut(number) {
+            link_in(&basis, &mut node.state, state);
+        }
+        self.configuration.facts = facts;
     }
 
     /// A node's state is widened.
@@ -390,7 +428,7 @@ impl<'a> Run<'a> {
         };
         let mut grown = self
             .widening
-            .grown(self.rules(), growth, &node.state, state);
+            .grown(&self.basis(), growth, &node.state, state);
         self.hasten(number, &mut grown)?;
         if let Some(node) = self.nodes.get_mut(number) {
             node.state = grown;

@@ -5,15 +5,18 @@ use crate::cause::Cause;
 use crate::code_point::CodePoint;
 use crate::contexts::Context;
 use crate::covering::{are_cells_known, are_items_known};
+use crate::exits::kept_origin;
+use crate::keys::ProcedureKey;
 use crate::register_set::{REGISTERS, RegisterSet};
 use crate::stop::RunStop;
 use crate::types::{Run, RunNode, RunProcedure};
+use gb_ops::machine::Kind;
 use gb_ops::registers::Registers;
 use gb_spelling::{INTERRUPT_COUNT, vector_of};
 use gb_verify::{
-    Abs, Cell, Core, Ctl, Flg, ImeSet, KeptBanks, Origin, Pairs, Program, Range, Rules, Val,
-    cell_at, covers_controller, covers_core, covers_ime, covers_relations, covers_val,
-    left_by_dispatch, may_come,
+    Abs, Cell, Core, Ctl, Flg, ImeSet, KeptBanks, Origin, Pairs, Range, Rules, Shadows, States,
+    Summary, Val, cell_at, covers_controller, covers_core, covers_ime, covers_relations,
+    covers_said, covers_val, left_by_dispatch, may_come,
 };
 
 /// The bytes of a return word.
@@ -83,8 +86,8 @@ fn gives_back_all(exit: &Core) -> bool {
 }
 
 /// Whether a core holds what is left of it by a handler that gives registers, flags and IE back.
-fn holds_core(core: &Core, exit: &Core) -> bool {
-    (exit.ctl.kept.are_all() || covers_controller(Program::unknown().kind, &exit.ctl, &core.ctl))
+fn holds_core(kind: Kind, core: &Core, exit: &Core) -> bool {
+    (exit.ctl.kept.are_all() || covers_controller(kind, &exit.ctl, &core.ctl))
         && covers_ime(&exit.ime, &core.ime)
         && exit.bound <= core.bound
 }
@@ -102,31 +105,56 @@ fn is_in(ranges: &[Range], address: u16) -> bool {
 }
 
 /// Whether what is known of the cells that a handler may write is known behind it.
-fn holds_cells(ranges: &[Range], cells: &[Cell], exit: &[Cell]) -> bool {
+fn holds_cells(kept: &[u16], ranges: &[Range], cells: &[Cell], exit: &[Cell]) -> bool {
     cells.iter().all(|cell| {
-        !is_in(ranges, cell.address)
-            || {
-                let left = Val {
-                    origin: None,
-                    ..cell_at(cell.address, exit)
-                };
-                covers_val(&left, &cell.val)
-            }
+        !is_in(ranges, cell.address) || holds_cell(kept, cell, cell_at(cell.address, exit))
     })
 }
 
-/// Whether a state holds all that it goes on with behind a handler with these ranges and this exit.
-fn holds_left(state: &Abs, ranges: &[Range], exit: &Abs) -> bool {
-    let is_place_kept = match state.relations().byte.address {
-        Some(address) => !is_in(ranges, address),
-        None => true,
+/// Whether what is known of a cell is known where a handler leaves this of it: also where that is what it was.
+fn holds_cell(kept: &[u16], cell: &Cell, left: Val) -> bool {
+    let own = kept_origin(kept, cell.address);
+    if own.is_some() && left.origin == own {
+        return true;
+    }
+    let left = Val {
+        origin: None,
+        ..left
     };
-    exit.items().is_empty()
-        && gives_back_all(exit.core())
-        && holds_core(state.core(), exit.core())
-        && !has_links(&exit.relations().pairs)
-        && is_place_kept
-        && holds_cells(ranges, state.cells(), exit.cells())
+    covers_val(&left, &cell.val)
+}
+
+/// Whether the places that shadow a register of the controller do so behind a handler that gives back all registers, and whether it
+/// keeps that one.
+fn holds_shadows(ranges: &[Range], shadows: &Shadows, exit: &Shadows, is_kept: bool) -> bool {
+    let is_address_held = match (shadows.address, exit.address) {
+        (None, _) => true,
+        (Some(address), Some(left)) => address == left,
+        (Some(address), None) => is_kept && !is_in(ranges, address),
+    };
+    let has_register = REGISTERS
+        .iter()
+        .any(|register| shadows.registers.get(*register));
+    is_address_held && (is_kept || !has_register)
+}
+
+/// Whether what a state says of the whole program is known behind a handler with these ranges and this exit. Where facts or fills hold,
+/// that isn't seen at once.
+fn holds_summary(ranges: &[Range], summary: &Summary, exit: &Abs) -> bool {
+    if summary.is_silent() {
+        return true;
+    }
+    let (shadows, left) = (summary.shadows(), exit.summary().shadows());
+    let kept = exit.core().ctl.kept;
+    summary.level() == 0
+        && summary.fills().is_empty()
+        && holds_shadows(
+            ranges,
+            &shadows.first,
+            &left.first,
+            kept.bank && kept.high_bank,
+        )
+        && holds_shadows(ranges, &shadows.second, &left.second, kept.second)
 }
 
 impl<'a> Run<'a> {
@@ -200,7 +228,10 @@ impl<'a> Run<'a> {
             base: 0,
             taken: RETURN_WORD,
         };
-        let key = self.procedure_key(entered, vector, true, cells, context);
+        let key = ProcedureKey {
+            has_all_facts: self.has_facts() && self.claims_all(&node.state),
+            ..self.procedure_key(entered, vector, true, cells, context)
+        };
         self.procedure_index.get(&key).copied()
     }
 
@@ -212,7 +243,7 @@ impl<'a> Run<'a> {
         let entered = entered_core(node.state.core());
         let number = self.handler_of(node, vector, &entered)?;
         let handler = self.procedures.get(number)?;
-        if self.is_entered(handler, node, &entered) && is_left(handler, node) {
+        if self.is_entered(handler, node, &entered) && self.is_left(handler, node) {
             Some(number)
         } else {
             None
@@ -247,14 +278,60 @@ impl<'a> Run<'a> {
             return false;
         };
         let state = &first.state;
-        covers_core(Program::unknown().kind, entered, state.core())
+        let program = self.program();
+        covers_core(program.kind, entered, state.core())
             && are_items_known(state.items(), &return_word(node.key.address))
-            && are_cells_known(state.cells(), node.state.cells())
+            && self.are_cells_entered(state.cells(), node.state.cells())
             && covers_relations(
                 &entered.registers,
                 node.state.relations(),
                 state.relations(),
             )
+            && covers_said(
+                &program,
+                &States::of(&node.state),
+                state.cells(),
+                state.summary(),
+            )
+    }
+
+    /// Whether all that cells at a procedure's entry say is known of its caller's: those that are kept are copies of themselves.
+    fn are_cells_entered(&self, cells: &[Cell], callers: &[Cell]) -> bool {
+        if self.kept.is_empty() {
+            return are_cells_known(cells, callers);
+        }
+        cells.iter().all(|cell| {
+            let known = cell_at(cell.address, callers);
+            let origin = match kept_origin(self.kept.as_slice(), cell.address) {
+                Some(origin) => Some(origin),
+                None => known.origin,
+            };
+            covers_val(&Val { origin, ..known }, &cell.val)
+        })
+    }
+
+    /// Whether a node holds all that it goes on with behind a handler, or the handler hasn't returned yet.
+    fn is_left(&self, handler: &RunProcedure, node: &RunNode) -> bool {
+        match &handler.exit {
+            Some(exit) => self.holds_left(&node.state, handler.ranges.as_slice(), exit),
+            None => true,
+        }
+    }
+
+    /// Whether a state holds all that it goes on with behind a handler with these ranges and this exit.
+    fn holds_left(&self, state: &Abs, ranges: &[Range], exit: &Abs) -> bool {
+        let is_place_kept = match state.relations().byte.address {
+            Some(address) => !is_in(ranges, address),
+            None => true,
+        };
+        let kind = self.program().kind;
+        exit.items().is_empty()
+            && gives_back_all(exit.core())
+            && holds_core(kind, state.core(), exit.core())
+            && !has_links(&exit.relations().pairs)
+            && is_place_kept
+            && holds_cells(self.kept.as_slice(), ranges, state.cells(), exit.cells())
+            && holds_summary(ranges, state.summary(), exit)
     }
 
     /// Whether it is still this handler that comes at a node, whose state may have grown since.
@@ -275,7 +352,7 @@ impl<'a> Run<'a> {
             return Ok(());
         };
         let is_held = match self.procedures.get(handler) {
-            Some(handler) => self.is_plain(handler.key.point()) && is_left(handler, node),
+            Some(handler) => self.is_plain(handler.key.point()) && self.is_left(handler, node),
             None => true,
         };
         if is_held || !self.is_still_entered(node, handler) {
@@ -297,13 +374,5 @@ impl<'a> Run<'a> {
         };
         let after = left_by_dispatch(self.rules(), address, &node.state);
         self.go_behind(number, handler, &after, address)
-    }
-}
-
-/// Whether a node holds all that it goes on with behind a handler, or the handler hasn't returned yet.
-fn is_left(handler: &RunProcedure, node: &RunNode) -> bool {
-    match &handler.exit {
-        Some(exit) => holds_left(&node.state, handler.ranges.as_slice(), exit),
-        None => true,
     }
 }

@@ -1,7 +1,13 @@
 //! The least state above two others.
 
+use crate::basis::Basis;
+use crate::configuration::Edition;
 use crate::relating::{KnownRelations, join_relations};
+use crate::shadowing::join_summaries;
 use arrayvec::ArrayVec;
+use gb_domain::interval::{StridedInterval, join as join_intervals};
+use gb_domain::values::interval_of;
+use gb_ops::machine::Kind;
 use gb_ops::registers::Registers;
 use gb_verify::{
     Abs, Cell, Core, Ctl, Flg, ImeSet, KeptBanks, May, Origin, Relations, Rules, Test, Val, any,
@@ -16,13 +22,27 @@ fn join_origin(a: Option<Origin>, b: Option<Origin>) -> Option<Origin> {
     }
 }
 
-/// The least interval around both.
-pub fn join_val(a: Val, b: Val) -> Val {
+/// The bytes of an interval, and what they are a copy of.
+pub(crate) fn val_of(interval: StridedInterval, origin: Option<Origin>) -> Val {
+    Val {
+        lo: interval.lo,
+        hi: interval.hi,
+        low_bits: interval.count,
+        origin,
+    }
+}
+
+/// The least interval around both: by the rules of version 4 with the low bits that both have.
+pub fn join_val(edition: Edition, a: Val, b: Val) -> Val {
+    let origin = join_origin(a.origin, b.origin);
+    if edition.is_fourth() {
+        return val_of(join_intervals(interval_of(a), interval_of(b)), origin);
+    }
     Val {
         lo: a.lo.min(b.lo),
         hi: a.hi.max(b.hi),
         low_bits: 0,
-        origin: join_origin(a.origin, b.origin),
+        origin,
     }
 }
 
@@ -62,10 +82,37 @@ fn join_kept(a: KeptBanks, b: KeptBanks) -> KeptBanks {
     }
 }
 
-fn join_controller(a: &Ctl, b: &Ctl) -> Ctl {
+/// The greatest bank of which each half is below both.
+fn lower_halves(a: u16, b: u16) -> u16 {
+    let [high, low] = a.to_be_bytes();
+    let [other_high, other_low] = b.to_be_bytes();
+    u16::from_be_bytes([high.min(other_high), low.min(other_low)])
+}
+
+/// The least bank of which each half is above both.
+fn upper_halves(a: u16, b: u16) -> u16 {
+    let [high, low] = a.to_be_bytes();
+    let [other_high, other_low] = b.to_be_bytes();
+    u16::from_be_bytes([high.max(other_high), low.max(other_low)])
+}
+
+/// The least bounds around both banks: of MBC5's, by the rules of version 4, each half has its own.
+fn join_banks(basis: &Basis<'_>, a: &Ctl, b: &Ctl) -> (u16, u16) {
+    if matches!(basis.program.kind, Kind::Mbc5) {
+        (
+            lower_halves(a.bank_lo, b.bank_lo),
+            upper_halves(a.bank_hi, b.bank_hi),
+        )
+    } else {
+        (a.bank_lo.min(b.bank_lo), a.bank_hi.max(b.bank_hi))
+    }
+}
+
+fn join_controller(basis: &Basis<'_>, a: &Ctl, b: &Ctl) -> Ctl {
+    let (bank_lo, bank_hi) = join_banks(basis, a, b);
     Ctl {
-        bank_lo: a.bank_lo.min(b.bank_lo),
-        bank_hi: a.bank_hi.max(b.bank_hi),
+        bank_lo,
+        bank_hi,
         second_lo: a.second_lo.min(b.second_lo),
         second_hi: a.second_hi.max(b.second_hi),
         gate: join_may(a.gate, b.gate),
@@ -74,28 +121,29 @@ fn join_controller(a: &Ctl, b: &Ctl) -> Ctl {
     }
 }
 
-fn join_registers(a: &Registers<Val>, b: &Registers<Val>) -> Registers<Val> {
+fn join_registers(edition: Edition, a: &Registers<Val>, b: &Registers<Val>) -> Registers<Val> {
     Registers {
-        a: join_val(a.a, b.a),
-        b: join_val(a.b, b.b),
-        c: join_val(a.c, b.c),
-        d: join_val(a.d, b.d),
-        e: join_val(a.e, b.e),
-        h: join_val(a.h, b.h),
-        l: join_val(a.l, b.l),
+        a: join_val(edition, a.a, b.a),
+        b: join_val(edition, a.b, b.b),
+        c: join_val(edition, a.c, b.c),
+        d: join_val(edition, a.d, b.d),
+        e: join_val(edition, a.e, b.e),
+        h: join_val(edition, a.h, b.h),
+        l: join_val(edition, a.l, b.l),
     }
 }
 
 /// The least core above both.
-pub fn join_core(a: &Core, b: &Core) -> Core {
+pub fn join_core(basis: &Basis<'_>, a: &Core, b: &Core) -> Core {
+    let edition = basis.edition;
     Core {
         ime: join_ime(a.ime, b.ime),
         bound: a.bound.max(b.bound),
         stack_set: a.stack_set && b.stack_set,
-        ctl: join_controller(&a.ctl, &b.ctl),
+        ctl: join_controller(basis, &a.ctl, &b.ctl),
         flags: join_flags(&a.flags, &b.flags),
-        ie: join_val(a.ie, b.ie),
-        registers: join_registers(&a.registers, &b.registers),
+        ie: join_val(edition, a.ie, b.ie),
+        registers: join_registers(edition, &a.registers, &b.registers),
     }
 }
 
@@ -130,16 +178,16 @@ pub(crate) fn join_all_relations(rules: Rules, a: &Abs, b: &Abs) -> Relations {
 }
 
 /// The bytes of both, as far as both have them.
-pub(crate) fn join_items(a: &[Val], b: &[Val]) -> ArrayVec<Val, 255> {
+pub(crate) fn join_items(edition: Edition, a: &[Val], b: &[Val]) -> ArrayVec<Val, 255> {
     let mut items = ArrayVec::new();
     for (first, second) in a.iter().zip(b) {
-        let _ = items.try_push(join_val(*first, *second));
+        let _ = items.try_push(join_val(edition, *first, *second));
     }
     items
 }
 
 /// The cells of both that say something together. Both are in order of address.
-pub(crate) fn join_cells(a: &[Cell], b: &[Cell]) -> ArrayVec<Cell, 64> {
+pub(crate) fn join_cells(edition: Edition, a: &[Cell], b: &[Cell]) -> ArrayVec<Cell, 64> {
     let mut cells = ArrayVec::new();
     let mut rest = b;
     for first in a {
@@ -152,7 +200,7 @@ pub(crate) fn join_cells(a: &[Cell], b: &[Cell]) -> ArrayVec<Cell, 64> {
         if let [second, ..] = rest
             && second.address == first.address
         {
-            let val = join_val(first.val, second.val);
+            let val = join_val(edition, first.val, second.val);
             if val != any() {
                 let _ = cells.try_push(Cell {
                     address: first.address,
@@ -165,11 +213,12 @@ pub(crate) fn join_cells(a: &[Cell], b: &[Cell]) -> ArrayVec<Cell, 64> {
 }
 
 /// The least state above both, where both have equally many bytes on the stack.
-pub fn join(rules: Rules, a: &Abs, b: &Abs) -> Abs {
-    Abs::of_parts(
-        join_core(a.core(), b.core()),
-        join_items(a.items(), b.items()),
-        join_cells(a.cells(), b.cells()),
-        join_all_relations(rules, a, b),
+pub fn join(basis: &Basis<'_>, a: &Abs, b: &Abs) -> Abs {
+    Abs::of_all_parts(
+        join_core(basis, a.core(), b.core()),
+        join_items(basis.edition, a.items(), b.items()),
+        join_cells(basis.edition, a.cells(), b.cells()),
+        join_all_relations(basis.rules(), a, b),
+        join_summaries(basis, a, b),
     )
 }

@@ -72,6 +72,8 @@ pub struct ProcedureKey {
     pub base: u16,
     /// How many of its caller's bytes it takes over.
     pub taken: u8,
+    /// Whether all facts hold where it is called.
+    pub has_all_facts: bool,
 }
 
 /// The value of an interval that has one alone, if it is wanted.
@@ -146,6 +148,29 @@ impl ControllerKey {
             mode: (ctl.mode.clear, ctl.mode.set),
         }
     }
+
+    /// The same, in which the bank isn't told apart.
+    pub(crate) fn without_bank(self) -> ControllerKey {
+        ControllerKey {
+            bank: (0, 511),
+            ..self
+        }
+    }
+
+    /// The same, in which banks that have more than one value aren't told apart.
+    pub(crate) fn of_known_banks(self) -> ControllerKey {
+        let is_known = self.bank.0 == self.bank.1;
+        let is_second_known = self.second.0 == self.second.1;
+        ControllerKey {
+            bank: if is_known { self.bank } else { (0, 511) },
+            second: if is_second_known {
+                self.second
+            } else {
+                (0, 255)
+            },
+            ..self
+        }
+    }
 }
 
 impl NodeKey {
@@ -168,11 +193,13 @@ impl NodeKey {
         }
     }
 
-    /// The key of a node with this core and so many bytes on the stack, parted by registers, key cells and words.
+    /// The key of a node with this core and so many bytes on the stack, parted by what is told apart of the controller, registers, key
+    /// cells and words.
     pub fn of_state(
         procedure: usize,
         point: CodePoint,
         core: &Core,
+        controller: ControllerKey,
         items: usize,
         registers: KnownRegisters,
         cells: usize,
@@ -187,7 +214,7 @@ impl NodeKey {
             bound: core.bound,
             stack_set: core.stack_set,
             items,
-            controller: Some(ControllerKey::of(&core.ctl)),
+            controller: Some(controller),
             ie: (core.ie.lo, core.ie.hi),
             registers,
             cells,
@@ -219,6 +246,7 @@ impl ProcedureKey {
             cells: 0,
             base,
             taken: 0,
+            has_all_facts: false,
         }
     }
 

@@ -3,7 +3,8 @@
 //! Nothing here is trusted: a certificate that comes out is judged by the checker. Every function is proved safe and
 //! to return.
 //!
-//! States are taken on by the rules of version 3, or by those of versions 1 and 2, as the configuration says.
+//! States are taken on by the rules of versions 1 and 2, of version 3 or of version 4, as the configuration says; `basis` says what
+//! that means for steps, calls and joins.
 //! Code is named by its `code_point`, bank and address. States: `joining`, `steps` and `ranges` join and widen them, `configuration`, `keys` and `register_set` say how
 //! finely they are told apart, `cause` why a run stops. What is against an instruction in a state is `instruction` and
 //! `refusals`, by the checker's own tests; what is asked of the stack is stated again, told apart more finely. The
@@ -13,6 +14,7 @@
 
 mod ahead;
 mod asking;
+mod basis;
 mod bounds;
 mod calls;
 pub mod cause;
@@ -23,11 +25,16 @@ mod covering;
 mod creeping;
 pub mod entries;
 mod exits;
+pub mod fact_news;
+pub mod fact_table;
+mod facts_at_handlers;
+mod filling;
 mod flow;
 mod instruction;
 mod interrupting;
 mod joining;
 pub mod keys;
+mod levels;
 pub mod limits;
 mod linking;
 mod probing;
@@ -38,6 +45,7 @@ mod refusals;
 pub mod register_set;
 mod relating;
 mod run;
+mod shadowing;
 mod stacks;
 mod stepping;
 mod steps;
@@ -47,7 +55,7 @@ pub mod types;
 mod words;
 
 pub use cause::{Cause, Failure, RunEnd, StackMisuse, TransferMisuse, Wish};
-pub use configuration::{Configuration, EntryCells, TargetPlace, TouchedCell};
+pub use configuration::{Configuration, Edition, EntryCells, TargetPlace, TouchedCell};
 pub use entries::Entered;
 pub use keys::{ControllerKey, KnownRegisters, NodeKey, ProcedureKey};
 pub use probing::EditedPlaces;
@@ -57,6 +65,7 @@ pub use types::{
 };
 
 // What lies below, for the crates above.
+pub use gb_domain::summary::Fact;
 pub use gb_ops::machine::Region;
 pub use gb_spelling::{INTERRUPT_COUNT, PADDING, vector_of};
 pub use gb_verify::check::check;

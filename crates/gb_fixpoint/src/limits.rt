@@ -8,8 +8,17 @@ pub const NODES: usize = 400_000;
 /// The most nodes of the first attempts.
 pub const FEW_NODES: usize = 20_000;
 
-/// The most procedures: a certificate has no more.
+/// How often a node grows before no fill of a state that arrives is taken over any more.
+pub const FILL_GROWTHS: u32 = 8;
+
+/// The most procedures: a certificate of versions 1 to 3 has no more.
 pub const PROCEDURES: usize = 255;
+
+/// The most procedures of a certificate of version 4.
+pub const MANY_PROCEDURES: usize = 65_535;
+
+/// The most addresses whose bytes a procedure keeps.
+pub const KEPT: usize = 16;
 
 /// About how many procedures are saved at once where there would be more: half of them.
 pub const SAVED_PROCEDURES: usize = 128;

@@ -45,6 +45,7 @@ impl<'a> Run<'a> {
         };
         if let AbsRead::Byte(span) = taken.read {
             self.record_read(spot.procedure, op, span)?;
+            self.record_bytes_read(number, op, span)?;
         }
         match taken.write {
             AbsWrite::Byte(span, val) => self.record_store(number, spot, op, span, val),

@@ -3,14 +3,16 @@
 use crate::cause::{Cause, Failure, RunEnd, Wish};
 use crate::code_point::CodePoint;
 use crate::configuration::{Configuration, TargetPlace};
+use crate::fact_news::FactNews;
 use crate::keys::{NodeKey, ProcedureKey};
-use crate::limits::{DEAR_STEPS, PROCEDURES, RUN_STEPS, STEPS_PAST};
+use crate::limits::{DEAR_STEPS, MANY_PROCEDURES, RUN_STEPS, STEPS_PAST};
 use crate::ranges::RangeSet;
 use crate::register_set::RegisterSet;
 use crate::stacks::main_base;
 use crate::steps::Steps;
 use crate::stop::RunStop;
 use crate::types::{Run, RunProcedure, Spot, Turn};
+use arrayvec::ArrayVec;
 use gb_ops::op::Register;
 use gb_verify::check::core_at_power_up;
 use gb_verify::{Abs, Rom, Rules, known_bytes};
@@ -30,6 +32,7 @@ impl RunProcedure {
             key,
             entry: None,
             exit: None,
+            exact: None,
             growths: 0,
             ranges: RangeSet::new(),
             sites: BTreeSet::new(alloc),
@@ -37,6 +40,17 @@ impl RunProcedure {
             need: 0,
         }
     }
+}
+
+/// The addresses whose bytes procedures but main keep, in order.
+fn kept_addresses(configuration: &Configuration) -> ArrayVec<u16, 16> {
+    let mut kept = ArrayVec::new();
+    if configuration.edition.is_fourth() {
+        for address in configuration.kept.iter() {
+            let _ = kept.try_push(*address);
+        }
+    }
+    kept
 }
 
 impl<'a> Run<'a> {
@@ -62,6 +76,7 @@ impl<'a> Run<'a> {
             reads: BTreeSet::new(alloc),
             copied: BTreeSet::new(alloc),
             set: BTreeSet::new(alloc),
+            shadows: BTreeSet::new(alloc),
             named: BTreeSet::new(alloc),
             killers: BTreeSet::new(alloc),
             switches: BTreeSet::new(alloc),
@@ -76,8 +91,10 @@ impl<'a> Run<'a> {
             is_wish_left: false,
             last_step: u64::MAX,
             steps: 0,
+            fact_news: FactNews::new(alloc, configuration.facts.as_slice())?,
             alloc,
             tracked,
+            kept: kept_addresses(configuration),
             node_index: HashMap::new(alloc),
             procedure_index: HashMap::new(alloc),
             cell_index: HashMap::new(alloc),
@@ -190,6 +207,10 @@ impl<'a> Run<'a> {
     pub(crate) fn keep(&mut self, outcome: Result<(), RunStop>) -> Result<(), RunStop> {
         match outcome {
             Err(RunStop::Failed(_) | RunStop::Wanted(_)) if self.probed.is_some() => Ok(()),
+            Err(RunStop::Failed(failure)) if self.joins_banks(failure.node) => {
+                let outcome = self.want_banks(failure.node);
+                self.keep_wish(outcome)
+            }
             Err(RunStop::Failed(failure)) if self.is_given_up(failure.node) => {
                 if !self.has_failed(failure.node) {
                     self.failures.push(failure)?;
@@ -197,10 +218,38 @@ impl<'a> Run<'a> {
                 Ok(())
             }
             Err(RunStop::Failed(failure)) if self.goes_past() => self.pass(failure),
+            outcome => self.keep_wish(outcome),
+        }
+    }
+
+    /// A wish for a target is kept, and stops nothing where the run goes past it.
+    fn keep_wish(&mut self, outcome: Result<(), RunStop>) -> Result<(), RunStop> {
+        match outcome {
             Err(RunStop::Wanted(wish)) if self.goes_past() && wish.target().is_some() => {
                 self.pass_wish(wish)
             }
             outcome => outcome,
+        }
+    }
+
+    /// Whether a node's procedure joins banks that RAM shadows, and the node doesn't know the bank: it may be for want of that that it
+    /// fails.
+    fn joins_banks(&self, number: usize) -> bool {
+        let Some(node) = self.nodes.get(number) else {
+            return false;
+        };
+        let ctl = &node.state.core().ctl;
+        let target = self.target(node.key.procedure);
+        !self.kept.is_empty()
+            && ctl.bank_lo != ctl.bank_hi
+            && !self.configuration.banked.contains(&target)
+    }
+
+    /// The nodes of a node's procedure are told apart by the bank from now on.
+    fn want_banks(&self, number: usize) -> Result<(), RunStop> {
+        match self.nodes.get(number) {
+            Some(node) => Err(RunStop::Wanted(Wish::Banks(self.target(node.key.procedure)))),
+            None => Ok(()),
         }
     }
 
@@ -282,7 +331,7 @@ impl<'a> Run<'a> {
         if !waiting.is_queued {
             waiting.is_queued = true;
             let turn = Turn {
-                rank: PROCEDURES.saturating_sub(waiting.key.procedure),
+                rank: MANY_PROCEDURES.saturating_sub(waiting.key.procedure),
                 address: waiting.key.address,
                 node,
                 handler: 0,
@@ -299,7 +348,7 @@ impl<'a> Run<'a> {
         };
         if !waiting.is_queued {
             let turn = Turn {
-                rank: PROCEDURES.saturating_sub(waiting.key.procedure),
+                rank: MANY_PROCEDURES.saturating_sub(waiting.key.procedure),
                 address: waiting.key.address,
                 node,
                 handler,

@@ -10,7 +10,12 @@ const ROOM: u32 = 255;
 impl<'a> Run<'a> {
     /// The rules by which states are taken on.
     pub fn rules(&self) -> Rules {
-        self.configuration.rules
+        self.configuration.edition.rules()
+    }
+
+    /// Whether states know of the whole program, by the rules of version 4.
+    pub fn is_fourth(&self) -> bool {
+        self.configuration.edition.is_fourth()
     }
 
     /// The base of a procedure, 0 where it isn't known.
@@ -25,7 +30,7 @@ impl<'a> Run<'a> {
     pub(crate) fn stack_of(&self, procedure: usize) -> Stack {
         let setting = Setting {
             rules: self.rules(),
-            is_whole: false,
+            is_whole: self.is_fourth(),
             is_main: procedure == 0,
             base: self.base_of(procedure),
         };

@@ -4,10 +4,9 @@ use crate::cause::Cause;
 use crate::refusals::{AtInstruction, refusal};
 use crate::register_set::RegisterSet;
 use crate::stop::RunStop;
-use crate::tracking::keep_tracked;
 use crate::types::Run;
 use gb_ops::op::Op;
-use gb_verify::{Abs, Program, Rules, Successor, Successors, Target, successors_of};
+use gb_verify::{Abs, Rules, Successor, Successors, Target};
 
 /// The bytes of a return word.
 const RETURN_WORD: usize = 2;
@@ -22,8 +21,7 @@ impl<'a> Run<'a> {
         let (procedure, address) = (node.key.procedure, node.key.address);
         let state = node.state.copied();
         let stack = self.stack_of(procedure);
-        let program = Program::unknown();
-        let ways = successors_of(stack, &program, self.rom, row, address, &state);
+        let ways = self.ways_from(procedure, row, address, &state);
         self.ask_behind(procedure, &ways)?;
         let standing = AtInstruction {
             stack,
@@ -36,6 +34,7 @@ impl<'a> Run<'a> {
         }
         self.refuse_return(number, row.op, &ways)?;
         self.record_accesses(number, row.op, &ways)?;
+        self.record_broken(number, row.op, &ways)?;
         let taken = self.follow(number, ways.taken);
         self.keep(taken)?;
         let not_taken = self.follow(number, ways.not_taken);
@@ -89,6 +88,7 @@ impl<'a> Run<'a> {
     /// Goes on where a known address follows.
     fn go_on_in(&mut self, number: usize, successor: &Successor<'_>) -> Result<(), RunStop> {
         let mut state = successor.state();
+        self.hold_level(number, &mut state);
         match successor.target {
             Target::At(address) => self.flow(number, address, &mut state),
             Target::Call(address) => self.call(number, &mut state, address, successor.next, false),
@@ -115,7 +115,8 @@ impl<'a> Run<'a> {
         if self.probed.is_some() {
             return Ok(());
         }
-        keep_tracked(state, self.tracked.as_slice());
+        self.settle(state);
+        self.fix_fills(state);
         if self.leaves_others(procedure, state) {
             self.want_inline(procedure)?;
             let cause = Cause::ReturnWithOthers;

@@ -1,11 +1,17 @@
 //! Widening: bounds that grew go on to the next of some steps, so that they grow a few times only.
 
+use crate::basis::Basis;
 use crate::bounds::{WORD_PAIRS, facts_of, set_facts};
 use crate::covering::{are_cells_known, are_items_known};
-use crate::joining::{join, join_all_relations, join_cells, join_core, join_items, known_of};
+use crate::joining::{
+    join, join_all_relations, join_cells, join_core, join_items, known_of, val_of,
+};
 use crate::linking::with_links;
 use crate::relating::without_boxes;
+use crate::shadowing::join_summaries;
 use arrayvec::ArrayVec;
+use gb_domain::interval::{low_bits_of, with_low_bits};
+use gb_domain::values::interval_of;
 use gb_ops::registers::Registers;
 use gb_verify::{
     Abs, Bounds, Cell, Core, PairFacts, Pairs, Program, Relations, Rules, Val, any, cell_at,
@@ -90,6 +96,23 @@ fn next_marked(marks: &[bool; 256]) -> [u8; 256] {
     above
 }
 
+/// A value with wider bounds, of which as much is known of low bits.
+pub(crate) fn with_known_bits(lo: u8, hi: u8, val: Val) -> Val {
+    let wide = Val {
+        lo,
+        hi,
+        low_bits: 0,
+        origin: val.origin,
+    };
+    if val.low_bits == 0 {
+        return wide;
+    }
+    match with_low_bits(lo, hi, low_bits_of(interval_of(val))) {
+        Some(interval) => val_of(interval, val.origin),
+        None => wide,
+    }
+}
+
 impl Steps {
     pub fn new(points: &BTreeSet<u8>) -> Steps {
         let marks = marks(points);
@@ -102,21 +125,23 @@ impl Steps {
         }
     }
 
+    /// The least step that is at least a value.
+    pub(crate) fn step_above(&self, value: u8) -> u8 {
+        self.above[usize::from(value)]
+    }
+
     fn widen_val(&self, old: Val, new: Val) -> Val {
-        Val {
-            lo: if new.lo < old.lo {
-                self.below[usize::from(new.lo)]
-            } else {
-                new.lo
-            },
-            hi: if new.hi > old.hi {
-                self.above[usize::from(new.hi)]
-            } else {
-                new.hi
-            },
-            low_bits: 0,
-            origin: new.origin,
-        }
+        let lo = if new.lo < old.lo {
+            self.below[usize::from(new.lo)]
+        } else {
+            new.lo
+        };
+        let hi = if new.hi > old.hi {
+            self.above[usize::from(new.hi)]
+        } else {
+            new.hi
+        };
+        with_known_bits(lo, hi, new)
     }
 
     fn widen_registers(&self, old: &Registers<Val>, new: &Registers<Val>) -> Registers<Val> {
@@ -204,8 +229,9 @@ impl Steps {
     }
 
     /// A state above a state and its successor: their join, of which the bounds that grew go on to the next step.
-    fn widen(&self, rules: Rules, old: &Abs, added: &Abs) -> Abs {
-        let new = join(rules, old, added);
+    fn widen(&self, basis: &Basis<'_>, old: &Abs, added: &Abs) -> Abs {
+        let rules = basis.rules();
+        let new = join(basis, old, added);
         let relations = match rules {
             Rules::Simple => *new.relations(),
             Rules::Extended => Relations {
@@ -213,48 +239,49 @@ impl Steps {
                 ..*new.relations()
             },
         };
-        let widened = Abs::of_parts(
+        let widened = Abs::of_all_parts(
             self.widen_core(old.core(), new.core()),
             self.widen_items(old.items(), new.items()),
             self.widen_cells(old.cells(), new.cells()),
             relations,
+            new.summary().copied(),
         );
         match rules {
             Rules::Simple => widened,
-            Rules::Extended => cut(widened, &new),
+            Rules::Extended => cut(&basis.program, widened, &new),
         }
     }
 
     /// A state above a state and another one.
-    pub fn grown(&self, rules: Rules, growth: Growth, old: &Abs, added: &Abs) -> Abs {
-        let mut grown = self.above(rules, growth, old, added);
+    pub fn grown(&self, basis: &Basis<'_>, growth: Growth, old: &Abs, added: &Abs) -> Abs {
+        let mut grown = self.above(basis, growth, old, added);
         let relations = without_boxes(&grown.core().registers, grown.relations());
         grown.set_relations(relations);
         grown
     }
 
-    fn above(&self, rules: Rules, growth: Growth, old: &Abs, added: &Abs) -> Abs {
+    fn above(&self, basis: &Basis<'_>, growth: Growth, old: &Abs, added: &Abs) -> Abs {
         match growth {
-            Growth::Joined => join(rules, old, added),
+            Growth::Joined => join(basis, old, added),
             Growth::Linked => {
                 let mut joined = old.copied();
-                link_in(rules, &mut joined, added);
+                link_in(basis, &mut joined, added);
                 joined
             }
-            Growth::Widened => self.widen(rules, old, added),
-            Growth::WidenedWithoutPairs => without_pairs(self.widen(rules, old, added)),
+            Growth::Widened => self.widen(basis, old, added),
+            Growth::WidenedWithoutPairs => without_pairs(self.widen(basis, old, added)),
         }
     }
 }
 
 /// A widened state, reduced, where that still covers what it was widened from.
-fn cut(widened: Abs, new: &Abs) -> Abs {
+fn cut(program: &Program<'_>, widened: Abs, new: &Abs) -> Abs {
     let Some(product) = reduced(Rules::Extended, widened.core(), widened.relations()) else {
         return widened;
     };
     let mut less = widened.with_core(product.core);
     less.set_relations(product.relations);
-    if covers(&Program::unknown(), new, &less) {
+    if covers(program, new, &less) {
         less
     } else {
         widened
@@ -284,15 +311,20 @@ fn linked_relations(rules: Rules, old: &Abs, added: &Abs) -> Relations {
 }
 
 /// A state becomes its join with another one, with links that hold in both. Bytes and cells that stay are not written again.
-pub(crate) fn link_in(rules: Rules, state: &mut Abs, added: &Abs) {
-    let core = join_core(state.core(), added.core());
-    let relations = linked_relations(rules, state, added);
+pub(crate) fn link_in(basis: &Basis<'_>, state: &mut Abs, added: &Abs) {
+    let edition = basis.edition;
+    let core = join_core(basis, state.core(), added.core());
+    let relations = linked_relations(basis.rules(), state, added);
+    if edition.is_fourth() {
+        let summary = join_summaries(basis, state, added);
+        state.set_summary(summary);
+    }
     if !are_items_known(state.items(), added.items()) {
-        let items = join_items(state.items(), added.items());
+        let items = join_items(edition, state.items(), added.items());
         state.set_items(items);
     }
     if !are_cells_known(state.cells(), added.cells()) {
-        let cells = join_cells(state.cells(), added.cells());
+        let cells = join_cells(edition, state.cells(), added.cells());
         state.set_cells(cells);
     }
     state.set_core(core);

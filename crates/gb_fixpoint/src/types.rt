@@ -3,10 +3,12 @@
 use crate::cause::{Failure, Wish};
 use crate::code_point::CodePoint;
 use crate::configuration::Configuration;
+use crate::fact_news::FactNews;
 use crate::keys::{NodeKey, ProcedureKey};
 use crate::probing::Arrival;
 use crate::ranges::RangeSet;
 use crate::steps::Steps;
+use arrayvec::ArrayVec;
 use gb_verify::{Abs, Rom};
 use std::alloc::Global;
 use std::collections::{BTreeMap, BTreeSet, HashMap, HashSet};
@@ -135,8 +137,10 @@ pub struct RunProcedure {
     pub key: ProcedureKey,
     /// The number of its first node, once it was entered.
     pub entry: Option<usize>,
-    /// What it returns with, if it has returned yet.
+    /// What it is said to return with, if it has returned yet.
     pub exit: Option<Abs>,
+    /// What it returns with, where more is known than it is said to: by the rules of version 4.
+    pub(crate) exact: Option<Abs>,
     /// How often its exit grew.
     pub growths: u32,
     /// What it and its callees may write.
@@ -172,6 +176,8 @@ pub struct Run<'a> {
     pub(crate) copied: BTreeSet<u16>,
     /// Cells that were stored to each by itself, with a value that says something: of others no state would know anything.
     pub set: BTreeSet<u16>,
+    /// The addresses whose bytes shadow a register of the controller in some state, by the rules of version 4.
+    pub shadows: BTreeSet<u16>,
     /// Cells that an instruction names: LD A,(n16) and LDH A,(n8).
     pub named: BTreeSet<u16>,
     /// Stores to several addresses that dropped tracked cells.
@@ -199,9 +205,13 @@ pub struct Run<'a> {
     pub(crate) last_step: u64,
     /// How many nodes were stepped.
     pub steps: u64,
+    /// What it learns of bytes of RAM.
+    pub fact_news: FactNews,
     pub(crate) alloc: Global,
     /// The configuration's tracked cells, in order.
     pub(crate) tracked: Vec<u16>,
+    /// The addresses whose bytes procedures but main keep, in order.
+    pub kept: ArrayVec<u16, 16>,
     pub(crate) node_index: HashMap<NodeKey, usize>,
     pub(crate) procedure_index: HashMap<ProcedureKey, usize>,
     /// The numbers of the values that the key cells had, from 1 on.

@@ -7,10 +7,9 @@ use gb_cert::{
     Cert, CertFault, CertificatePlan, NodePlan, ProcedurePlan, Version, WriteFault, encode,
     write_certificate,
 };
-use gb_console::{
-    Console, Ending, Keys, Outcome, UpgradeTo, Upgraded, upgrade_bytes, verify_bytes,
+use gb_events::{
+    Console, Ending, Progress, ReplayOutcome, WatchOutcome, read_events, replay_bytes, watch_bytes,
 };
-use gb_events::{Progress, ReplayOutcome, WatchOutcome, read_events, replay_bytes, watch_bytes};
 use gb_header::Rom;
 use gb_ops::machine::{CodePlace, Region};
 use gb_page::{
@@ -18,6 +17,9 @@ use gb_page::{
     changes_json, crash_json, facts_json, findings_page, page_of,
 };
 use gb_text::kept_bytes::KeptBytes;
+use gb_timer::irqs::Keys;
+use gb_verify::upgrade::{UpgradeTo, Upgraded, upgrade_bytes};
+use gb_verify::verify::{Outcome, verify_bytes};
 use gb_words::{Task, read_words};
 use std::alloc::{AllocError, Global};
 

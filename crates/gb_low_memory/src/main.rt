@@ -13,7 +13,7 @@ mod hoard;
 
 use calls::{CallAnswer, GivenFiles, NODES, Request};
 use gb_cert::{Cert, NodePlan, ProcedurePlan};
-use gb_console::Console;
+use gb_events::Console;
 use gb_header::Rom;
 use gb_samples::cartridges::{PLAIN, put, small};
 use gb_samples::certificates::write_nodes;

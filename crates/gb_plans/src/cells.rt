@@ -178,7 +178,8 @@ impl CellSearch {
         wanted: &RegisterSet,
     ) -> Result<(), AllocError> {
         self.find(run, spot, cell)?;
-        if let Op::LoadA(Indirect::HlIncrement | Indirect::HlDecrement) = op {
+        // In ROM each byte is known once its address is.
+        if ROM < cell && matches!(op, Op::LoadA(Indirect::HlIncrement | Indirect::HlDecrement)) {
             self.counted.insert(spot)?;
         }
         match loaded(op) {

@@ -253,10 +253,45 @@ fn peel_loop(
     Ok(None)
 }
 
+/// Whether a counter at a point is looked at by a jump that has gone one way alone so far: a loop that it ends looks endless until
+/// its last round is met.
+fn may_end_at(run: &Run<'_>, ways: &Ways, procedure: usize, point: CodePoint) -> bool {
+    let Some(behind) = ways.only_behind(point) else {
+        return false;
+    };
+    let spot = Spot {
+        procedure,
+        point: behind,
+    };
+    matches!(
+        op_at(run, spot),
+        Some(Op::JumpIf(..) | Op::JumpRelativeIf(..))
+    ) && ways.only_behind(behind).is_some()
+}
+
+/// Whether a loop ends, or may end by a register that it counts down.
+fn ends_by(
+    run: &Run<'_>,
+    ways: &Ways,
+    procedure: usize,
+    around: &Loop,
+    register: Register,
+) -> bool {
+    !ways.is_endless(around)
+        || around.iter().any(|point| {
+            let spot = Spot {
+                procedure,
+                point: *point,
+            };
+            counter_at(run, spot) == Some(register) && may_end_at(run, ways, procedure, *point)
+        })
+}
+
 /// The rounds of a loop around another one are told apart by its counter.
 fn count_rounds(
     alloc: Global,
     run: &Run<'_>,
+    ways: &Ways,
     procedure: usize,
     around: &Loop,
     innermost: &Loop,
@@ -268,6 +303,7 @@ fn count_rounds(
         if outer.contains(register)
             && !inner.contains(register)
             && !is_told(&run.configuration.counted, target, around, register)
+            && ends_by(run, ways, procedure, around, register)
         {
             let plan = at_all(alloc, target, around, register, false)?;
             return Ok(unless_taken_back(run, plan));
@@ -572,6 +608,7 @@ fn count_slower(
         if let Some(register) = counter_at(run, spot)
             && register != Register::A
             && !is_told(&run.configuration.counted, target, around, register)
+            && ends_by(run, ways, procedure, around, register)
             && ways.is_passed_by(around, *point)?
             && counts_another(run, ways, procedure, around, register)?
         {
@@ -608,15 +645,11 @@ fn refine_counters(
         }
     }
     for around in outer {
-        if !ways.is_endless(around)
-            && let Some(plan) = count_rounds(alloc, run, procedure, around, innermost)?
-        {
+        if let Some(plan) = count_rounds(alloc, run, ways, procedure, around, innermost)? {
             return Ok(Some(plan));
         }
     }
-    if !ways.is_endless(innermost)
-        && let Some(plan) = count_slower(alloc, run, ways, procedure, innermost)?
-    {
+    if let Some(plan) = count_slower(alloc, run, ways, procedure, innermost)? {
         return Ok(Some(plan));
     }
     key_outer(alloc, run, ways, procedure, loops)

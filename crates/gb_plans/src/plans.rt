@@ -2,6 +2,7 @@
 
 use crate::arrays::{plan_array, plan_copied, plan_filled};
 use crate::cells::{key_all_cells, key_cells};
+use crate::inlining::{inline_plan, may_be_inlined};
 use crate::kept::{part_exits, plan_kept, plan_stored, plan_written};
 use crate::loops::refine_loops;
 use crate::losses::{part_all, part_circle, plan_banked, plan_shown};
@@ -12,14 +13,13 @@ use crate::slices::{
 use crate::sources::high_registers;
 use crate::spots::{is_known, place_of, value_of};
 use crate::ways::Ways;
+use gb_fixpoint::Rules;
 use gb_fixpoint::cause::{Cause, Failure, StackMisuse};
-use gb_fixpoint::code_point::CodePoint;
 use gb_fixpoint::limits::{
     ALL_VALUES, CALL_KINDS, CALL_VALUES, CALLERS, DEAR_STEPS, FEW_VALUES, VISITS,
 };
 use gb_fixpoint::register_set::{REGISTERS, RegisterSet};
 use gb_fixpoint::types::{Run, RunProcedure, Spot};
-use gb_fixpoint::{PADDING, Rules};
 use gb_ops::op::Register;
 use std::alloc::{AllocError, Global};
 use std::collections::BTreeSet;
@@ -371,6 +371,26 @@ fn plan_jump(
     }
 }
 
+/// In a run with facts: a register that these bound is taken value by value on the way from where it is loaded. The byte that it is
+/// loaded from needn't be known anywhere else.
+fn plan_bounded(
+    alloc: Global,
+    run: &Run<'_>,
+    spot: Spot,
+    trouble: &FailurePoint,
+) -> Result<Option<Plan>, AllocError> {
+    if !run.has_facts() {
+        return Ok(None);
+    }
+    let ways = Ways::of(alloc, run, spot.procedure)?;
+    let by = if trouble.is_jump {
+        SliceBy::Table
+    } else {
+        trouble.slice_by()
+    };
+    slice_to(alloc, run, &ways, spot, trouble, (FEW_VALUES, by))
+}
+
 /// What there is to refine in the procedure of a spot.
 fn plan_in(
     alloc: Global,
@@ -617,6 +637,9 @@ fn plan_pointer(
         ),
         is_array_sought: failure.cause == Cause::JumpHl,
     };
+    if let Some(plan) = plan_bounded(alloc, run, spot, &trouble)? {
+        return Ok(Some(plan));
+    }
     if let Some(plan) = plan_kept(alloc, run, spot, &wanted, is_kept_in_ram)? {
         return Ok(Some(plan));
     }
@@ -676,54 +699,6 @@ fn plan_exact(
         ..few
     };
     slice(alloc, run, &ways, spot, &all)
-}
-
-/// Whether following a procedure in its callers may help against a failure: more is known of what it is called with then.
-fn may_be_inlined(cause: Cause) -> bool {
-    matches!(
-        cause,
-        Cause::Bank
-            | Cause::Unreadable { .. }
-            | Cause::Stack(_)
-            | Cause::Recursion { .. }
-            | Cause::Store { .. }
-            | Cause::CartridgeRam { .. }
-            | Cause::CopiesCartridgeRam { .. }
-            | Cause::OamTransfer(_)
-            | Cause::JumpHl
-            | Cause::ReturnToUnknown
-            | Cause::ReturnWithOthers
-    )
-}
-
-/// The procedure of a failure is followed in its callers, by the rules of version 3, where it isn't yet.
-pub fn inline_plan(
-    alloc: Global,
-    run: &Run<'_>,
-    failure: &Failure,
-) -> Result<Option<Plan>, AllocError> {
-    let Some(node) = run.nodes.get(failure.node) else {
-        return Ok(None);
-    };
-    let Some(procedure) = run.procedures.get(node.key.procedure) else {
-        return Ok(None);
-    };
-    let target = match failure.cause {
-        Cause::Recursion { target } => CodePoint::of(run.rom, &node.state.core().ctl, target),
-        _ => procedure.key.point(),
-    };
-    let is_callee = node.key.procedure != 0
-        && !procedure.key.is_handler
-        && target.address != PADDING;
-    if run.rules() == Rules::Simple
-        || !is_callee
-        || !may_be_inlined(failure.cause)
-        || run.configuration.inlined.contains(&target)
-    {
-        return Ok(None);
-    }
-    let plan = Plan::of(alloc, Edit::Inline(target))?;
-    Ok(unless_taken_back(run, plan))
 }
 
 /// What is tried where nothing else helps against a failure: all routines are analysed once for each bank that their calls know.

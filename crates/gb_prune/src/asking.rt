@@ -2,7 +2,7 @@
 
 use crate::aims::{Aim, WayAim, is_stored, untouched};
 use crate::parts::{BANK, BOUNDS, Wanted, cell_number};
-use gb_draft::{Abs, AbsWrite, Cell, Range};
+use gb_draft::{Abs, AbsWrite, Cell, Origin, Range};
 use std::alloc::{AllocError, Global};
 
 /// A way from a node: what it writes, and the states before it and after it.
@@ -116,6 +116,9 @@ impl Asking {
         for cell in back.cells() {
             if is_inside(ranges, cell.address) {
                 want_at(exit.cells(), cell.address, &mut of_exit);
+                if is_given_back(exit.cells(), cell.address) {
+                    want_at(state.cells(), cell.address, &mut self.wanted);
+                }
             } else {
                 want_at(state.cells(), cell.address, &mut self.wanted);
             }
@@ -146,6 +149,14 @@ fn is_inside(ranges: &[Range], address: u16) -> bool {
     ranges
         .iter()
         .any(|range| range.first <= address && address <= range.last)
+}
+
+/// Whether a procedure leaves the byte at an address as one that it has kept.
+fn is_given_back(cells: &[Cell], address: u16) -> bool {
+    match cell_number(cells, address).and_then(|number| cells.get(number)) {
+        Some(cell) => matches!(cell.val.origin, Some(Origin::Kept(_))),
+        None => false,
+    }
 }
 
 /// The cell at an address is wanted, if there is one.

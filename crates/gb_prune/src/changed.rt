@@ -4,8 +4,8 @@ use crate::demands::{entry_of, procedure_of};
 use crate::onward::state_of;
 use arrayvec::ArrayVec;
 use gb_draft::{
-    Abs, Cert, CertificatePlan, NodePlan, ProcedurePlan, Range, Version, WriteFault, exit_of,
-    ranges_of, write_certificate,
+    Abs, Cert, CertificatePlan, Fact, NodePlan, ProcedurePlan, Range, Version, WriteFault, exit_of,
+    kept_of, ranges_of, write_certificate,
 };
 use gb_ops::machine::Region;
 use std::alloc::{AllocError, Global};
@@ -29,14 +29,26 @@ pub(crate) struct ChangedProcedure {
     base: u16,
     need: u16,
     ranges: ArrayVec<Range, 8>,
+    kept: ArrayVec<u16, 16>,
     pub(crate) exit: Option<Abs>,
+}
+
+/// In what version a certificate is written again: 4, or else 3.
+fn version_of(cert: &Cert<'_>) -> Version {
+    if cert.version() == 4 {
+        Version::Four
+    } else {
+        Version::Three
+    }
 }
 
 /// A certificate that is changed.
 #[derive(Drop)]
-pub(crate) struct Changed {
+pub(crate) struct Changed<'a> {
     alloc: Global,
+    version: Version,
     region: Region,
+    facts: &'a [Fact],
     pub(crate) nodes: Vec<ChangedNode>,
     pub(crate) procedures: Vec<ChangedProcedure>,
 }
@@ -49,12 +61,14 @@ struct NewStanding {
     node: usize,
 }
 
-impl Changed {
+impl<'a> Changed<'a> {
     /// A certificate as it is.
-    pub(crate) fn of(alloc: Global, cert: &Cert<'_>) -> Result<Changed, AllocError> {
+    pub(crate) fn of(alloc: Global, cert: &'a Cert<'_>) -> Result<Changed<'a>, AllocError> {
         let mut changed = Changed {
             alloc,
+            version: version_of(cert),
             region: cert.region(),
+            facts: cert.facts(),
             nodes: Vec::new(alloc),
             procedures: Vec::new(alloc),
         };
@@ -77,6 +91,7 @@ impl Changed {
                 base: procedure.base(),
                 need: procedure.need(),
                 ranges: ranges_of(cert, number),
+                kept: kept_of(cert, number),
                 exit: exit_of(cert, number),
             })?;
         }
@@ -99,6 +114,19 @@ impl Changed {
         let one = self.procedures.get(usize::from(procedure))?;
         let node = self.nodes.get(one.entry as usize)?;
         Some(node.address)
+    }
+
+    /// The addresses where procedures begin, 0 of one without a node.
+    pub(crate) fn entry_addresses(&self) -> Result<Vec<u16>, AllocError> {
+        let mut addresses = Vec::new(self.alloc);
+        for procedure in &self.procedures {
+            let address = match self.nodes.get(procedure.entry as usize) {
+                Some(node) => node.address,
+                None => 0,
+            };
+            addresses.push(address)?;
+        }
+        Ok(addresses)
     }
 
     /// Whether the node with a number begins its procedure.
@@ -143,9 +171,9 @@ impl Changed {
             }
         }
         let plan = CertificatePlan {
-            version: Version::Three,
+            version: self.version,
             region: self.region,
-            facts: &[],
+            facts: self.facts,
             procedures: procedures.as_slice(),
             nodes: nodes.as_slice(),
         };
@@ -196,7 +224,7 @@ impl ChangedProcedure {
             base: self.base,
             need: self.need,
             ranges: self.ranges.as_slice(),
-            kept: &[],
+            kept: self.kept.as_slice(),
             mark: 0,
             exit: match &self.exit {
                 Some(exit) => Some(exit),

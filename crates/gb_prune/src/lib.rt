@@ -19,7 +19,7 @@ pub use pruning::{pruned, reached};
 
 // What lies below, for the crates above.
 pub use gb_draft::{
-    Cause, Cert, CodePoint, Configuration, Failure, PADDING, REGISTERS, Rom, Rules, Run, RunEnd,
-    Span, Spot, StackMisuse, TargetPlace, Verdict, Wish, WriteFault, certificate_of, check,
-    find_needs, is_ram, limits,
+    Cause, Cert, CodePoint, Configuration, Edition, FactTable, Failure, PADDING, REGISTERS, Rom,
+    Rules, Run, RunEnd, Span, Spot, StackMisuse, TargetPlace, Verdict, Wish, WriteFault,
+    certificate_of, check, find_needs, is_ram, limits,
 };

@@ -1,4 +1,4 @@
-//! Smaller certificates from accepted ones of version 3: what nothing asks for is left out, and then the nodes and procedures
+//! Smaller certificates from accepted ones of versions 3 and 4: what nothing asks for is left out, and then the nodes and procedures
 //! that others stand for. The checker judges what comes out.
 
 use crate::changed::Changed;
@@ -8,8 +8,8 @@ use crate::parts::weakened;
 use crate::standing::{Standby, Standing};
 use gb_draft::limits::COMPARED;
 use gb_draft::{
-    Abs, Cert, Precedence, Program, Rom, Rules, WriteFault, add_in_order, check_irqs, check_node,
-    covers, enter, kept_of, taken_by,
+    Abs, Cert, Precedence, Program, Rom, Rules, WriteFault, add_in_order, by_address, check_irqs,
+    check_node, covers, enter, kept_of, program_of, taken_by,
 };
 use std::alloc::{AllocError, Global};
 use std::collections::BTreeSet;
@@ -20,7 +20,7 @@ const MOST_NODES: u32 = 200_000;
 /// How often it is looked again for what was left out too much.
 const REPAIRS: u32 = 12;
 
-/// An accepted certificate of version 3 of which only what is asked for is left. None where that isn't found.
+/// An accepted certificate of version 3 or 4 of which only what is asked for is left. None where that isn't found.
 ///
 /// # Errors
 ///
@@ -30,7 +30,7 @@ pub fn pruned(
     rom: &Rom<'_>,
     cert: &Cert<'_>,
 ) -> Result<Option<Vec<u8>>, WriteFault> {
-    if cert.version() != 3 || cert.nodes() > MOST_NODES {
+    if cert.version() < 3 || cert.nodes() > MOST_NODES {
         return Ok(None);
     }
     let Some(mut demands) = Demands::of(alloc, rom, cert)? else {
@@ -39,7 +39,7 @@ pub fn pruned(
     for _ in 0..REPAIRS {
         let mut changed = Changed::of(alloc, cert)?;
         weaken(&demands, &mut changed);
-        mark_spare(&mut changed);
+        mark_spare(&program_of(rom, cert), &mut changed);
         let order = new_order(alloc, rom, cert, &demands, &changed)?;
         let bytes = changed.written(order.as_slice())?;
         let refused = refused_nodes(alloc, rom, &bytes)?;
@@ -85,7 +85,7 @@ fn insist(
 }
 
 /// Leaves out what isn't demanded.
-fn weaken(demands: &Demands<'_, '_>, changed: &mut Changed) {
+fn weaken(demands: &Demands<'_, '_>, changed: &mut Changed<'_>) {
     for (number, node) in changed.nodes.iter_mut().enumerate() {
         if let Some(wanted) = demands.nodes.get(number) {
             node.state = weakened(&node.state, *wanted);
@@ -101,13 +101,13 @@ fn weaken(demands: &Demands<'_, '_>, changed: &mut Changed) {
 }
 
 /// Marks the nodes that another one of their procedure and address stands for.
-fn mark_spare(changed: &mut Changed) {
+fn mark_spare(program: &Program<'_>, changed: &mut Changed<'_>) {
     let mut first = 0;
     for number in 0..changed.nodes.len() {
         if !is_same_place(changed, first, number) {
             first = number;
         }
-        if is_spare(changed, first, number)
+        if is_spare(program, changed, first, number)
             && let Some(node) = changed.nodes.get_mut(number)
         {
             node.is_spare = true;
@@ -116,7 +116,7 @@ fn mark_spare(changed: &mut Changed) {
 }
 
 /// Whether two nodes are of one procedure and address.
-fn is_same_place(changed: &Changed, a: usize, b: usize) -> bool {
+fn is_same_place(changed: &Changed<'_>, a: usize, b: usize) -> bool {
     match (changed.nodes.get(a), changed.nodes.get(b)) {
         (Some(a), Some(b)) => a.procedure == b.procedure && a.address == b.address,
         _ => false,
@@ -124,7 +124,7 @@ fn is_same_place(changed: &Changed, a: usize, b: usize) -> bool {
 }
 
 /// Whether another node of the same place, from the first one there on, stands for all that a node does.
-fn is_spare(changed: &Changed, first: usize, number: usize) -> bool {
+fn is_spare(program: &Program<'_>, changed: &Changed<'_>, first: usize, number: usize) -> bool {
     if changed.is_entry(number) {
         return false;
     }
@@ -139,10 +139,10 @@ fn is_spare(changed: &Changed, first: usize, number: usize) -> bool {
         if other != number
             && let Some(with) = changed.nodes.get(other)
             && !with.is_spare
-            && covers(&Program::unknown(), &node.state, &with.state)
+            && covers(program, &node.state, &with.state)
             && (other < number
                 || changed.is_entry(other)
-                || !covers(&Program::unknown(), &with.state, &node.state))
+                || !covers(program, &with.state, &node.state))
         {
             return true;
         }
@@ -156,7 +156,7 @@ fn new_order(
     rom: &Rom<'_>,
     cert: &Cert<'_>,
     demands: &Demands<'_, '_>,
-    changed: &Changed,
+    changed: &Changed<'_>,
 ) -> Result<Vec<u16>, AllocError> {
     let mut precedences = BTreeSet::new(alloc);
     for number in 0..cert.nodes() {
@@ -178,6 +178,10 @@ fn new_order(
     let mut order = vec![in alloc; 0usize]?;
     let count = usize::from(cert.procedures());
     add_in_order(count, &mut open, &mut precedences, &mut order)?;
+    if cert.version() == 4 {
+        let addresses = changed.entry_addresses()?;
+        order = by_address(alloc, order.as_slice(), addresses.as_slice())?;
+    }
     order
         .iter()
         .map(|procedure| u16::try_from(*procedure).unwrap_or(u16::MAX))
@@ -188,7 +192,7 @@ fn new_order(
 fn add_precedences(
     rom: &Rom<'_>,
     cert: &Cert<'_>,
-    changed: &Changed,
+    changed: &Changed<'_>,
     number: u32,
     ways: &[LeadsTo],
     precedences: &mut BTreeSet<Precedence>,
@@ -210,7 +214,7 @@ fn add_precedences(
         if let Onward::Enters { callee, .. } = leads.onward
             && let Some(after) = site.state_after(&successors, leads.way, &node.state)
         {
-            add_entered(cert, changed, callee, &after, precedences)?;
+            add_entered(&site, changed, callee, &after, precedences)?;
         }
     }
     Ok(())
@@ -218,21 +222,22 @@ fn add_precedences(
 
 /// A procedure comes before the others of its address that may be entered in a state that enters it.
 fn add_entered(
-    cert: &Cert<'_>,
-    changed: &Changed,
+    site: &NodeSite<'_, '_>,
+    changed: &Changed<'_>,
     callee: u16,
     after: &Abs,
     precedences: &mut BTreeSet<Precedence>,
 ) -> Result<(), AllocError> {
+    let (cert, program) = (site.cert, site.program());
     let address = changed.entry_address(callee);
     for other in 1..cert.procedures() {
         if other != callee
             && changed.entry_address(other) == address
             && let Some(entry) = changed.entry_state(other)
             && covers(
-                &Program::unknown(),
+                &program,
                 &enter(
-                    &Program::unknown(),
+                    &program,
                     Rules::Extended,
                     taken_by(cert, other),
                     &kept_of(cert, other),

@@ -1,17 +1,24 @@
-//! The attempts at a cartridge: by the rules of version 3, and where these lead to no certificate, by those of versions 1
-//! and 2, by which states are told apart otherwise. So nothing is lost that these rules certify. Both are tried with few
-//! nodes first, since an edit that leads into very many is mostly one that doesn't help; and with more while that helps
-//! against a failure.
+//! The attempts at a cartridge: by the rules of version 3, and where these lead to no certificate, by those of version 4 if it
+//! switches banks, and then by those of versions 1 and 2, by which states are told apart otherwise. So nothing is lost that these
+//! rules certify. All are tried with few nodes first, since an edit that leads into very many is mostly one that doesn't help; and
+//! with more while that helps against a failure.
 
-use crate::rounds::{Made, Refinement, SearchLimits, SearchProgress};
+use crate::rounds::{Made, Refinement, SearchLimits, SearchProgress, alone};
 use crate::shrink::shrink;
+use crate::written::is_accepted;
+use gb_ops::machine::Kind;
 use gb_page::Finding;
 use gb_prune::limits::{FEW_NODES, NODES};
-use gb_prune::{Rom, Rules};
+use gb_prune::{Edition, Rom};
 use std::alloc::{AllocError, Global};
 
 /// The most nodes of the attempts that come next, before as many as are allowed.
 pub(crate) const MORE_NODES: usize = 100_000;
+
+/// The fewest and the most steps of an attempt by the rules of version 4 that nobody asked for.
+const FEWEST_STEPS: u64 = 100_000;
+
+const MOST_STEPS: u64 = 200_000;
 
 /// The attempts so far.
 #[derive(Drop)]
@@ -19,75 +26,117 @@ struct Attempts<'a> {
     alloc: Global,
     rom: &'a Rom<'a>,
     limits: SearchLimits,
-    /// What was learnt by the rules of version 3, and by those of versions 1 and 2.
-    by_extended: Option<Refinement<'a>>,
-    by_simple: Option<Refinement<'a>>,
+    /// What was learnt by the rules of version 3, by those of version 4, and by those of versions 1 and 2.
+    by_third: Option<Refinement<'a>>,
+    by_fourth: Option<Refinement<'a>>,
+    by_early: Option<Refinement<'a>>,
     /// The findings by the rules that are tried first.
     findings: Vec<Finding>,
 }
 
 impl<'a> Attempts<'a> {
     /// Whether there is a way to go by some rules that the limits allow.
-    fn are_wanted(&self, rules: Rules) -> bool {
-        match self.limits.rules {
-            Some(wanted) => wanted == rules,
-            None => true,
+    fn are_wanted(&self, edition: Edition) -> bool {
+        match self.limits.edition {
+            Some(wanted) => wanted == edition,
+            None => edition != Edition::Fourth || self.switches_banks(),
         }
+    }
+
+    /// Whether the cartridge has a controller.
+    fn switches_banks(&self) -> bool {
+        !matches!(self.rom.kind(), Kind::Rom)
     }
 
     /// Whether the rules of versions 1 and 2 are tried with so many nodes: more than few only where the limit stopped those of version 3
     /// too. Else a failure stands that has nothing to do with it, and they know no more of it.
-    fn may_be_simple(&self, nodes: usize, before: Limited) -> bool {
-        let is_alone = !self.are_wanted(Rules::Extended);
-        self.are_wanted(Rules::Simple) && (nodes <= FEW_NODES || before.by_extended || is_alone)
+    fn may_be_early(&self, nodes: usize, before: Limited) -> bool {
+        let is_alone = !self.are_wanted(Edition::Third);
+        self.are_wanted(Edition::Early) && (nodes <= FEW_NODES || before.by_third || is_alone)
+    }
+
+    /// Whether some rules are tried with so many nodes, where they might lead further than before.
+    fn may_lead_further(&self, edition: Edition, nodes: usize, before: Limited) -> bool {
+        match edition {
+            Edition::Third => before.by_third && self.are_wanted(Edition::Third),
+            Edition::Fourth => before.by_fourth && self.are_wanted(Edition::Fourth),
+            Edition::Early => before.by_early && self.may_be_early(nodes, before),
+        }
     }
 
     /// A certificate by some rules with so many nodes; whether more nodes might lead further where there is none.
     fn attempt<P: SearchProgress>(
         &mut self,
-        rules: Rules,
+        edition: Edition,
         nodes: usize,
         progress: &mut P,
     ) -> Result<Attempted, AllocError> {
-        let mut refinement = self.refinement(rules, nodes)?;
+        let mut refinement = self.refinement(edition, nodes)?;
         match refinement.make(progress)? {
             Made::Certificate(bytes) => {
-                Ok(Attempted::Certificate(shrink(&refinement, bytes, progress)?))
+                let bytes = shrink(&refinement, bytes, progress)?;
+                self.judged(edition, bytes)
             }
             Made::Findings(findings) => {
                 // What stood with fewer nodes was told as it was first met.
                 if self.findings.is_empty() || !refinement.stands_again() {
-                    self.keep(rules, findings);
+                    self.keep(edition, findings);
                 }
                 let is_over = refinement.is_hopeless
                     || refinement.is_wild()
                     || refinement.is_multiplied && self.limits.nodes <= NODES;
                 let is_limited = refinement.is_limited && !is_over;
-                self.keep_learnt(rules, refinement);
+                self.keep_learnt(edition, refinement);
                 Ok(Attempted::Nothing { is_limited })
             }
         }
     }
 
+    /// A certificate, if the checker accepts it.
+    fn if_accepted(&self, bytes: Vec<u8>) -> Option<Vec<u8>> {
+        if is_accepted(self.alloc, self.rom, bytes.as_slice()) {
+            Some(bytes)
+        } else {
+            None
+        }
+    }
+
+    /// What comes of an attempt that made a certificate. By the rules of version 4 it counts only if the checker accepts it, so that
+    /// other rules are tried else.
+    fn judged(&mut self, edition: Edition, bytes: Vec<u8>) -> Result<Attempted, AllocError> {
+        if edition != Edition::Fourth {
+            return Ok(Attempted::Certificate(bytes));
+        }
+        match self.if_accepted(bytes) {
+            Some(bytes) => Ok(Attempted::Certificate(bytes)),
+            None => {
+                self.keep(edition, alone(self.alloc, Finding::Internal)?);
+                Ok(Attempted::Nothing { is_limited: false })
+            }
+        }
+    }
+
     /// What was learnt by some rules is kept.
-    fn keep_learnt(&mut self, rules: Rules, refinement: Refinement<'a>) {
-        match rules {
-            Rules::Extended => self.by_extended = Some(refinement),
-            Rules::Simple => self.by_simple = Some(refinement),
+    fn keep_learnt(&mut self, edition: Edition, refinement: Refinement<'a>) {
+        match edition {
+            Edition::Third => self.by_third = Some(refinement),
+            Edition::Fourth => self.by_fourth = Some(refinement),
+            Edition::Early => self.by_early = Some(refinement),
         }
     }
 
     /// What was learnt by some rules.
-    fn take_learnt(&mut self, rules: Rules) -> Option<Refinement<'a>> {
-        match rules {
-            Rules::Extended => self.by_extended.take(),
-            Rules::Simple => self.by_simple.take(),
+    fn take_learnt(&mut self, edition: Edition) -> Option<Refinement<'a>> {
+        match edition {
+            Edition::Third => self.by_third.take(),
+            Edition::Fourth => self.by_fourth.take(),
+            Edition::Early => self.by_early.take(),
         }
     }
 
     /// What was learnt with fewer nodes goes on with so many; else nothing is known yet.
-    fn refinement(&mut self, rules: Rules, nodes: usize) -> Result<Refinement<'a>, AllocError> {
-        if let Some(mut refinement) = self.take_learnt(rules) {
+    fn refinement(&mut self, edition: Edition, nodes: usize) -> Result<Refinement<'a>, AllocError> {
+        if let Some(mut refinement) = self.take_learnt(edition) {
             refinement.allow(nodes)?;
             return Ok(refinement);
         }
@@ -95,49 +144,102 @@ impl<'a> Attempts<'a> {
             nodes,
             ..self.limits
         };
-        Refinement::new(self.alloc, self.rom, limits, rules)
+        let mut refinement = Refinement::new(self.alloc, self.rom, limits, edition)?;
+        if edition == Edition::Fourth {
+            refinement.budget = self.budget();
+        }
+        Ok(refinement)
+    }
+
+    /// The steps of an attempt by the rules of version 4. Where nobody asked for these, it takes about as long as the one by the rules
+    /// of version 3, so that a game with a mistake is refused soon.
+    fn budget(&self) -> u64 {
+        match (&self.by_third, self.limits.edition) {
+            (Some(third), None) => third.spent.max(FEWEST_STEPS).min(MOST_STEPS),
+            _ => u64::MAX,
+        }
     }
 
     /// Findings are kept by the first rules alone.
-    fn keep(&mut self, rules: Rules, findings: Vec<Finding>) {
-        if rules == Rules::Extended || !self.are_wanted(Rules::Extended) {
+    fn keep(&mut self, edition: Edition, findings: Vec<Finding>) {
+        if edition == Edition::Third || !self.are_wanted(Edition::Third) {
             self.findings = findings;
         }
     }
 
-    /// Certificates by both rules with so many nodes, where they might lead further than before.
+    /// Whether facts are sought before the rules of an attempt are tried: before those of version 4, or where banks are switched
+    /// behind them. What facts bound takes few nodes, or facts don't help.
+    fn has_facts_before(&self, edition: Edition, nodes: usize) -> bool {
+        let is_wanted = match self.limits.edition {
+            Some(wanted) => wanted == Edition::Fourth,
+            None => true,
+        };
+        let is_now = match edition {
+            Edition::Third => false,
+            Edition::Fourth => !self.switches_banks(),
+            Edition::Early => self.switches_banks(),
+        };
+        is_wanted && is_now && nodes <= FEW_NODES
+    }
+
+    /// A certificate with facts, if they are sought before the rules of an attempt are tried.
+    fn made_with_facts<P: SearchProgress>(
+        &mut self,
+        edition: Edition,
+        nodes: usize,
+        progress: &mut P,
+    ) -> Result<Option<Vec<u8>>, AllocError> {
+        if !self.has_facts_before(edition, nodes) || !progress.goes_on() {
+            return Ok(None);
+        }
+        let limits = SearchLimits {
+            nodes,
+            ..self.limits
+        };
+        let mut refinement = Refinement::new(self.alloc, self.rom, limits, Edition::Fourth)?;
+        refinement.budget = self.budget();
+        refinement.cells.seeks_facts = true;
+        match refinement.make(progress)? {
+            Made::Certificate(bytes) => {
+                let bytes = shrink(&refinement, bytes, progress)?;
+                Ok(self.if_accepted(bytes))
+            }
+            Made::Findings(_) => Ok(None),
+        }
+    }
+
+    /// Certificates by all rules with so many nodes, where they might lead further than before.
     fn attempt_all<P: SearchProgress>(
         &mut self,
         nodes: usize,
         before: Limited,
         progress: &mut P,
-    ) -> Result<Both, AllocError> {
-        let mut limited = Limited::neither();
-        if before.by_extended && self.are_wanted(Rules::Extended) && progress.goes_on() {
-            match self.attempt(Rules::Extended, nodes, progress)? {
-                Attempted::Certificate(bytes) => return Ok(Both::Certificate(bytes)),
-                Attempted::Nothing { is_limited } => limited.by_extended = is_limited,
+    ) -> Result<AllAttempted, AllocError> {
+        let mut limited = Limited::none();
+        for edition in [Edition::Third, Edition::Fourth, Edition::Early] {
+            if let Some(bytes) = self.made_with_facts(edition, nodes, progress)? {
+                return Ok(AllAttempted::Certificate(bytes));
+            }
+            if self.may_lead_further(edition, nodes, before) && progress.goes_on() {
+                match self.attempt(edition, nodes, progress)? {
+                    Attempted::Certificate(bytes) => return Ok(AllAttempted::Certificate(bytes)),
+                    Attempted::Nothing { is_limited } => limited.set(edition, is_limited),
+                }
             }
         }
-        if before.by_simple && self.may_be_simple(nodes, before) && progress.goes_on() {
-            match self.attempt(Rules::Simple, nodes, progress)? {
-                Attempted::Certificate(bytes) => return Ok(Both::Certificate(bytes)),
-                Attempted::Nothing { is_limited } => limited.by_simple = is_limited,
-            }
-        }
-        Ok(Both::Nothing(limited))
+        Ok(AllAttempted::Nothing(limited))
     }
 
     /// All attempts.
     fn make<P: SearchProgress>(mut self, progress: &mut P) -> Result<Made, AllocError> {
-        let mut limited = Limited::both();
+        let mut limited = Limited::all();
         let mut before = 0;
         for most in [FEW_NODES, MORE_NODES, self.limits.nodes] {
             let nodes = most.min(self.limits.nodes);
             if nodes > before {
                 match self.attempt_all(nodes, limited, progress)? {
-                    Both::Certificate(bytes) => return Ok(Made::Certificate(bytes)),
-                    Both::Nothing(after) => limited = after,
+                    AllAttempted::Certificate(bytes) => return Ok(Made::Certificate(bytes)),
+                    AllAttempted::Nothing(after) => limited = after,
                 }
                 before = nodes;
             }
@@ -154,9 +256,9 @@ enum Attempted {
     Nothing { is_limited: bool },
 }
 
-/// What came of attempts by both rules.
+/// What came of attempts by all rules.
 #[derive(Drop)]
-enum Both {
+enum AllAttempted {
     Certificate(Vec<u8>),
     Nothing(Limited),
 }
@@ -164,27 +266,38 @@ enum Both {
 /// By which rules more nodes might lead further.
 #[derive(Clone, Copy)]
 struct Limited {
-    by_extended: bool,
-    by_simple: bool,
+    by_third: bool,
+    by_fourth: bool,
+    by_early: bool,
 }
 
 impl Limited {
-    fn both() -> Limited {
+    fn all() -> Limited {
         Limited {
-            by_extended: true,
-            by_simple: true,
+            by_third: true,
+            by_fourth: true,
+            by_early: true,
         }
     }
 
-    fn neither() -> Limited {
+    fn none() -> Limited {
         Limited {
-            by_extended: false,
-            by_simple: false,
+            by_third: false,
+            by_fourth: false,
+            by_early: false,
+        }
+    }
+
+    fn set(&mut self, edition: Edition, is_limited: bool) {
+        match edition {
+            Edition::Third => self.by_third = is_limited,
+            Edition::Fourth => self.by_fourth = is_limited,
+            Edition::Early => self.by_early = is_limited,
         }
     }
 }
 
-/// A certificate by the rules that the limits name, or else by those of version 3 and then by those of versions 1 and 2.
+/// A certificate by the rules that the limits name, or else by those of version 3, then 4, then 1 and 2.
 /// Where there is none, the findings by the first rules.
 pub(crate) fn made_certificate<P: SearchProgress>(
     alloc: Global,
@@ -196,8 +309,9 @@ pub(crate) fn made_certificate<P: SearchProgress>(
         alloc,
         rom,
         limits,
-        by_extended: None,
-        by_simple: None,
+        by_third: None,
+        by_fourth: None,
+        by_early: None,
         findings: Vec::new(alloc),
     };
     attempts.make(progress)

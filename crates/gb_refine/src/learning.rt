@@ -8,7 +8,9 @@ use crate::written::{is_accepted, written};
 use gb_ops::machine::Region;
 use gb_page::{Crowd, Finding, InstructionFinding};
 use gb_plans::{Plan, array_behind, inline_plan, last_plan, plan_for, targets_to_follow};
-use gb_prune::limits::{DEAR_STEPS, EDITS, EDITS_AGAIN, EDITS_OF_KEPT, OBSTACLES, STEPS_BACK};
+use gb_prune::limits::{
+    DEAR_STEPS, EDITS, EDITS_AGAIN, EDITS_OF_KEPT, KEPT, OBSTACLES, STEPS_BACK,
+};
 use gb_prune::{
     Cause, CodePoint, Failure, PADDING, Rules, Run, RunEnd, TargetPlace, Wish, find_needs,
 };
@@ -36,9 +38,50 @@ impl<'a> Refinement<'a> {
 
     /// What a run wants to know besides what is known.
     fn news(&self, run: &Run<'_>) -> Result<News, AllocError> {
-        let cells = self.cells.missing(self.alloc, run)?;
+        let mut cells = self.cells.missing(self.alloc, run)?;
         let points = self.new_points(&run.points)?;
-        Ok(News { cells, points })
+        let kept = self.new_kept(&run.shadows)?;
+        for address in &kept {
+            if !self.configuration.tracked.contains(address) && !cells.contains(address) {
+                cells.push(*address)?;
+            }
+        }
+        Ok(News {
+            cells,
+            points,
+            kept,
+            has_facts: self.cells.are_facts_new,
+        })
+    }
+
+    /// The addresses that shadow a register of the controller, and whose bytes aren't kept yet, as many as there is room for.
+    fn new_kept(&self, shadows: &BTreeSet<u16>) -> Result<Vec<u16>, AllocError> {
+        let mut kept = Vec::new(self.alloc);
+        let mut room = KEPT.saturating_sub(self.configuration.kept.len());
+        for address in shadows {
+            if room > 0 && !self.configuration.kept.contains(address) {
+                kept.push(*address)?;
+                room = room.saturating_sub(1);
+            }
+        }
+        Ok(kept)
+    }
+
+    /// Where a run ends with something else than a certificate and has met addresses that shadow the controller, their bytes are kept
+    /// first: what else would have to be told apart then isn't.
+    fn keeping(&self, run: &Run<'_>, outcome: RunEnd) -> Result<Option<Lesson>, AllocError> {
+        if !matches!(
+            outcome,
+            RunEnd::Failed(_) | RunEnd::TooLarge | RunEnd::Crowded
+        ) {
+            return Ok(None);
+        }
+        let news = self.news(run)?;
+        Ok(if news.kept.is_empty() {
+            None
+        } else {
+            Some(Lesson::Change(Change::Track(news)))
+        })
     }
 
     /// The values at which widening had better stop, and that aren't known yet.
@@ -60,13 +103,16 @@ impl<'a> Refinement<'a> {
         }
     }
 
-    /// Whether a place may be refined once more for a reason. Where a failure stood with fewer nodes, it may be more seldom, also if it
-    /// is followed in other callers now: each of these rounds is dear.
+    /// Whether a place may be refined once more for a reason. Where rounds are dear, this counts in all procedures: code that is
+    /// followed in its callers isn't begun anew in each of them. Where a failure stood with fewer nodes, it may be more seldom.
     fn may_edit(&self, place: TargetPlace, reason: u8, is_kept: bool) -> bool {
         let most = if is_kept { EDITS_OF_KEPT } else { EDITS };
         let has_stood = self.stood.iter().any(|stood| stood.point == place.point);
+        let around = self.edits_around(place.point, reason);
+        let is_dear = self.steps >= DEAR_STEPS;
         self.edits_at(place, reason) < most
-            && (!has_stood || self.edits_around(place.point, reason) < EDITS_AGAIN)
+            && (!is_dear || around < most)
+            && (!has_stood || around < EDITS_AGAIN)
     }
 
     /// How often a point of code was refined for a reason, in all procedures.
@@ -372,6 +418,9 @@ impl<'a> Refinement<'a> {
         if let Some(lesson) = self.deepening(run)? {
             return Ok(lesson);
         }
+        if let Some(lesson) = self.keeping(run, outcome)? {
+            return Ok(lesson);
+        }
         match outcome {
             RunEnd::Wanted(wish) => self.learn_wishes(run, wish),
             RunEnd::TooLarge => Ok(Lesson::TooLarge(Crowd::of(self.alloc, run)?)),
@@ -415,7 +464,7 @@ impl<'a> Refinement<'a> {
         if self.same_runs < SAME_RUNS {
             self.cells.add_waiting(&mut news.cells)?;
         }
-        if run.steps >= DEAR_STEPS || news.is_empty() {
+        if !news.has_facts && (run.steps >= DEAR_STEPS || news.is_empty()) {
             self.learn_at_once(run, failure, news)
         } else {
             Ok(Lesson::Change(Change::Track(news)))
@@ -484,7 +533,7 @@ impl<'a> Refinement<'a> {
 
     fn learn_finished(&self, run: &mut Run<'_>) -> Result<Lesson, AllocError> {
         let news = self.news(run)?;
-        if news.cells.is_empty() {
+        if news.cells.is_empty() && !news.has_facts {
             self.learn_end(run)
         } else {
             Ok(Lesson::Change(Change::Track(news)))

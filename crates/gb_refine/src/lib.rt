@@ -10,6 +10,7 @@ mod attempts;
 mod failures;
 mod idle;
 mod learning;
+mod measures;
 mod pruning;
 mod rounds;
 mod shrink;
@@ -30,7 +31,7 @@ pub use gb_page::{
     SymbolFaultKind, Symbols, changes_json, color_note, crash_json, explain, facts_json,
     finding_json, findings_page, page_of,
 };
-pub use gb_prune::Rules;
+pub use gb_prune::Edition;
 
 /// A certificate of a cartridge, or why there is none. The certificate isn't checked as a last step: that is left to the
 /// caller.

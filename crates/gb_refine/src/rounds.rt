@@ -3,22 +3,26 @@
 use crate::attempts::MORE_NODES;
 use crate::failures::tell;
 use crate::learning::is_no_code;
+use crate::measures::{outcome_of, pairs_of, targets_of};
 use crate::tracking::Cells;
 use gb_ops::machine::Region;
 use gb_page::{Crowd, Finding, InstructionFinding, Spent};
 use gb_plans::{Plan, learn_touched};
 use gb_prune::limits::{
-    ALL_STEPS, FEW_NODES, OBSTACLES, RUN_STEPS, STEPS_A_NODE, STEPS_A_NODE_OF_MANY, STEPS_ASKED,
-    TAKEN_BACK, TAKEN_BACK_OF_MANY,
+    ALL_STEPS, FEW_NODES, OBSTACLES, STEPS_A_NODE, STEPS_A_NODE_OF_MANY, TAKEN_BACK,
+    TAKEN_BACK_OF_MANY,
 };
 use gb_prune::{
-    Cause, CodePoint, Configuration, Rom, Rules, Run, RunEnd, StackMisuse, TargetPlace, Wish,
+    Cause, CodePoint, Configuration, Edition, Rom, Rules, Run, StackMisuse, TargetPlace, Wish,
 };
 use std::alloc::{AllocError, Global};
 use std::collections::{BTreeMap, BTreeSet};
 
 /// The bytes of a word.
 pub(crate) const WORD: usize = 2;
+
+/// The part of the nodes that are allowed, one in so many, that a run has to have left where another plan may still fit.
+const SPARE_PART: usize = 4;
 
 /// What is told while certificates are made.
 pub trait SearchProgress {
@@ -49,7 +53,7 @@ pub struct SearchLimits {
     /// The stack region, where the user has said which.
     pub region: Option<Region>,
     /// The rules by which certificates are sought, where the user has said which.
-    pub rules: Option<Rules>,
+    pub edition: Option<Edition>,
 }
 
 /// What became of a cartridge.
@@ -71,6 +75,8 @@ pub(crate) struct Before {
     plan: u64,
     /// Whether others were made with it.
     is_one_of_many: bool,
+    /// The nodes of the run that met the failure.
+    nodes: usize,
 }
 
 /// A place and a reason, by whose number edits are counted.
@@ -80,18 +86,14 @@ pub(crate) struct Tried {
     pub(crate) reason: u8,
 }
 
-/// Cells that aren't tracked yet, and values at which widening doesn't stop yet.
+/// Cells that aren't tracked yet, values at which widening doesn't stop yet, and addresses whose bytes aren't kept yet.
 #[derive(Drop)]
 pub(crate) struct News {
     pub(crate) cells: Vec<u16>,
     pub(crate) points: Vec<u8>,
-}
-
-impl News {
-    /// Whether there is nothing new.
-    pub(crate) fn is_empty(&self) -> bool {
-        self.cells.is_empty() && self.points.is_empty()
-    }
+    pub(crate) kept: Vec<u16>,
+    /// Whether something is new of what bytes of RAM hold throughout.
+    pub(crate) has_facts: bool,
 }
 
 /// Something is to be refined; the failure stands otherwise.
@@ -196,6 +198,8 @@ pub(crate) struct Refinement<'a> {
     pub(crate) pairs: u64,
     /// The steps of all runs.
     pub(crate) spent: u64,
+    /// How many these may be, where that is less than the limits allow.
+    pub(crate) budget: u64,
     /// How many rounds were begun.
     rounds: u32,
     /// Whether the limit of nodes was met.
@@ -206,9 +210,9 @@ pub(crate) struct Refinement<'a> {
 fn first_configuration(
     alloc: Global,
     limits: &SearchLimits,
-    rules: Rules,
+    edition: Edition,
 ) -> Result<Configuration, AllocError> {
-    let mut configuration = Configuration::new(alloc, rules)?;
+    let mut configuration = Configuration::new(alloc, edition)?;
     configuration.limit = limits.nodes;
     if let Some(region) = limits.region {
         configuration.region = region;
@@ -236,13 +240,13 @@ impl<'a> Refinement<'a> {
         alloc: Global,
         rom: &'a Rom<'a>,
         limits: SearchLimits,
-        rules: Rules,
+        edition: Edition,
     ) -> Result<Refinement<'a>, AllocError> {
         Ok(Refinement {
             alloc,
             rom,
             limits,
-            configuration: first_configuration(alloc, &limits, rules)?,
+            configuration: first_configuration(alloc, &limits, edition)?,
             cells: Cells::new(alloc),
             keyed_loops: Vec::new(alloc),
             before: None,
@@ -268,6 +272,7 @@ impl<'a> Refinement<'a> {
             same_runs: 0,
             pairs: 0,
             spent: 0,
+            budget: u64::MAX,
             rounds: 0,
             is_limited: false,
         })
@@ -283,6 +288,7 @@ impl<'a> Refinement<'a> {
     }
 
     fn lesson<P: SearchProgress>(&mut self, progress: &mut P) -> Result<Lesson, AllocError> {
+        self.set_facts()?;
         let mut run = Run::new(self.alloc, self.rom, &self.configuration)?;
         self.lesson_of(&mut run, progress)
     }
@@ -293,7 +299,8 @@ impl<'a> Refinement<'a> {
         run: &mut Run<'_>,
         progress: &mut P,
     ) -> Result<Lesson, AllocError> {
-        let Some(outcome) = outcome_of(run, progress)? else {
+        let most = self.budget.saturating_sub(self.spent);
+        let Some(outcome) = outcome_of(run, most, progress)? else {
             return Ok(Lesson::OutOfTime);
         };
         progress.ran(run.nodes.len(), run.procedures.len());
@@ -366,6 +373,7 @@ impl<'a> Refinement<'a> {
             cause: mending.finding.cause,
             plan: mending.plan.number(),
             is_one_of_many,
+            nodes: self.nodes,
         });
         Ok(())
     }
@@ -455,8 +463,21 @@ impl<'a> Refinement<'a> {
         Ok(())
     }
 
-    /// A run was too large: the last edit was too much, or there was none.
+    /// Whether the run that met the failure to be mended last had nearly as many nodes as are allowed.
+    fn was_nearly_full(&self) -> bool {
+        match &self.before {
+            Some(before) => {
+                let spare = self.limits.nodes.saturating_sub(before.nodes);
+                spare.saturating_mul(SPARE_PART) <= self.limits.nodes
+            }
+            None => false,
+        }
+    }
+
+    /// A run was too large: the last edit was too much, or there was none. Where the run before it had no room to grow either, more nodes
+    /// are wanted and no other plan.
     fn shrink_back(&mut self, crowd: Crowd) -> Result<Option<Made>, AllocError> {
+        let is_full = self.was_nearly_full();
         let most = self.most_taken_back();
         let place = self.take_back(most)?;
         let is_any_address = match place {
@@ -466,8 +487,12 @@ impl<'a> Refinement<'a> {
         if !is_any_address {
             self.is_limited = true;
         }
+        if is_full && let Some(place) = place {
+            self.stand(place)?;
+            self.too_large.insert(place)?;
+        }
         match place {
-            Some(place) if self.ends_too_large(place) => {
+            Some(place) if self.ends_too_large(place) || is_full => {
                 Ok(Some(self.end_standing(Finding::TooLarge(crowd))?))
             }
             Some(place) if self.given_up.len() < OBSTACLES => {
@@ -546,6 +571,7 @@ impl<'a> Refinement<'a> {
         older.is_stack_given = self.configuration.is_stack_given;
         older.is_stack_seen = self.configuration.is_stack_seen;
         older.tracked = self.configuration.tracked.clone()?;
+        older.kept = self.configuration.kept.clone()?;
         older.known_targets = self.configuration.known_targets.clone()?;
         older.touched = self.configuration.touched.clone()?;
         add_points(&self.configuration.points, &mut older.points)?;
@@ -617,6 +643,10 @@ impl<'a> Refinement<'a> {
                 self.configuration.arguments.insert(target, bytes)?;
                 Ok(())
             }
+            Wish::Banks(target) => {
+                self.configuration.banked.insert(target)?;
+                Ok(())
+            }
             Wish::Top(sp) => self.set_region(region_below(sp)),
         }
     }
@@ -643,6 +673,9 @@ impl<'a> Refinement<'a> {
         for point in &news.points {
             self.configuration.points.insert(*point)?;
         }
+        for address in &news.kept {
+            self.configuration.kept.insert(*address)?;
+        }
         self.cells.track(&mut self.configuration, &news.cells)
     }
 
@@ -650,7 +683,8 @@ impl<'a> Refinement<'a> {
     fn most_steps(&self) -> u64 {
         let nodes = self.limits.nodes as u64;
         let many = nodes.saturating_mul(STEPS_A_NODE_OF_MANY);
-        ALL_STEPS.max(many).min(nodes.saturating_mul(STEPS_A_NODE))
+        let by_limits = ALL_STEPS.max(many).min(nodes.saturating_mul(STEPS_A_NODE));
+        by_limits.min(self.budget)
     }
 
     /// More nodes are allowed from now on. What made a run too large may help then: no plan is taken back any more, and no failure
@@ -719,22 +753,6 @@ impl<'a> Refinement<'a> {
     }
 }
 
-/// What a run comes to; None where it may not go on so far.
-fn outcome_of<P: SearchProgress>(
-    run: &mut Run<'_>,
-    progress: &mut P,
-) -> Result<Option<RunEnd>, AllocError> {
-    for _ in 0..RUN_STEPS / STEPS_ASKED {
-        if let Some(end) = run.run_for(STEPS_ASKED)? {
-            return Ok(Some(end));
-        }
-        if !progress.goes_on() {
-            return Ok(None);
-        }
-    }
-    Ok(Some(RunEnd::TooLarge))
-}
-
 fn add_points(more: &BTreeSet<u8>, points: &mut BTreeSet<u8>) -> Result<(), AllocError> {
     for point in more {
         points.insert(*point)?;
@@ -763,26 +781,6 @@ pub(crate) fn region_below(sp: u16) -> Region {
         first: sp.wrapping_sub(2),
         last: sp.wrapping_sub(1),
     }
-}
-
-/// How many pairs of nodes there are at one address of a run.
-fn pairs_of(run: &Run<'_>) -> u64 {
-    let mut pairs: u64 = 0;
-    for nodes in run.at.values() {
-        let count = nodes.len() as u64;
-        pairs = pairs.saturating_add(count.saturating_mul(count));
-    }
-    pairs
-}
-
-/// How many procedures of a run begin at each point of code.
-fn targets_of(alloc: Global, run: &Run<'_>) -> Result<BTreeMap<CodePoint, usize>, AllocError> {
-    let mut targets = BTreeMap::new(alloc);
-    for procedure in &run.procedures {
-        let count = targets.entry(procedure.key.point())?.or_insert(0usize);
-        *count = count.saturating_add(1);
-    }
-    Ok(targets)
 }
 
 /// Whether a region lies in work RAM or in high RAM.

@@ -16,6 +16,8 @@ enum Spare {
     Parting(CodePoint),
     /// A cell needn't be tracked.
     Cell(u16),
+    /// The byte at an address needn't be kept.
+    Kept(u16),
 }
 
 /// The certificate of one run, if it is clean and the checker accepts it.
@@ -44,7 +46,7 @@ fn accepted(
 
 /// Whether a run ends with no failure, and its procedures' needs are found.
 fn is_clean(alloc: Global, run: &mut Run<'_>) -> Result<bool, AllocError> {
-    if run.run()? != RunEnd::Finished || !run.failures.is_empty() {
+    if run.run()? != RunEnd::Finished || !run.failures.is_empty() || run.has_broken_facts() {
         return Ok(false);
     }
     Ok(find_needs(alloc, run)?.is_none())
@@ -63,6 +65,9 @@ fn without_some(
             }
             Spare::Cell(cell) => {
                 coarser.tracked.remove(cell);
+            }
+            Spare::Kept(address) => {
+                coarser.kept.remove(address);
             }
         }
     }
@@ -87,6 +92,7 @@ impl Shrinking<'_> {
         progress: &mut P,
     ) -> Result<(), AllocError> {
         self.flatten(refinement, progress)?;
+        self.let_go(refinement, progress)?;
         self.untrack(refinement, progress)?;
         self.loops(&refinement.keyed_loops, progress)?;
         self.registers(progress)
@@ -100,6 +106,19 @@ impl Shrinking<'_> {
     ) -> Result<(), AllocError> {
         let targets = crowded(refinement)?;
         self.by_halves(&targets, progress)
+    }
+
+    /// Bytes needn't be kept.
+    fn let_go<P: SearchProgress>(
+        &mut self,
+        refinement: &Refinement<'_>,
+        progress: &mut P,
+    ) -> Result<(), AllocError> {
+        let mut kept = Vec::new(self.alloc);
+        for address in refinement.configuration.kept.iter() {
+            kept.push(Spare::Kept(*address))?;
+        }
+        self.by_halves(&kept, progress)
     }
 
     /// Cells needn't be tracked.
@@ -280,7 +299,8 @@ fn crowded(refinement: &Refinement<'_>) -> Result<Vec<Spare>, AllocError> {
 fn loose_cells(refinement: &Refinement<'_>) -> Result<Vec<Spare>, AllocError> {
     let mut cells = Vec::new(refinement.alloc());
     for cell in refinement.configuration.tracked.iter() {
-        if !refinement.configuration.key_cells.contains(cell) {
+        let is_kept = refinement.configuration.kept.contains(cell);
+        if !is_kept && !refinement.configuration.key_cells.contains(cell) {
             cells.push(Spare::Cell(*cell))?;
         }
     }

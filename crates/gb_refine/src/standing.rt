@@ -5,7 +5,7 @@ use crate::learning::is_no_code;
 use crate::rounds::{Change, Lesson, Made, Refinement};
 use gb_page::Finding;
 use gb_prune::limits::{FEW_NODES, MULTIPLE, STEPS_STANDING};
-use gb_prune::{Rules, Run, RunEnd, TargetPlace};
+use gb_prune::{Edition, Run, RunEnd, TargetPlace};
 use std::alloc::{AllocError, Global};
 use std::collections::{BTreeSet, HashSet};
 use std::mem;
@@ -78,7 +78,8 @@ impl<'a> Refinement<'a> {
     /// the rules that are tried for a certificate alone. With more nodes a pointer from RAM that nothing bounds would only walk
     /// further.
     pub(crate) fn ends_too_large(&mut self, place: TargetPlace) -> bool {
-        let is_alone = self.configuration.rules == Rules::Simple && self.limits.rules.is_none();
+        let is_alone = self.configuration.edition == Edition::Early
+            && self.limits.edition.is_none();
         let is_last = is_alone || self.stood.contains(&place);
         let is_standing = self.configuration.given_up.contains(&place);
         let ends = self.limits.nodes > FEW_NODES && is_standing && is_last;

@@ -1,8 +1,9 @@
 //! Which memory cells are tracked: at most 64 by the rules of version 3, 32 by the others; code and what keys go by first. Where
 //! there are more, those go first of which a run knew nothing, and others get their room.
 
+use crate::rounds::{News, Refinement};
 use gb_ops::machine::Region;
-use gb_prune::{Configuration, Run, is_ram};
+use gb_prune::{Configuration, FactTable, Run, is_ram};
 use std::alloc::{AllocError, Global};
 use std::collections::BTreeSet;
 
@@ -21,6 +22,12 @@ pub(crate) struct Cells {
     pub(crate) named: BTreeSet<u16>,
     /// Cells that hold code.
     pub(crate) fetched: BTreeSet<u16>,
+    /// Whether it is sought what bytes hold throughout, by the rules of version 4.
+    pub(crate) seeks_facts: bool,
+    /// What bytes hold throughout.
+    pub(crate) facts: FactTable,
+    /// Whether the last run taught something new of that.
+    pub(crate) are_facts_new: bool,
 }
 
 /// How much a cell matters; the greatest goes first where there are too many.
@@ -42,6 +49,9 @@ impl Cells {
             idle: BTreeSet::new(alloc),
             named: BTreeSet::new(alloc),
             fetched: BTreeSet::new(alloc),
+            seeks_facts: false,
+            facts: FactTable::new(alloc),
+            are_facts_new: false,
         }
     }
 
@@ -49,8 +59,9 @@ impl Cells {
     pub(crate) fn learn(&mut self, alloc: Global, run: &Run<'_>) -> Result<(), AllocError> {
         add_all(&run.named, &mut self.named)?;
         add_all(&run.fetched, &mut self.fetched)?;
+        self.are_facts_new = self.seeks_facts && self.facts.learn(alloc, run)?;
         let configuration = &run.configuration;
-        self.idle = if configuration.tracked.len() < configuration.rules.cell_room() {
+        self.idle = if configuration.tracked.len() < configuration.edition.rules().cell_room() {
             BTreeSet::new(alloc)
         } else {
             idle_cells(alloc, run)?
@@ -80,7 +91,7 @@ impl Cells {
                 missing.push(*cell)?;
             }
         }
-        let room = run.configuration.rules.cell_room();
+        let room = run.configuration.edition.rules().cell_room();
         if tracked.len().saturating_add(missing.len()) <= room {
             return Ok(missing);
         }
@@ -94,7 +105,8 @@ impl Cells {
     }
 
     fn rank(&self, configuration: &Configuration, cell: u16) -> Rank {
-        let class = if self.fetched.contains(&cell) || configuration.key_cells.contains(&cell) {
+        let is_key = configuration.key_cells.contains(&cell) || configuration.kept.contains(&cell);
+        let class = if self.fetched.contains(&cell) || is_key {
             0
         } else if self.idle.contains(&cell) {
             3
@@ -159,7 +171,7 @@ impl Cells {
             }
         }
         for _ in 0..more.len() {
-            if configuration.tracked.len() <= configuration.rules.cell_room() {
+            if configuration.tracked.len() <= configuration.edition.rules().cell_room() {
                 break;
             }
             let Some(cell) = self.least(configuration) else {
@@ -243,4 +255,25 @@ fn cells_inside(
 /// Whether a cell lies in the stack region.
 fn meets(region: Region, cell: u16) -> bool {
     region.first <= cell && cell <= region.last
+}
+
+impl News {
+    /// Whether there is nothing new.
+    pub(crate) fn is_empty(&self) -> bool {
+        let is_of_cells = self.cells.is_empty() && self.kept.is_empty();
+        is_of_cells && self.points.is_empty() && !self.has_facts
+    }
+}
+
+impl Refinement<'_> {
+    /// The next run has the facts that are known by now.
+    pub(crate) fn set_facts(&mut self) -> Result<(), AllocError> {
+        if self.cells.seeks_facts {
+            let region = self.configuration.region;
+            let ordered = self.cells.facts.facts(self.alloc, region)?;
+            self.configuration.early_facts = ordered.early;
+            self.configuration.facts = ordered.facts;
+        }
+        Ok(())
+    }
 }
