@@ -3,8 +3,8 @@
 //! certificate that can't be read, where in the file its fault is. The facts and the page of a small game are here too, and what
 //! a new build of it changed.
 //!
-//! Read refusals.rt first, then extended.rt, which has the same for version 3, then pages.rt, compared.rt, findings.rt and crashes.rt;
-//! spelled.rt spells certificates.
+//! Read refusals.rt first, then extended.rt, which has the same for version 3, and whole.rt for version 4, then pages.rt, compared.rt,
+//! findings.rt and crashes.rt; spelled.rt spells certificates.
 #![tactic(auto)]
 
 #[cfg(test)]
@@ -35,3 +35,5 @@ mod spelled;
 mod spellings;
 #[cfg(test)]
 mod symbols;
+#[cfg(test)]
+mod whole;

@@ -53,6 +53,34 @@ pub struct ExtendedNode {
     pub state: ExtendedState,
 }
 
+/// A state of version 4: the changes of its core, how many items it has, and these, what is known together and claimed for the whole
+/// program, and cells.
+#[derive(Clone, Copy)]
+pub struct WholeState {
+    pub changes: Changes,
+    pub items: u8,
+    pub held: &'static [u8],
+}
+
+/// A procedure of version 4: its ranges and the addresses that it keeps, each with their count, and no mark.
+#[derive(Clone, Copy)]
+pub struct WholeProcedure {
+    pub entry: u8,
+    pub base: u16,
+    pub need: u16,
+    pub ranges: &'static [u8],
+    pub kept: &'static [u8],
+    pub exit: Option<WholeState>,
+}
+
+/// A node of version 4 in bank 0.
+#[derive(Clone, Copy)]
+pub struct WholeNode {
+    pub procedure: u8,
+    pub address: u16,
+    pub state: WholeState,
+}
+
 /// The most bytes that are spelled.
 const ROOM: usize = 1280;
 
@@ -131,6 +159,43 @@ impl Spelled {
     }
 }
 
+/// All of the controller's registers are kept, in version 4.
+const ALL_KEPT: Changes = &[(13, 0x1F)];
+
+impl Spelled {
+    fn add_whole_state(&mut self, state: &WholeState) {
+        let first = self.length;
+        self.add_core(ALL_KEPT);
+        for (offset, value) in state.changes {
+            put(&mut self.bytes, first.wrapping_add(*offset), &[*value]);
+        }
+        self.add(&[state.items]);
+        self.add(state.held);
+    }
+
+    fn add_whole_procedure(&mut self, procedure: &WholeProcedure) {
+        self.add(&[procedure.entry, 0, 0, 0]);
+        self.add(&procedure.base.to_le_bytes());
+        self.add(&procedure.need.to_le_bytes());
+        self.add(procedure.ranges);
+        self.add(procedure.kept);
+        self.add(&[0]);
+        match procedure.exit {
+            None => self.add(&[0]),
+            Some(state) => {
+                self.add(&[1]);
+                self.add_whole_state(&state);
+            }
+        }
+    }
+
+    fn add_whole_node(&mut self, node: &WholeNode) {
+        let [low, high] = node.address.to_le_bytes();
+        self.add(&[node.procedure, 0, low, high, 0, 0]);
+        self.add_whole_state(&node.state);
+    }
+}
+
 /// No bytes yet.
 fn nothing() -> Spelled {
     Spelled {
@@ -164,6 +229,28 @@ pub fn extended_certificate(procedures: &[ExtendedProcedure], nodes: &[ExtendedN
     }
     for node in nodes {
         cert.add_extended_node(node);
+    }
+    cert
+}
+
+/// A certificate of version 4 with the same stack region, and with these facts, eight bytes each.
+pub fn whole_certificate(
+    facts: &[u8],
+    procedures: &[WholeProcedure],
+    nodes: &[WholeNode],
+) -> Spelled {
+    let mut cert = nothing();
+    cert.add(&[0x47, 0x42, 0x42, 0x58, 0x04, 0x80, 0xFF, 0xFD, 0xFF]);
+    let (procedure_count, node_count) = (procedures.len() % 256, nodes.len() % 256);
+    let fact_count = facts.len() / 8 % 256;
+    cert.add(&[procedure_count as u8, 0, node_count as u8, 0, 0, 0]);
+    cert.add(&[fact_count as u8, 0]);
+    cert.add(facts);
+    for procedure in procedures {
+        cert.add_whole_procedure(procedure);
+    }
+    for node in nodes {
+        cert.add_whole_node(node);
     }
     cert
 }

@@ -86,14 +86,12 @@ fn near_entry(
     if setting.rules == Rules::Extended && held < count {
         return taking_too_many(procedure, address, count, held);
     }
-    let entered = enter(
-        program,
-        setting.rules,
-        taken_by(cert, procedure),
-        &kept_of(cert, procedure),
-        state,
+    let kept = kept_of(cert, procedure);
+    let taken = taken_by(cert, procedure);
+    let entered = enter(program, setting.rules, taken, &kept, state);
+    let differences = Differences::of(program, setting.rules, &entered, &claimed).with_kept(
+        kept.as_slice(),
     );
-    let differences = Differences::of(program, setting.rules, &entered, &claimed);
     let below = held.saturating_sub(count);
     match wrong_base(cert, setting, procedure, address, below) {
         Some(base) if differences.count == 0 => NearGap {
@@ -177,6 +175,7 @@ pub(crate) fn inlined_gaps(
         interrupt: None,
         first: entry_gap(program, cert, setting, address, state),
         second: Some(second),
+        broken: None,
     })
 }
 

@@ -32,11 +32,14 @@ fn nearest_node(
     state: &Abs,
 ) -> Option<NearGap> {
     let rules = setting_of(cert, procedure).rules;
+    let kept = kept_of(cert, procedure);
     let found = cert.find(procedure, way.address).found;
     let mut nearest = None;
     for node in found.first..found.after {
         let claimed = cert.node(node).state();
-        let differences = Differences::of(program, rules, state, &claimed);
+        let differences = Differences::of(program, rules, state, &claimed).with_kept(
+            kept.as_slice(),
+        );
         let next = NearGap {
             procedure,
             distance: differences.count,

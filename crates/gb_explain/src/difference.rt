@@ -1,9 +1,12 @@
 //! A part of a state that another state doesn't cover.
 
-use crate::said::ShownSummary;
+use crate::said::{ShownAddresses, ShownBytes, ShownFill};
 use crate::together::fmt_relations;
+use gb_domain::values::interval_of;
+use gb_domain::{Fill, StridedInterval};
+use gb_ops::machine::Kind;
 use gb_ops::op::Register;
-use gb_verify::{ImeSet, KeptBanks, May, Origin, Relations, Val};
+use gb_verify::{Bounds, ImeSet, KeptBanks, May, Origin, Relations, Val};
 use std::fmt;
 
 /// A part of a state.
@@ -31,8 +34,10 @@ pub enum StatePart {
     Test,
     /// What is known of several parts together, if it isn't a test of A alone.
     Together,
-    /// What is said of the whole program.
-    Program,
+    /// A byte of a fact, by the fact's number and the byte's address.
+    InFact(u16, u16),
+    /// A byte of a fill, by its address.
+    InFill(Fill, u16),
     /// How many words are on the stack, by the rules of versions 1 and 2.
     Words,
     /// The high byte of a word, counted from 1, the oldest first.
@@ -47,13 +52,39 @@ pub enum StatePart {
     Cell(u16),
 }
 
+/// What of the mapped bank a register of the controller has.
+#[derive(Clone, Copy)]
+pub enum BankPart {
+    /// The whole number, or of MBC5 its low eight bits.
+    Bank,
+    /// MBC5's bit 8.
+    HighBit,
+    SecondRegister,
+}
+
+/// What of the mapped bank a register of the first or of the second window has.
+pub(crate) fn bank_part(kind: Kind, is_second: bool) -> BankPart {
+    match (kind, is_second) {
+        (_, false) => BankPart::Bank,
+        (Kind::Mbc5, true) => BankPart::HighBit,
+        (_, true) => BankPart::SecondRegister,
+    }
+}
+
 /// What is known of a part.
 #[derive(Clone, Copy)]
 pub enum KnownPart {
-    /// The least and the greatest byte.
-    Bytes(u8, u8),
+    Bytes(StridedInterval),
     /// A value, with what it is a copy of.
     Copy(Val),
+    /// A value that is a copy of the byte that was at an address at entry.
+    CopyOf(Val, u16),
+    /// It holds this of the mapped bank.
+    Bank(BankPart),
+    /// It isn't known to hold this of the mapped bank.
+    NotBank(BankPart),
+    /// Where SP points while the stack is put aside, if it is.
+    Aside(Option<Bounds>),
     Flag(May),
     Gate(May),
     Ime(ImeSet),
@@ -67,7 +98,6 @@ pub enum KnownPart {
     Set(bool),
     Test(Option<u8>),
     Together(Relations),
-    Summary(ShownSummary),
 }
 
 /// A part of a state that another doesn't cover. What is left there is the first state's, what is claimed the other's.
@@ -76,6 +106,41 @@ pub struct StateDifference {
     pub part: StatePart,
     pub left: KnownPart,
     pub claimed: KnownPart,
+}
+
+/// How to have a byte in the bounds of a fact or a fill.
+const BYTE_UNBOUNDED: &str =
+    "Write the byte on every path to here, and bound it first: `and $07`, or `cp 8` / `ret nc`. By hand, widen the fact or the fill, or claim less here.";
+
+/// How to leave the mapped bank and its variable right.
+const BANK_LOST: &str =
+    "Wherever you map a bank, write the variable first, then $2000, and before you return, map the old bank again. By hand, claim less here.";
+
+/// How to leave a byte as it was.
+const BYTE_CHANGED: &str =
+    "Save the byte first, and write it back before the return: `ldh a, [hBank]` / `push af`, at the end `pop af` / `ldh [hBank], a`.";
+
+/// Whether some of the controller's registers are kept, but not the bank that is claimed to be.
+fn is_bank_lost(left: KeptBanks, claimed: KeptBanks) -> bool {
+    let is_low_lost = claimed.bank && !left.bank;
+    let is_high_lost = claimed.high_bank && !left.high_bank;
+    left.is_some() && (is_low_lost || is_high_lost)
+}
+
+impl StateDifference {
+    /// How to fix what only certificates of version 4 claim.
+    pub(crate) fn remedy(&self) -> Option<&'static str> {
+        match (self.left, self.claimed) {
+            (_, KnownPart::CopyOf(_, _)) => Some(BYTE_CHANGED),
+            (_, KnownPart::Bank(_)) => Some(BANK_LOST),
+            (KnownPart::Controller(left), KnownPart::Controller(claimed))
+                if is_bank_lost(left, claimed) => { Some(BANK_LOST) }
+            _ if matches!(self.part, StatePart::InFact(_, _) | StatePart::InFill(_, _)) => {
+                Some(BYTE_UNBOUNDED)
+            }
+            _ => None,
+        }
+    }
 }
 
 /// What a value is a copy of; of what has a number the words before it.
@@ -128,7 +193,7 @@ impl StatePart {
             StatePart::Stack => "SP",
             StatePart::Test => "A compared with",
             StatePart::Together => "known together",
-            StatePart::Program => "said of the whole program",
+            StatePart::InFact(_, _) | StatePart::InFill(_, _) => "byte",
             StatePart::Words => "words on the stack",
             StatePart::HighByte(_) => "high byte of word",
             StatePart::LowByte(_) => "low byte of word",
@@ -147,6 +212,12 @@ impl fmt::Display for StatePart {
                 write!(f, "{name} {number}")
             }
             StatePart::Cell(address) => write!(f, "{name} ${address:04X}"),
+            StatePart::InFact(fact, address) => {
+                write!(f, "{name} ${address:04X} of fact {fact}")
+            }
+            StatePart::InFill(fill, address) => {
+                write!(f, "{name} ${address:04X} of the fill {}", ShownFill(fill))
+            }
             _ => write!(f, "{name}"),
         }
     }
@@ -183,11 +254,34 @@ fn ime_text(ime: ImeSet) -> &'static str {
     }
 }
 
-fn fmt_bytes<W: fmt::Write>(lo: u8, hi: u8, f: &mut fmt::Formatter<W>) -> fmt::Result {
-    if lo == hi {
-        write!(f, "${lo:02X}")
-    } else {
-        write!(f, "${lo:02X}..${hi:02X}")
+fn set_text(is_set: bool) -> &'static str {
+    if is_set { "set" } else { "not set" }
+}
+
+fn kept_text(is_kept: bool) -> &'static str {
+    if is_kept { "kept" } else { "not kept" }
+}
+
+pub(crate) fn bank_text(bank: BankPart) -> &'static str {
+    match bank {
+        BankPart::Bank => "the mapped bank",
+        BankPart::HighBit => "bit 8 of the mapped bank",
+        BankPart::SecondRegister => "the second bank register",
+    }
+}
+
+/// Bytes, and what they are copies of.
+fn fmt_copy<W: fmt::Write>(val: Val, f: &mut fmt::Formatter<W>) -> fmt::Result {
+    let bytes = ShownBytes(interval_of(val));
+    write!(f, "{bytes} (")?;
+    fmt_origin(val.origin, f)?;
+    write!(f, ")")
+}
+
+fn fmt_aside<W: fmt::Write>(aside: Option<Bounds>, f: &mut fmt::Formatter<W>) -> fmt::Result {
+    match aside {
+        None => write!(f, "on the stack"),
+        Some(Bounds { first, last }) => { write!(f, "aside at {}", ShownAddresses { first, last }) }
     }
 }
 
@@ -199,59 +293,68 @@ fn fmt_banks<W: fmt::Write>(lo: u16, hi: u16, f: &mut fmt::Formatter<W>) -> fmt:
     }
 }
 
-/// Prints a register that is kept after this text, and answers what separates it from the next one.
-fn fmt_kept_part<W: fmt::Write>(
+/// Prints a register that isn't kept after this text, and answers what separates it from the next one.
+fn fmt_lost_part<W: fmt::Write>(
     is_kept: bool,
     before: &'static str,
     name: &str,
     f: &mut fmt::Formatter<W>,
 ) -> Result<&'static str, fmt::Error> {
-    if !is_kept {
+    if is_kept {
         return Ok(before);
     }
     write!(f, "{before}{name}")?;
     Ok(", ")
 }
 
-/// Which of the controller's registers are kept, by name where it's some of them.
+/// Whether the controller's registers are kept, and those that aren't by name where it's some of them.
 fn fmt_kept<W: fmt::Write>(kept: KeptBanks, f: &mut fmt::Formatter<W>) -> fmt::Result {
-    if kept.are_all() {
-        return write!(f, "kept");
-    }
     if !kept.is_some() {
         return write!(f, "not kept");
     }
-    write!(f, "kept in part: ")?;
-    let before = fmt_kept_part(kept.bank, "", StatePart::Bank.name(), f)?;
-    let before = fmt_kept_part(kept.high_bank, before, "bank bit 8", f)?;
-    let before = fmt_kept_part(kept.second, before, StatePart::Second.name(), f)?;
-    let before = fmt_kept_part(kept.gate, before, StatePart::Gate.name(), f)?;
-    fmt_kept_part(kept.mode, before, StatePart::Mode.name(), f)?;
+    write!(f, "kept")?;
+    let before = fmt_lost_part(kept.bank, " except ", StatePart::Bank.name(), f)?;
+    let before = fmt_lost_part(kept.high_bank, before, "bank bit 8", f)?;
+    let before = fmt_lost_part(kept.second, before, StatePart::Second.name(), f)?;
+    let before = fmt_lost_part(kept.gate, before, StatePart::Gate.name(), f)?;
+    fmt_lost_part(kept.mode, before, StatePart::Mode.name(), f)?;
     Ok(())
+}
+
+/// What is known, where it is one of some words.
+fn known_text(known: &KnownPart) -> Option<&'static str> {
+    match *known {
+        KnownPart::Flag(flag) => Some(flag_text(flag)),
+        KnownPart::Gate(gate) => Some(gate_text(gate)),
+        KnownPart::Ime(ime) => Some(ime_text(ime)),
+        KnownPart::Kept(is_kept) => Some(kept_text(is_kept)),
+        KnownPart::Set(is_set) => Some(set_text(is_set)),
+        KnownPart::Test(None) => Some("none"),
+        KnownPart::Bank(bank) => Some(bank_text(bank)),
+        _ => None,
+    }
 }
 
 impl fmt::Display for KnownPart {
     fn fmt<W: fmt::Write>(&self, f: &mut fmt::Formatter<W>) -> fmt::Result {
+        if let Some(text) = known_text(self) {
+            return write!(f, "{text}");
+        }
         match *self {
-            KnownPart::Bytes(lo, hi) => fmt_bytes(lo, hi, f),
-            KnownPart::Copy(val) => {
-                fmt_bytes(val.lo, val.hi, f)?;
-                write!(f, " (")?;
-                fmt_origin(val.origin, f)?;
-                write!(f, ")")
+            KnownPart::Bytes(bytes) => write!(f, "{}", ShownBytes(bytes)),
+            KnownPart::Copy(val) => fmt_copy(val, f),
+            KnownPart::CopyOf(val, address) => {
+                let bytes = ShownBytes(interval_of(val));
+                write!(f, "{bytes} (byte ${address:04X} at entry)")
             }
-            KnownPart::Flag(flag) => write!(f, "{}", flag_text(flag)),
-            KnownPart::Gate(gate) => write!(f, "{}", gate_text(gate)),
-            KnownPart::Ime(ime) => write!(f, "{}", ime_text(ime)),
+            KnownPart::NotBank(bank) => write!(f, "not known to be {}", bank_text(bank)),
+            KnownPart::Aside(aside) => fmt_aside(aside, f),
             KnownPart::Count(count) => write!(f, "{count}"),
             KnownPart::Banks(lo, hi) => fmt_banks(lo, hi, f),
-            KnownPart::Kept(is_kept) => write!(f, "{}", if is_kept { "kept" } else { "not kept" }),
             KnownPart::Controller(kept) => fmt_kept(kept, f),
-            KnownPart::Set(is_set) => write!(f, "{}", if is_set { "set" } else { "not set" }),
-            KnownPart::Test(None) => write!(f, "none"),
             KnownPart::Test(Some(value)) => write!(f, "${value:02X}"),
             KnownPart::Together(relations) => fmt_relations(&relations, f),
-            KnownPart::Summary(said) => write!(f, "{said}"),
+            _ => Ok(()),
         }
     }
 }

@@ -8,14 +8,16 @@ ghost use Rattle.gb_verify.specs.Below.gb_product.Below.gb_summaries.Covering.{c
 ghost use Rattle.gb_explain.specs.Noted.{IsNoted};
 
 use crate::difference::{KnownPart, StateDifference, StatePart};
-use crate::said::ShownSummary;
-use crate::together::{compared, is_test_alone};
+use crate::together::{compared, compared_with, is_test_alone};
+use crate::unshown::{Unshown, unshown_of};
+use gb_domain::interval::bounds;
+use gb_domain::values::interval_of;
 use gb_ops::machine::Kind;
 use gb_ops::op::Register;
 use gb_ops::registers::Registers;
 use gb_verify::{
-    Abs, Cell, Core, Ctl, Flg, KeptBanks, May, Program, Relations, Rules, States, Val, byte_of,
-    covers_ime, covers_may, covers_origin, covers_relations, covers_said, covers_val,
+    Abs, Cell, Core, Ctl, Flg, KeptBanks, May, Origin, Program, Relations, Rules, States, Val,
+    byte_of, covers_ime, covers_may, covers_origin, covers_relations, covers_said, covers_val,
 };
 
 /// The parts of a state that another doesn't cover, the first of them with what is known.
@@ -27,10 +29,13 @@ pub struct Differences {
     pub count: u32,
 }
 
-/// What is shown of two values: their bounds, and what they are copies of where that differs.
+/// What is shown of two values: their bytes, and what they are copies of where that differs.
 fn known_vals(s: &Val, t: &Val) -> (KnownPart, KnownPart) {
     if covers_origin(s.origin, t.origin) {
-        (KnownPart::Bytes(s.lo, s.hi), KnownPart::Bytes(t.lo, t.hi))
+        (
+            KnownPart::Bytes(interval_of(*s)),
+            KnownPart::Bytes(interval_of(*t)),
+        )
     } else {
         (KnownPart::Copy(*s), KnownPart::Copy(*t))
     }
@@ -44,7 +49,10 @@ fn known_together(s: &Relations, t: &Relations) -> (StatePart, (KnownPart, Known
     } else {
         (
             StatePart::Together,
-            (KnownPart::Together(*s), KnownPart::Together(*t)),
+            (
+                KnownPart::Together(compared_with(s, t)),
+                KnownPart::Together(*t),
+            ),
         )
     }
 }
@@ -104,6 +112,20 @@ fn is_kept_as_claimed(left: KeptBanks, claimed: KeptBanks) -> bool
         && (!claimed.high_bank || left.high_bank)
 }
 
+/// What is known of a part, by the address where it is a copy of a byte that a procedure keeps.
+fn with_kept(known: KnownPart, kept: &[u16]) -> KnownPart {
+    let KnownPart::Copy(val) = known else {
+        return known;
+    };
+    let Some(Origin::Kept(number)) = val.origin else {
+        return known;
+    };
+    match kept.get(usize::from(number)) {
+        None => known,
+        Some(address) => KnownPart::CopyOf(val, *address),
+    }
+}
+
 impl Differences {
     /// No parts.
     pub fn none() -> Differences
@@ -118,6 +140,43 @@ impl Differences {
     /// How many parts there are besides the first ones.
     pub fn more(&self) -> u32 {
         self.count.saturating_sub(self.first.len() as u32)
+    }
+
+    /// The same, with the addresses of copies of bytes that a procedure keeps.
+    pub(crate) fn with_kept(self, kept: &[u16]) -> Differences {
+        let mut named = self;
+        for told in &mut named.first {
+            if let Some(difference) = told {
+                difference.left = with_kept(difference.left, kept);
+                difference.claimed = with_kept(difference.claimed, kept);
+            }
+        }
+        named
+    }
+
+    /// The fact of which a byte is among the first parts, if there is one.
+    pub(crate) fn unshown_fact(&self) -> Option<u16> {
+        for told in &self.first {
+            if let Some(difference) = told {
+                if let StatePart::InFact(number, _) = difference.part {
+                    return Some(number);
+                }
+            }
+        }
+        None
+    }
+
+    /// How to fix the first of these parts that only certificates of version 4 claim.
+    pub(crate) fn remedy(&self) -> Option<&'static str> {
+        for told in &self.first {
+            if let Some(difference) = told {
+                let remedy = difference.remedy();
+                if remedy.is_some() {
+                    return remedy;
+                }
+            }
+        }
+        None
     }
 
     /// A part is one of them, unless it is covered.
@@ -197,8 +256,8 @@ impl Differences {
         self.note(is_bank, StatePart::Bank, banks);
         let is_second = t.second_lo <= s.second_lo && s.second_hi <= t.second_hi;
         let seconds = (
-            KnownPart::Bytes(s.second_lo, s.second_hi),
-            KnownPart::Bytes(t.second_lo, t.second_hi),
+            KnownPart::Bytes(bounds(s.second_lo, s.second_hi)),
+            KnownPart::Bytes(bounds(t.second_lo, t.second_hi)),
         );
         self.note(is_second, StatePart::Second, seconds);
         let gates = (KnownPart::Gate(s.gate), KnownPart::Gate(t.gate));
@@ -242,16 +301,33 @@ impl Differences {
         self.note(covers_relations(registers, s, t), part, known);
     }
 
+    /// A part is one of them, unless there is none.
+    fn note_found(&mut self, found: Option<StateDifference>)
+        ensures { IsNoted self.old.count self.new.count true }
+    {
+        if let Some(
+            StateDifference {
+                part,
+                left,
+                claimed,
+            },
+        ) = found
+        {
+            self.note(false, part, (left, claimed));
+        }
+    }
+
     /// What is said of the whole program.
     fn note_summary(&mut self, program: &Program<'_>, states: &States<'_>, t: &Abs)
         ensures { IsNoted self.old.count self.new.count (covers_summary program.now (values_of states.now.core.now.registers states.now.relations.now.pairs) states.now.core.now.ctl states.now.lists.now.cells states.now.summary.now t.now.cells t.now.summary) }
     {
-        let known = (
-            KnownPart::Summary(ShownSummary::of(states.summary)),
-            KnownPart::Summary(ShownSummary::of(t.summary())),
-        );
-        let is_covered = covers_said(program, states, t.cells(), t.summary());
-        self.note(is_covered, StatePart::Program, known);
+        if covers_said(program, states, t.cells(), t.summary()) {
+            return;
+        }
+        let Unshown { first, others } = unshown_of(program, states, t);
+        self.note(false, first.part, (first.left, first.claimed));
+        self.note_found(others[0]);
+        self.note_found(others[1]);
     }
 
     /// Bytes of both, from that with a number on.

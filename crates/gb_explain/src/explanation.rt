@@ -76,10 +76,20 @@ fn fmt_gaps<W: fmt::Write>(gaps: Option<Gaps>, f: &mut fmt::Formatter<W>) -> fmt
     }
 }
 
+/// How to fix what the certificate lacks, or else what the reason is about.
+fn remedy_of(explanation: &Explanation) -> &'static str {
+    if let Some(gaps) = &explanation.gaps {
+        if let Some(remedy) = gaps.remedy() {
+            return remedy;
+        }
+    }
+    advice_on(explanation.reason).remedy
+}
+
 impl fmt::Display for Explanation {
     fn fmt<W: fmt::Write>(&self, f: &mut fmt::Formatter<W>) -> fmt::Result {
-        let advice = advice_on(self.reason);
-        let (remedy, anchor) = (advice.remedy, advice.anchor);
+        let remedy = remedy_of(self);
+        let anchor = advice_on(self.reason).anchor;
         let rule = self.reason.number();
         fmt_node(self, f)?;
         fmt_gaps(self.gaps, f)?;

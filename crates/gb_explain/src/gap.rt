@@ -1,6 +1,6 @@
 //! What a certificate lacks, where a reason has to do with the stack, with other nodes, with procedures or with interrupts.
 
-use crate::Differences;
+use crate::{BrokenFact, Differences};
 use gb_verify::{Halves, Range, Rules};
 
 /// How much is on the stack: words by the rules of versions 1 and 2, bytes by those of version 3.
@@ -153,6 +153,8 @@ pub struct Gaps {
     pub first: Gap,
     /// What is missing besides, where one of the two would do.
     pub second: Option<Gap>,
+    /// The fact that the instruction's store breaks, where it is claimed to hold.
+    pub broken: Option<BrokenFact>,
 }
 
 impl Amount {
@@ -188,7 +190,24 @@ impl Gaps {
             interrupt: None,
             first,
             second: None,
+            broken: None,
         }
+    }
+
+    /// The parts that differ, if states are compared.
+    fn differences(&self) -> Option<Differences> {
+        let (_, differences) = self.first.compared?;
+        Some(differences)
+    }
+
+    /// The first fact that the nearest state claims and that isn't shown.
+    pub(crate) fn unshown_fact(&self) -> Option<u16> {
+        self.differences()?.unshown_fact()
+    }
+
+    /// How to fix what version 4 of certificates claims besides, where that is what isn't shown.
+    pub(crate) fn remedy(&self) -> Option<&'static str> {
+        self.differences()?.remedy()
     }
 
     /// A gap without compared states.

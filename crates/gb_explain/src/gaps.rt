@@ -1,5 +1,6 @@
 //! Finds what a certificate lacks for a node.
 
+use crate::broken::broken_fact;
 use crate::calls::{called_gaps, callee_gaps};
 use crate::covering::way_gaps;
 use crate::depth::{call_gaps, moved_gaps};
@@ -85,6 +86,17 @@ fn successors_gaps(
     successor_gaps(program, cert, procedure, reason, state, &ways.stays)
 }
 
+/// What is missing where a node goes on, with the fact that its store breaks, if that isn't shown.
+fn stored_gaps(program: &Program<'_>, ways: &Successors<'_>, gaps: Gaps) -> Gaps {
+    match gaps.unshown_fact() {
+        None => gaps,
+        Some(number) => Gaps {
+            broken: broken_fact(program, number, &ways.taken),
+            ..gaps
+        },
+    }
+}
+
 /// What makes the stack too deep: the instruction itself, what it calls, or an interrupt's dispatch.
 fn depth_gaps(
     program: &Program<'_>,
@@ -126,6 +138,9 @@ pub fn gaps_of(rom: &Rom<'_>, cert: &Cert<'_>, node: &NodeRef<'_>, reason: Reaso
     match reason {
         Reason::Depth => depth_gaps(program, cert, node, &state, row, &ways),
         Reason::Interrupt => interrupt_gaps(program, cert, node, reason, &state),
-        _ => successors_gaps(program, cert, procedure, reason, &state, &ways),
+        _ => {
+            let gaps = successors_gaps(program, cert, procedure, reason, &state, &ways)?;
+            Some(stored_gaps(program, &ways, gaps))
+        }
     }
 }

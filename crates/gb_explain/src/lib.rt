@@ -2,12 +2,14 @@
 //! fix that, and, where other nodes or procedures have to do with it, what the certificate lacks there.
 //!
 //! Read `refusal`, then `explanation`, and `gaps`, which finds what the certificate lacks, with `depth`, `covering`, `calls`,
-//! `returns` and `interrupts`; `differences` has the parts of a state that another state doesn't cover. `advice` has the texts of
-//! all findings, those of gb_reports too, `reasons` which of them each reason gets, `told`, `difference`, `together` and `said` the
-//! texts of gaps. Of the texts nothing is promised but by tests.
+//! `returns` and `interrupts`; `differences` has the parts of a state that another state doesn't cover, `unshown` those that are about
+//! the whole program, and `broken` which fact a store breaks. `advice` has the texts of all findings, those of gb_reports too, `reasons`
+//! which of them each reason gets, `told`, `difference`, `together` and `said` the texts of gaps. Of the texts nothing is promised
+//! but by tests.
 #![tactic(auto)]
 
 pub mod advice;
+mod broken;
 mod calls;
 mod code;
 mod covering;
@@ -24,17 +26,19 @@ mod returns;
 mod said;
 mod together;
 mod told;
+mod unshown;
 
 pub use advice::Advice;
+pub use broken::BrokenFact;
 pub use code::Code;
-pub use difference::{KnownPart, StateDifference, StatePart};
+pub use difference::{BankPart, KnownPart, StateDifference, StatePart};
 pub use differences::Differences;
 pub use explanation::Explanation;
 pub use gap::{
     After, Amount, Claim, Gap, GapKind, Gaps, GoesOn, TooDeep, Uncallable, Uncovered, Unreturnable,
 };
 pub use refusal::explain;
-pub use said::ShownSummary;
+pub use said::{ShownAddresses, ShownBytes, ShownFact, ShownFill, ShownSummary, step_text};
 
 // What lies below, for the crates above.
 pub use gb_spelling::{

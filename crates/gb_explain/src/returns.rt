@@ -3,7 +3,8 @@
 use crate::Differences;
 use crate::gap::{Amount, Claim, Gap, GapKind, Gaps, Unreturnable};
 use gb_verify::{
-    Abs, Cert, Halves, Program, Rules, Setting, Successor, Target, covers, exit_of, setting_of,
+    Abs, Cert, Halves, Program, Rules, Setting, Successor, Target, covers, exit_of, kept_of,
+    setting_of,
 };
 
 fn plain(unreturnable: Unreturnable) -> Gaps {
@@ -13,11 +14,12 @@ fn plain(unreturnable: Unreturnable) -> Gaps {
 /// What is missing of an exit. By the rules of versions 1 and 2 nothing may be held then.
 fn exit_gaps(
     program: &Program<'_>,
-    rules: Rules,
+    cert: &Cert<'_>,
     procedure: u16,
     state: &Abs,
     exit: &Abs,
 ) -> Option<Gaps> {
+    let rules = setting_of(cert, procedure).rules;
     let held = state.items().len();
     if rules == Rules::Simple && held != 0 {
         return Some(plain(Unreturnable::Held {
@@ -27,9 +29,11 @@ fn exit_gaps(
     if covers(program, state, exit) {
         return None;
     }
+    let kept = kept_of(cert, procedure);
+    let differences = Differences::of(program, rules, state, exit).with_kept(kept.as_slice());
     Some(Gaps::of(Gap {
         kind: GapKind::Unreturnable(Unreturnable::Exit { procedure }),
-        compared: Some((Claim::Exit, Differences::of(program, rules, state, exit))),
+        compared: Some((Claim::Exit, differences)),
     }))
 }
 
@@ -46,7 +50,7 @@ fn back_gaps(
     }
     match exit_of(cert, procedure) {
         None => Some(plain(Unreturnable::NoExit { procedure })),
-        Some(exit) => exit_gaps(program, setting.rules, procedure, &successor.state(), &exit),
+        Some(exit) => exit_gaps(program, cert, procedure, &successor.state(), &exit),
     }
 }
 

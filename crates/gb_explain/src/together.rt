@@ -2,7 +2,7 @@
 
 use gb_ops::op::Register;
 use gb_ops::registers::Registers;
-use gb_verify::{Link, OneByte, Other, PairFacts, Relations, Test, WordPair};
+use gb_verify::{Bounds, Link, OneByte, Other, PairFacts, Pairs, Relations, Test, WordPair};
 use std::fmt;
 
 /// All registers.
@@ -17,7 +17,7 @@ pub(crate) const REGISTERS: [Register; 7] = [
 ];
 
 /// What separates two facts.
-const BETWEEN: &str = "; ";
+pub(crate) const BETWEEN: &str = "; ";
 
 /// What the flags' test compares a byte with, if it compares.
 pub(crate) fn compared(relations: &Relations) -> Option<u8> {
@@ -57,6 +57,23 @@ pub(crate) fn is_test_alone(relations: &Relations) -> bool {
         && !is_known(&pairs.bc)
         && !is_known(&pairs.de)
         && !is_known(&pairs.hl)
+}
+
+/// What is known of a pair, if the other state knows something of it.
+fn known_as(facts: PairFacts, other: &PairFacts) -> PairFacts {
+    if is_known(other) { facts } else { *other }
+}
+
+/// What is known together, without the pairs of which the other state knows nothing.
+pub(crate) fn compared_with(relations: &Relations, other: &Relations) -> Relations {
+    Relations {
+        pairs: Pairs {
+            bc: known_as(relations.pairs.bc, &other.pairs.bc),
+            de: known_as(relations.pairs.de, &other.pairs.de),
+            hl: known_as(relations.pairs.hl, &other.pairs.hl),
+        },
+        ..*relations
+    }
 }
 
 fn pair_name(pair: WordPair) -> &'static str {
@@ -107,6 +124,15 @@ fn fmt_link<W: fmt::Write>(pair: &str, link: Link, f: &mut fmt::Formatter<W>) ->
     write!(f, "{pair} + ${factor:04X} * {other} = ${sum:04X}")
 }
 
+fn fmt_bounds<W: fmt::Write>(bounds: Bounds, f: &mut fmt::Formatter<W>) -> fmt::Result {
+    let Bounds { first, last } = bounds;
+    write!(f, "${first:04X}")?;
+    if first != last {
+        write!(f, "..${last:04X}")?;
+    }
+    Ok(())
+}
+
 /// Prints what is known of a pair after this text, and answers what separates it from the next fact.
 fn fmt_pair<W: fmt::Write>(
     before: &'static str,
@@ -118,11 +144,8 @@ fn fmt_pair<W: fmt::Write>(
     let PairFacts { bounds, link } = *facts;
     let mut before = before;
     if is_bounded(facts) {
-        write!(
-            f,
-            "{before}{pair} ${:04X}..${:04X}",
-            bounds.first, bounds.last
-        )?;
+        write!(f, "{before}{pair} ")?;
+        fmt_bounds(bounds, f)?;
         before = BETWEEN;
     }
     if let Some(link) = link {

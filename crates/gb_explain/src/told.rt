@@ -289,6 +289,9 @@ impl fmt::Display for Gaps {
             write!(f, "  {name} can fire here:\n")?;
         }
         write!(f, "{}", self.first)?;
+        if let Some(broken) = self.broken {
+            write!(f, "\n{broken}")?;
+        }
         match &self.second {
             None => Ok(()),
             Some(second) => write!(f, "\n{second}"),

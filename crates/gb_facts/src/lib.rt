@@ -29,6 +29,6 @@ pub use target::target_of;
 
 // What lies below, for the crates above.
 pub use gb_explain::{
-    AFTER_VECTORS, Advice, Cert, Code, Explanation, INTERRUPT_COUNT, PADDING, Rom, Verdict, advice,
-    explain, interrupt_at, interrupt_name,
+    AFTER_VECTORS, Advice, Cert, Code, Explanation, INTERRUPT_COUNT, KnownPart, PADDING, Rom,
+    ShownFact, ShownSummary, Verdict, advice, explain, interrupt_at, interrupt_name, step_text,
 };

@@ -3,7 +3,8 @@
 use crate::names::{Address, SymbolAt};
 use crate::page::Page;
 use gb_reports::{
-    Abs, Cell, Code, NodeRef, ShownCell, ShownFlags, ShownRegisters, fmt_core, target_of,
+    Abs, Cell, Code, NodeRef, Rom, ShownCell, ShownFlags, ShownRegisters, ShownSummary, fmt_core,
+    target_of,
 };
 use std::fmt;
 
@@ -31,8 +32,18 @@ fn fmt_cells<W: fmt::Write>(cells: &[Cell], f: &mut fmt::Formatter<W>) -> fmt::R
     Ok(())
 }
 
+/// What a state claims for the whole program, if that is something.
+fn fmt_claims<W: fmt::Write>(rom: &Rom<'_>, state: &Abs, f: &mut fmt::Formatter<W>) -> fmt::Result {
+    let summary = state.summary();
+    if summary.is_silent() {
+        return Ok(());
+    }
+    let kind = rom.kind();
+    write!(f, "; {}", ShownSummary { kind, summary })
+}
+
 /// What is known at a node.
-fn fmt_state<W: fmt::Write>(state: &Abs, f: &mut fmt::Formatter<W>) -> fmt::Result {
+fn fmt_state<W: fmt::Write>(rom: &Rom<'_>, state: &Abs, f: &mut fmt::Formatter<W>) -> fmt::Result {
     let registers = ShownRegisters(state);
     let flags = ShownFlags(state.core().flags);
     let held = state.items().len();
@@ -43,6 +54,7 @@ fn fmt_state<W: fmt::Write>(state: &Abs, f: &mut fmt::Formatter<W>) -> fmt::Resu
         write!(f, ";")?;
         fmt_cells(state.cells(), f)?;
     }
+    fmt_claims(rom, state, f)?;
     write!(f, "</span></div>\n")
 }
 
@@ -71,5 +83,5 @@ pub fn fmt_node<W: fmt::Write>(
     )?;
     fmt_code(page, &node, &state, f)?;
     write!(f, "</span>")?;
-    fmt_state(&state, f)
+    fmt_state(page.rom, &state, f)
 }

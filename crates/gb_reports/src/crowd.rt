@@ -2,7 +2,6 @@
 
 use crate::path::node_at;
 use gb_fixpoint::code_point::CodePoint;
-use gb_fixpoint::limits::PROCEDURES;
 use gb_fixpoint::register_set::REGISTERS;
 use gb_fixpoint::types::{Run, RunNode};
 use gb_fixpoint::{Val, cell_at};
@@ -132,7 +131,7 @@ fn limit_of(run: &Run<'_>) -> ReachedLimit {
     let most = run.configuration.limit;
     if run.nodes.len() > most {
         ReachedLimit::Nodes(most)
-    } else if run.procedures.len() >= PROCEDURES {
+    } else if run.procedures.len() >= run.configuration.edition.procedures() {
         ReachedLimit::Procedures
     } else {
         ReachedLimit::Steps

@@ -43,8 +43,9 @@ pub use steps_back::MappedBanks;
 // What lies below, for the crates above.
 pub use gb_facts::{
     AFTER_VECTORS, Bound, CallLink, Code, CodeRun, Difference, EnteredBy, Exit, Explanation, Facts,
-    INTERRUPTS, Interrupt, Key, Keyed, Outline, Peak, ProcedureFacts, Side, Sketch, StackStep,
-    differences, explain, interrupt_at, is_same_way, length_at, steps_from, target_of, way_from,
+    INTERRUPTS, Interrupt, Key, Keyed, Outline, Peak, ProcedureFacts, ShownSummary, Side, Sketch,
+    StackStep, differences, explain, interrupt_at, is_same_way, length_at, steps_from, target_of,
+    way_from,
 };
 pub use gb_fixpoint::code_point::CodePoint;
 pub use gb_fixpoint::{Abs, Cell, Cert, NodeRef, Range, Rom, Verdict, known_bank};

@@ -3,9 +3,10 @@
 
 use crate::Symbols;
 use crate::state::{ShownCell, ShownFlags, ShownRegisters, fmt_core};
-use gb_facts::Code;
+use gb_facts::{Code, KnownPart, ShownFact, ShownSummary};
 use gb_fixpoint::{Abs, Cell, Cert, NodeRef, Range, Rom};
-use gb_symbols::ListedAddress;
+use gb_ops::machine::Kind;
+use gb_symbols::{ListedAddress, ShownAddress};
 use std::fmt;
 
 /// A certificate with its cartridge, and symbols.
@@ -29,6 +30,36 @@ fn fmt_ranges<W: fmt::Write>(ranges: &[Range], f: &mut fmt::Formatter<W>) -> fmt
     write!(f, "\n")
 }
 
+/// The bytes that a procedure leaves as it found them, in a line.
+fn fmt_kept<W: fmt::Write>(
+    symbols: &Symbols<'_>,
+    kept: &[u16],
+    f: &mut fmt::Formatter<W>,
+) -> fmt::Result {
+    if kept.is_empty() {
+        return Ok(());
+    }
+    let mut before = "    keeps ";
+    for address in kept {
+        let place = ShownAddress {
+            symbols,
+            bank: None,
+            address: *address,
+        };
+        write!(f, "{before}{place}")?;
+        before = ", ";
+    }
+    write!(f, "\n")
+}
+
+/// How many bytes below its base a procedure puts the stack aside, in a line.
+fn fmt_mark<W: fmt::Write>(mark: u8, f: &mut fmt::Formatter<W>) -> fmt::Result {
+    match mark {
+        0 => Ok(()),
+        _ => write!(f, "    puts the stack aside {mark} bytes below its base\n"),
+    }
+}
+
 /// What a procedure says of itself.
 fn fmt_procedure<W: fmt::Write>(
     listing: &Listing<'_, '_, '_, '_>,
@@ -49,7 +80,9 @@ fn fmt_procedure<W: fmt::Write>(
         f,
         "\nprocedure {number}: {need} bytes of stack, {returns}, writes"
     )?;
-    fmt_ranges(procedure.ranges().as_slice(), f)
+    fmt_ranges(procedure.ranges().as_slice(), f)?;
+    fmt_kept(listing.symbols, procedure.kept().as_slice(), f)?;
+    fmt_mark(procedure.mark(), f)
 }
 
 /// A node's registers and flags.
@@ -74,17 +107,44 @@ fn fmt_cells<W: fmt::Write>(cells: &[Cell], f: &mut fmt::Formatter<W>) -> fmt::R
     Ok(())
 }
 
-/// A node's state in a line, and its cells in another one, if it has some.
-fn fmt_state<W: fmt::Write>(state: &Abs, f: &mut fmt::Formatter<W>) -> fmt::Result {
-    fmt_registers(state, f)?;
-    fmt_core(state.core(), f)?;
-    fmt_bytes(state, f)?;
+/// A state's cells in a line, if it has some.
+fn fmt_known_bytes<W: fmt::Write>(state: &Abs, f: &mut fmt::Formatter<W>) -> fmt::Result {
     if state.cells().is_empty() {
         return Ok(());
     }
     write!(f, "       ")?;
     fmt_cells(state.cells(), f)?;
     write!(f, "\n")
+}
+
+/// What a state claims for the whole program, in a line, if that is something.
+fn fmt_claims<W: fmt::Write>(kind: Kind, state: &Abs, f: &mut fmt::Formatter<W>) -> fmt::Result {
+    let summary = state.summary();
+    if summary.is_silent() {
+        return Ok(());
+    }
+    let shown = ShownSummary { kind, summary };
+    write!(f, "        {shown}\n")
+}
+
+/// Which of the controller's registers are kept, in a line, if it's some of them.
+fn fmt_kept_banks<W: fmt::Write>(state: &Abs, f: &mut fmt::Formatter<W>) -> fmt::Result {
+    let kept = state.core().ctl.kept;
+    if kept.are_all() || !kept.is_some() {
+        return Ok(());
+    }
+    let shown = KnownPart::Controller(kept);
+    write!(f, "        controller {shown}\n")
+}
+
+/// A node's state in a line, and what it knows besides in others, if that is something.
+fn fmt_state<W: fmt::Write>(kind: Kind, state: &Abs, f: &mut fmt::Formatter<W>) -> fmt::Result {
+    fmt_registers(state, f)?;
+    fmt_core(state.core(), f)?;
+    fmt_bytes(state, f)?;
+    fmt_known_bytes(state, f)?;
+    fmt_claims(kind, state, f)?;
+    fmt_kept_banks(state, f)
 }
 
 /// A node's place with the instruction there, and its state.
@@ -107,7 +167,7 @@ fn fmt_at<W: fmt::Write>(
         address,
     };
     write!(f, "    {place}  {code}\n")?;
-    fmt_state(state, f)
+    fmt_state(listing.rom.kind(), state, f)
 }
 
 /// The procedure, if it is a new one, and a node.
@@ -143,9 +203,26 @@ fn fmt_head<W: fmt::Write>(cert: &Cert<'_>, f: &mut fmt::Formatter<W>) -> fmt::R
     )
 }
 
+/// The facts, each in a line with the symbol of its first address, if that has one.
+fn fmt_facts<W: fmt::Write>(
+    listing: &Listing<'_, '_, '_, '_>,
+    f: &mut fmt::Formatter<W>,
+) -> fmt::Result {
+    for (number, fact) in listing.cert.facts().iter().enumerate() {
+        write!(f, "fact {number}: {}", ShownFact(*fact))?;
+        // RAM's symbols have bank 0.
+        if let Some(symbol) = listing.symbols.place(0, fact.first) {
+            write!(f, " ({symbol})")?;
+        }
+        write!(f, "\n")?;
+    }
+    Ok(())
+}
+
 impl fmt::Display for Listing<'_, '_, '_, '_> {
     fn fmt<W: fmt::Write>(&self, f: &mut fmt::Formatter<W>) -> fmt::Result {
         fmt_head(self.cert, f)?;
+        fmt_facts(self, f)?;
         let mut before = None;
         for number in 0..self.cert.nodes() {
             before = fmt_node(self, number, before, f)?;

@@ -1,5 +1,6 @@
 //! A state as a person reads it: registers, flags, banks, the stack and cells.
 
+use gb_facts::step_text;
 use gb_fixpoint::{Abs, Cell, Core, Ctl, Flg, ImeSet, May, Val};
 use std::fmt;
 
@@ -16,7 +17,8 @@ impl fmt::Display for ShownVal {
         } else if lo == 0 && hi == 255 {
             write!(f, "any")
         } else {
-            write!(f, "{lo:02X}..{hi:02X}")
+            let step = step_text(self.0.low_bits);
+            write!(f, "{lo:02X}..{hi:02X}{step}")
         }
     }
 }
