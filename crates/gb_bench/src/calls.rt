@@ -9,7 +9,7 @@ use gb_ops::registers::Registers;
 use std::alloc::{AllocError, Global};
 
 /// LD B,4; CALL 0008; DEC B; JR NZ to the CALL.
-const LOOP: [u8; 8] = [0x06, 0x04, 0xCD, 0x08, 0x00, 0x05, 0x20, 0xFA];
+pub(crate) const LOOP: [u8; 8] = [0x06, 0x04, 0xCD, 0x08, 0x00, 0x05, 0x20, 0xFA];
 
 /// Where its instructions stand in it.
 const INSTRUCTIONS: [u16; 4] = [0, 2, 5, 6];
@@ -26,7 +26,7 @@ const TIMES: u32 = 3;
 const MAINS: u32 = 2 + 4 * LOOPS as u32 + 1;
 
 /// Where the procedure that is called begins: INC A, and behind it RET.
-const CALLEE: u16 = 0x08;
+pub(crate) const CALLEE: u16 = 0x08;
 
 /// Any flag.
 const EITHER: May = May {
@@ -61,7 +61,7 @@ fn loop_at(number: u16) -> u16 {
 }
 
 /// Any value in each register and flag, the stack set.
-fn any_core(start: Core) -> Core {
+pub(crate) fn any_core(start: Core) -> Core {
     Core {
         registers: Registers {
             a: ANY,
@@ -85,7 +85,7 @@ fn any_core(start: Core) -> Core {
 }
 
 /// A byte of the return word.
-fn byte_of(origin: Origin) -> Val {
+pub(crate) fn byte_of(origin: Origin) -> Val {
     Val {
         origin: Some(origin),
         ..ANY
@@ -101,7 +101,7 @@ fn entered(core: Core) -> Abs {
 }
 
 /// Adds the same node so many times.
-fn push_times<'a>(
+pub(crate) fn push_times<'a>(
     times: u32,
     plan: NodePlan<'a>,
     nodes: &mut Vec<NodePlan<'a>>,

@@ -1,6 +1,6 @@
 //! Certificates of many nodes, each with the cartridge that it is for. In all of them each node is right. `Sample` names them.
 
-use crate::{calls, crowded};
+use crate::{calls, crowded, whole};
 use gb_cert::{CertificatePlan, NodePlan, ProcedurePlan, Version, WriteFault, write_certificate};
 use gb_domain::types::{Abs, Core, Val};
 use gb_ops::machine::Region;
@@ -266,6 +266,10 @@ pub enum Sample {
     StraightLineExtended,
     Calls,
     Crowded,
+    StraightLineWhole,
+    StraightLineUnderFew,
+    StraightLineUnderMany,
+    CallsWhole,
 }
 
 /// All of them, as they are measured.
@@ -277,6 +281,10 @@ pub const SAMPLES: &[Sample] = &[
     Sample::StraightLineExtended,
     Sample::Calls,
     Sample::Crowded,
+    Sample::StraightLineWhole,
+    Sample::StraightLineUnderFew,
+    Sample::StraightLineUnderMany,
+    Sample::CallsWhole,
 ];
 
 impl Sample {
@@ -291,15 +299,30 @@ impl Sample {
             Sample::Calls => "65,535 nodes of calls, returns and loops, version 3",
             Sample::Crowded =>
                 "2,516 nodes, 2,000 of them covered by 512 at one address, version 3",
+            Sample::StraightLineWhole => "65,535 nodes of straight-line code, version 4",
+            Sample::StraightLineUnderFew => {
+                "65,535 nodes of straight-line code under 64 facts, version 4"
+            }
+            Sample::StraightLineUnderMany => {
+                "65,535 nodes of straight-line code under 4,096 facts, version 4"
+            }
+            Sample::CallsWhole => {
+                "65,535 nodes of calls, returns and loops under 64 facts, two bytes kept, version 4"
+            }
         }
     }
 
     /// The cartridge.
     pub fn cartridge(self) -> [u8; 0x8000] {
         match self {
-            Sample::StraightLine | Sample::Procedures | Sample::StraightLineExtended => {
-                straight_line()
+            Sample::StraightLine
+            | Sample::Procedures
+            | Sample::StraightLineExtended
+            | Sample::StraightLineWhole => straight_line(),
+            Sample::StraightLineUnderFew | Sample::StraightLineUnderMany => {
+                whole::straight_cartridge()
             }
+            Sample::CallsWhole => whole::calling_cartridge(),
             Sample::OneAddress => loop_alone(),
             Sample::SingleValues => two_jumps(),
             Sample::Calls => calls::cartridge(),
@@ -315,6 +338,10 @@ impl Sample {
             Sample::StraightLineExtended => straight(alloc, Version::Three, start),
             Sample::Calls => calls::bytes(alloc, start),
             Sample::Crowded => crowded::bytes(alloc, start),
+            Sample::StraightLineWhole => straight(alloc, Version::Four, start),
+            Sample::StraightLineUnderFew => whole::straight(alloc, start, 64),
+            Sample::StraightLineUnderMany => whole::straight(alloc, start, 4_096),
+            Sample::CallsWhole => whole::calling(alloc, start),
             Sample::Procedures => procedures(alloc, start),
             Sample::OneAddress => one_address(alloc, start),
             Sample::SingleValues => single_values(alloc, start),

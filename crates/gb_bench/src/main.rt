@@ -2,7 +2,7 @@
 //! processor's steps; and frames of a full scene. The times go to standard error; what is printed on standard
 //! output is the same each time.
 //!
-//! Nothing is promised here. `processor.rt`, `picture.rt`, `certificates.rt`, `calls.rt` and `crowded.rt` have what is measured.
+//! Nothing is promised here. `processor.rt`, `picture.rt`, `certificates.rt`, `calls.rt`, `crowded.rt` and `whole.rt` have what is measured.
 #![tactic(auto)]
 
 mod calls;
@@ -11,6 +11,7 @@ mod crowded;
 mod picture;
 mod processor;
 mod shortcuts;
+mod whole;
 
 use certificates::Sample;
 use gb_verify::check::check;

@@ -1,8 +1,9 @@
 //! Cartridges and certificates that are changed at once: where the one still fits the other, the cartridge runs.
 
 use crate::cartridges::{FEW, runs};
-use crate::certificates::{ToldVerdict, agree_on_verdict, changed, is_third};
+use crate::certificates::{Aim, Certificates, ToldVerdict, agree_on_verdict, changed_by};
 use crate::random::Random;
+use crate::reached::{is_said, reached_states};
 use crate::tally::Tally;
 use gb_cert::Cert;
 use gb_header::Rom;
@@ -11,6 +12,9 @@ use std::io;
 
 /// How many bytes the code of the examples has, and some behind it.
 const CODE: usize = 0x18;
+
+/// How many states of a changed cartridge's console are compared with its certificate.
+const SEEN: usize = 24;
 
 /// Changes a byte of the code behind the header, or of the handlers, and tells where it stood and what it was.
 fn change_code(random: &mut Random, rom: &mut [u8]) -> (usize, u8) {
@@ -28,8 +32,22 @@ fn change_code(random: &mut Random, rom: &mut [u8]) -> (usize, u8) {
     }
 }
 
-/// What the verdict is on these bytes; a cartridge that is accepted runs. The reasons are those of version 3.
-fn judge(alloc: Global, random: &mut Random, file: &[u8], bytes: &[u8]) -> Tally {
+/// Whether a cartridge that is accepted runs, and the certificate says what its console reaches.
+fn runs_as_said(
+    alloc: Global,
+    random: &mut Random,
+    rom: &Rom<'_>,
+    bytes: &[u8],
+) -> io::Result<bool> {
+    if !runs(alloc, random, rom, FEW) {
+        return Ok(false);
+    }
+    let mut reached = reached_states(alloc, rom, SEEN)?;
+    Ok(is_said(alloc, reached.as_mut_slice(), bytes))
+}
+
+/// What the verdict is on these bytes; a cartridge that is accepted runs, each state as the certificate says.
+fn judge(alloc: Global, random: &mut Random, file: &[u8], bytes: &[u8]) -> io::Result<Tally> {
     let mut tally = Tally::new();
     let fault = Cert::parse(alloc, bytes).err();
     let is_right = match (
@@ -38,19 +56,17 @@ fn judge(alloc: Global, random: &mut Random, file: &[u8], bytes: &[u8]) -> Tally
     ) {
         (Ok(rom), Some(ToldVerdict::Accepted)) => {
             tally.count_accepted();
-            runs(alloc, random, &rom, FEW)
+            runs_as_said(alloc, random, &rom, bytes)?
         }
         (Ok(_), Some(ToldVerdict::Refused { reason })) => {
-            if is_third(bytes) {
-                tally.note_reason(reason);
-            }
+            tally.note_reason(reason);
             true
         }
         (Ok(_), Some(ToldVerdict::Unreadable)) => true,
         _ => false,
     };
     tally.count(is_right);
-    tally
+    Ok(tally)
 }
 
 /// Changes so many times a byte of the cartridge's code, and mostly the certificate too. The header stays, so that the
@@ -61,16 +77,22 @@ pub fn storm(
     rom: &mut [u8],
     cert: &[u8],
     count: usize,
-) -> io::Result<Tally> {
-    let mut tally = Tally::new();
+) -> io::Result<Certificates> {
+    let mut met = Certificates::new();
     for _ in 0..count {
         let changes = random.below(3);
-        let bytes = changed(alloc, random, cert, changes)?;
+        let aim = if cert.starts_with(b"GBBX\x04") && random.below(2) == 0 {
+            Aim::Parts
+        } else {
+            Aim::Bytes
+        };
+        let bytes = changed_by(alloc, random, cert, aim, changes)?;
         let (at, kept) = change_code(random, rom);
-        tally = tally.joined(&judge(alloc, random, rom, bytes.as_slice()));
+        let one = judge(alloc, random, rom, bytes.as_slice());
         if let Some(byte) = rom.get_mut(at) {
             *byte = kept;
         }
+        met.add(bytes.as_slice(), &one?);
     }
-    Ok(tally)
+    Ok(met)
 }

@@ -2,7 +2,9 @@
 
 ghost use Rattle.std.specs.Prelude.{◌≡◌, false};
 
+use crate::edits::edited;
 use crate::random::Random;
+use crate::reached::{ReachedState, is_said};
 use crate::tally::Tally;
 use gb_cert::{Cert, CertFault, encode};
 use gb_cert_place::place::{Sought, fault_place};
@@ -170,8 +172,9 @@ pub fn agree_on_verdict(
     }
 }
 
-/// What all calls say of these bytes, and whether they agree.
-fn judge(alloc: Global, rom: &[u8], bytes: &[u8]) -> Tally {
+/// What all calls say of these bytes, and whether they agree; of those that are accepted, whether they say what the console
+/// reaches.
+fn judge(alloc: Global, rom: &[u8], bytes: &[u8], reached: &mut [ReachedState<'_>]) -> Tally {
     let mut tally = Tally::new();
     let (fault, agree) = match Cert::parse(alloc, bytes) {
         Ok(cert) => {
@@ -183,28 +186,24 @@ fn judge(alloc: Global, rom: &[u8], bytes: &[u8]) -> Tally {
             (Some(fault), agree_on_fault(alloc, bytes, fault))
         }
     };
-    let told = agree_on_verdict(alloc, rom, bytes, fault);
-    match told {
-        Some(ToldVerdict::Accepted) => tally.count_accepted(),
-        Some(ToldVerdict::Refused { reason }) => tally.note_reason(reason),
-        Some(ToldVerdict::Unreadable) | None => {}
-    }
-    tally.count(agree && told.is_some());
+    let is_right = match agree_on_verdict(alloc, rom, bytes, fault) {
+        Some(ToldVerdict::Accepted) => {
+            tally.count_accepted();
+            is_said(alloc, reached, bytes)
+        }
+        Some(ToldVerdict::Refused { reason }) => {
+            tally.note_reason(reason);
+            true
+        }
+        Some(ToldVerdict::Unreadable) => true,
+        None => false,
+    };
+    tally.count(agree && is_right);
     tally
 }
 
-/// Whether they begin as a certificate of version 3 does.
-pub fn is_third(bytes: &[u8]) -> bool {
-    bytes.starts_with(b"GBBX\x03")
-}
-
-/// A certificate with so many changes.
-pub fn changed(
-    alloc: Global,
-    random: &mut Random,
-    cert: &[u8],
-    count: usize,
-) -> io::Result<Vec<u8>> {
+/// A certificate with so many changes of its bytes.
+fn changed(alloc: Global, random: &mut Random, cert: &[u8], count: usize) -> io::Result<Vec<u8>> {
     let mut bytes = Vec::from_slice(alloc, cert)?;
     for _ in 0..count {
         change(random, &mut bytes)?;
@@ -218,6 +217,8 @@ pub struct Certificates {
     pub all: Tally,
     /// Of those alone that begin as one of version 3 does.
     pub third: Tally,
+    /// Of those alone that begin as one of version 4 does.
+    pub fourth: Tally,
 }
 
 impl Certificates {
@@ -225,6 +226,7 @@ impl Certificates {
         Certificates {
             all: Tally::new(),
             third: Tally::new(),
+            fourth: Tally::new(),
         }
     }
 
@@ -233,27 +235,61 @@ impl Certificates {
         Certificates {
             all: self.all.joined(&other.all),
             third: self.third.joined(&other.third),
+            fourth: self.fourth.joined(&other.fourth),
+        }
+    }
+
+    /// Adds what came of a certificate with these bytes.
+    pub fn add(&mut self, bytes: &[u8], one: &Tally) {
+        self.all = self.all.joined(one);
+        if bytes.starts_with(b"GBBX\x03") {
+            self.third = self.third.joined(one);
+        }
+        if bytes.starts_with(b"GBBX\x04") {
+            self.fourth = self.fourth.joined(one);
         }
     }
 }
 
-/// Changes a certificate so many times, a few changes each, and puts it before the calls that read it.
+/// What is changed in a certificate.
+#[derive(Clone, Copy)]
+pub enum Aim {
+    /// Bytes, wherever they are.
+    Bytes,
+    /// Parts that version 4 has, so that most of what is written can be read.
+    Parts,
+}
+
+/// A certificate with so many changes.
+pub fn changed_by(
+    alloc: Global,
+    random: &mut Random,
+    cert: &[u8],
+    aim: Aim,
+    count: usize,
+) -> io::Result<Vec<u8>> {
+    match aim {
+        Aim::Bytes => changed(alloc, random, cert, count),
+        Aim::Parts => edited(alloc, random, cert, count),
+    }
+}
+
+/// Changes a certificate so many times, a few changes each, and puts it before the calls that read it. Those that are accepted
+/// have to say what the console reaches.
 pub fn storm(
     alloc: Global,
     random: &mut Random,
-    rom: &[u8],
-    cert: &[u8],
+    (rom, cert): (&[u8], &[u8]),
+    reached: &mut [ReachedState<'_>],
+    aim: Aim,
     count: usize,
 ) -> io::Result<Certificates> {
     let mut met = Certificates::new();
     for _ in 0..count {
         let changes = 1 + random.below(3);
-        let bytes = changed(alloc, random, cert, changes)?;
-        let one = judge(alloc, rom, bytes.as_slice());
-        met.all = met.all.joined(&one);
-        if is_third(bytes.as_slice()) {
-            met.third = met.third.joined(&one);
-        }
+        let bytes = changed_by(alloc, random, cert, aim, changes)?;
+        let one = judge(alloc, rom, bytes.as_slice(), reached);
+        met.add(bytes.as_slice(), &one);
     }
     Ok(met)
 }

@@ -1,29 +1,35 @@
 //! Storms: cartridges and certificates with bytes changed, cut off and put in, words in any order, and frames with random
 //! keys. Of each file the calls that read it have to say the same; a certificate that can be read is written again byte for
-//! byte, and a fault's place lies in the file; where the checker accepts, each frame is whole.
+//! byte, and a fault's place lies in the file; where the checker accepts, each frame is whole, and some node means what registers
+//! and memory hold.
 //!
 //! Examples come from standard input, as lines: `about` with a sentence; `sizes`, `rom` and `cert` (gb_samples); then `storm`
-//! with how many certificates, cartridges and frames, and `both` with how many cartridges are changed at once with their
-//! certificates. `words` reads so many lists of words, and `seen` says which faults were
-//! met. `cuts` cuts both files off at each of their lengths; `check` with offsets and bytes, as 117=05, gives the verdict on the
-//! certificate with these bytes; `stays` with a number runs a frame, and then so many more, which change nothing where the
-//! console is locked or stopped. The program's word multiplies the storms' numbers, so that `1000` makes storms of millions.
+//! with how many certificates, cartridges and frames, `parts` with how many certificates are changed in what version 4 has, and
+//! `both` with how many cartridges are changed at once with their certificates. `words` reads so many lists of words, and
+//! `seen` says which faults were met. `cuts` cuts both files off at each of their lengths; `check` with offsets and bytes, as
+//! 117=05, gives the verdict on the certificate with these bytes; `stays` with a number runs a frame, and then so many more,
+//! which change nothing where the console is locked or stopped. The program's word multiplies the storms' numbers, so that
+//! `1000` makes storms of millions.
 #![tactic(auto)]
 
 mod both;
 mod cartridges;
 mod certificates;
 mod changes;
+mod edits;
+mod parts;
 mod random;
+mod reached;
 mod tally;
 mod words;
 
-use certificates::Certificates;
+use certificates::{Aim, Certificates};
 use gb_header::Rom;
 use gb_printed::{Outcome, verify_bytes};
 use gb_samples::spelled::{Example, word_of};
 use gb_text::kept_bytes::KeptBytes;
 use random::Random;
+use reached::reached_states;
 use std::alloc::Global;
 use std::env;
 use std::io::{self, BufRead, BufReader, BufWriter, Write};
@@ -35,9 +41,14 @@ struct Weather {
     random: Random,
     factor: usize,
     certificates: Certificates,
+    /// Of the certificates alone whose parts were changed.
+    parts: Tally,
     cartridges: Tally,
-    both: Tally,
+    both: Certificates,
 }
+
+/// How many states of an example's console are compared with changed certificates that are accepted.
+const SEEN: usize = 48;
 
 /// A number of a line, in decimal digits, times the factor.
 fn number_of(digits: &str, factor: usize) -> usize {
@@ -63,6 +74,29 @@ fn runs(alloc: Global, random: &mut Random, example: &Example, frames: usize) ->
     }
 }
 
+/// So many changed certificates of an example.
+fn storm_of_certificates(
+    alloc: Global,
+    random: &mut Random,
+    example: &Example,
+    aim: Aim,
+    count: usize,
+) -> io::Result<Certificates> {
+    let (file, cert) = (example.rom.as_slice(), example.cert.as_slice());
+    let Ok(rom) = Rom::parse(file) else {
+        return Ok(Certificates::new());
+    };
+    let mut reached = reached_states(alloc, &rom, SEEN)?;
+    certificates::storm(
+        alloc,
+        random,
+        (file, cert),
+        reached.as_mut_slice(),
+        aim,
+        count,
+    )
+}
+
 /// The storms of an example, with these numbers of certificates, cartridges and frames.
 fn storm<W: Write>(
     alloc: Global,
@@ -74,11 +108,11 @@ fn storm<W: Write>(
     if !is_accepted(alloc, example) {
         return writeln!(out, "it isn't accepted");
     }
-    let certificates = certificates::storm(
+    let certificates = storm_of_certificates(
         alloc,
         &mut weather.random,
-        example.rom.as_slice(),
-        example.cert.as_slice(),
+        example,
+        Aim::Bytes,
         counts.0,
     )?;
     let cartridges = cartridges::storm(
@@ -102,6 +136,24 @@ fn storm<W: Write>(
     }
 }
 
+/// The storm of an example's certificate, with changes that aim at what version 4 says.
+fn storm_of_parts<W: Write>(
+    alloc: Global,
+    out: &mut W,
+    weather: &mut Weather,
+    example: &Example,
+    count: usize,
+) -> io::Result<()> {
+    let met = storm_of_certificates(alloc, &mut weather.random, example, Aim::Parts, count)?;
+    weather.certificates = weather.certificates.joined(&met);
+    weather.parts = weather.parts.joined(&met.all);
+    writeln!(
+        out,
+        "{} certificates with changed parts, {} wrong",
+        met.all.inputs, met.all.wrong
+    )
+}
+
 /// The storm of an example and its certificate, both changed at once.
 fn storm_of_both<W: Write>(
     alloc: Global,
@@ -110,18 +162,18 @@ fn storm_of_both<W: Write>(
     example: &mut Example,
     count: usize,
 ) -> io::Result<()> {
-    let tally = both::storm(
+    let met = both::storm(
         alloc,
         &mut weather.random,
         example.rom.as_mut_slice(),
         example.cert.as_slice(),
         count,
     )?;
-    weather.both = weather.both.joined(&tally);
+    weather.both = weather.both.joined(&met);
     writeln!(
         out,
         "{} cartridges with certificates, {} wrong",
-        tally.inputs, tally.wrong
+        met.all.inputs, met.all.wrong
     )
 }
 
@@ -155,28 +207,45 @@ fn write_seen<W: Write>(out: &mut W, weather: &Weather) -> io::Result<()> {
     writeln!(
         out,
         "both changed, some were accepted: {}; some not: {}",
-        yes_or_no(weather.both.accepted > 0),
-        yes_or_no(weather.both.accepted < weather.both.inputs)
-    )?;
-    write_seen_of_third(out, &weather.certificates.third, &weather.both)
+        yes_or_no(weather.both.all.accepted > 0),
+        yes_or_no(weather.both.all.accepted < weather.both.all.inputs)
+    )
 }
 
-/// Says what was met of version 3.
-fn write_seen_of_third<W: Write>(out: &mut W, third: &Tally, both: &Tally) -> io::Result<()> {
+/// Says what was met of a version alone.
+fn write_seen_of_version<W: Write>(
+    out: &mut W,
+    version: u8,
+    alone: &Tally,
+    both: &Tally,
+) -> io::Result<()> {
     writeln!(
         out,
-        "of version 3: accepted: {}; refused: {}; not readable: {}",
-        yes_or_no(third.accepted > 0),
-        yes_or_no(third.accepted < third.readable),
-        yes_or_no(third.readable < third.inputs)
+        "of version {version}: accepted: {}; refused: {}; not readable: {}",
+        yes_or_no(alone.accepted > 0),
+        yes_or_no(alone.accepted < alone.readable),
+        yes_or_no(alone.readable < alone.inputs)
     )?;
-    write!(out, "of version 3, refused for the reasons")?;
+    write!(out, "of version {version}, refused for the reasons")?;
     for number in 1..=17u8 {
-        if third.has_reason(number) || both.has_reason(number) {
+        if alone.has_reason(number) || both.has_reason(number) {
             write!(out, " {number}")?;
         }
     }
     writeln!(out)
+}
+
+/// Says what was met of the versions that have letters of their own.
+fn write_seen_of_versions<W: Write>(out: &mut W, weather: &Weather) -> io::Result<()> {
+    let (alone, both) = (&weather.certificates, &weather.both);
+    write_seen_of_version(out, 3, &alone.third, &both.third)?;
+    write_seen_of_version(out, 4, &alone.fourth, &both.fourth)?;
+    writeln!(
+        out,
+        "parts changed, some were accepted: {}; refused: {}",
+        yes_or_no(weather.parts.accepted > 0),
+        yes_or_no(weather.parts.accepted < weather.parts.readable)
+    )
 }
 
 /// Reads lists of words.
@@ -229,7 +298,14 @@ fn take<W: Write>(
             let count = number_of(rest, weather.factor);
             storm_of_both(alloc, out, weather, example, count)?;
         }
-        "seen" => write_seen(out, weather)?,
+        "parts" => {
+            let count = number_of(rest, weather.factor);
+            storm_of_parts(alloc, out, weather, example, count)?;
+        }
+        "seen" => {
+            write_seen(out, weather)?;
+            write_seen_of_versions(out, weather)?;
+        }
         "cuts" => changes::write_cuts(alloc, out, example)?,
         "check" => changes::write_verdict(alloc, out, example, rest)?,
         "stays" => {
@@ -250,8 +326,9 @@ fn main(rt: HostRuntime) -> io::Result<()> {
         random: Random::new(0x5DEE_CE66),
         factor,
         certificates: Certificates::new(),
+        parts: Tally::new(),
         cartridges: Tally::new(),
-        both: Tally::new(),
+        both: Certificates::new(),
     };
     let mut example = Example::new(rt.alloc());
     let mut out = BufWriter::new(rt.alloc(), io::writer(&rt))?;

@@ -14,7 +14,7 @@ const LIMITS: SearchLimits = SearchLimits {
     nodes: 12_000,
     rounds: 400,
     region: None,
-    rules: None,
+    edition: None,
 };
 
 /// How many rounds the maker has begun.
