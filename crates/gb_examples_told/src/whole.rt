@@ -491,14 +491,16 @@ const BANKS: &[WholeExample] = &[
     },
 ];
 
-/// Whether a certificate is refused so, and this is printed of what it lacks.
+/// Whether a certificate is refused so, and this is printed of what it lacks, with this fix.
 fn agrees(alloc: Global, example: &WholeExample) -> Result<bool, Fail> {
     let cert = whole_certificate(example.facts, example.procedures, example.nodes);
     let rom = small(example.sizes, example.program);
     let told = explain(alloc, &rom, cert.as_slice()).ok_or("a refusal")?;
     let gaps = told.gaps.ok_or("gaps")?;
     let shown = format!(in alloc; "{gaps}")?;
-    Ok(told.node == example.node && told.reason == example.reason && shown.as_str() == example.text)
+    let whole = format!(in alloc; "{told}")?;
+    let is_refused_so = told.node == example.node && told.reason == example.reason;
+    Ok(is_refused_so && shown.as_str() == example.text && whole.contains(example.fix))
 }
 
 #[test]

@@ -1,6 +1,8 @@
 //! What the console holds between two events, and whether a certificate says so: in each reached state some node at its PC, in
 //! the bank shown there, has to mean what registers and memory hold. A fact that is overclaimed needs no fault to be seen here.
 
+ghost use Rattle.std.specs.Prelude.{◌<◌};
+
 use crate::random::Random;
 use bitflags::Flags;
 use gb_cert::Cert;
@@ -34,8 +36,11 @@ pub struct ReachedState<'a> {
 }
 
 /// How far apart the state with a number and the next one are at most: the first ones follow one another.
-fn apart(number: usize) -> usize {
-    (number.wrapping_mul(number) / 2).max(1)
+fn apart(number: usize) -> usize
+    ensures { 0 < result }
+{
+    let apart = number.wrapping_mul(number) / 2;
+    if apart == 0 { 1 } else { apart }
 }
 
 /// Adds so many states of a cartridge's console with random keys. None is taken while an OAM transfer closes the memory.

@@ -54,7 +54,7 @@ fn fmt_state<W: fmt::Write>(rom: &Rom<'_>, state: &Abs, f: &mut fmt::Formatter<W
         write!(f, ";")?;
         fmt_cells(state.cells(), f)?;
     }
-    fmt_claims(rom, state, f)?;
+    fmt_claims(&*rom, state, f)?;
     write!(f, "</span></div>\n")
 }
 

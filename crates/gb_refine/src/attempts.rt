@@ -110,7 +110,8 @@ impl<'a> Attempts<'a> {
         match self.if_accepted(bytes) {
             Some(bytes) => Ok(Attempted::Certificate(bytes)),
             None => {
-                self.keep(edition, alone(self.alloc, Finding::Internal)?);
+                let findings = alone(self.alloc, Finding::Internal)?;
+                self.keep(edition, findings);
                 Ok(Attempted::Nothing { is_limited: false })
             }
         }
@@ -154,8 +155,10 @@ impl<'a> Attempts<'a> {
     /// The steps of an attempt by the rules of version 4. Where nobody asked for these, it takes about as long as the one by the rules
     /// of version 3, so that a game with a mistake is refused soon.
     fn budget(&self) -> u64 {
-        match (&self.by_third, self.limits.edition) {
-            (Some(third), None) => third.spent.max(FEWEST_STEPS).min(MOST_STEPS),
+        match &self.by_third {
+            Some(third) if self.limits.edition.is_none() => {
+                third.spent.max(FEWEST_STEPS).min(MOST_STEPS)
+            }
             _ => u64::MAX,
         }
     }

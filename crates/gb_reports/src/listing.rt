@@ -42,7 +42,7 @@ fn fmt_kept<W: fmt::Write>(
     let mut before = "    keeps ";
     for address in kept {
         let place = ShownAddress {
-            symbols,
+            symbols: &*symbols,
             bank: None,
             address: *address,
         };
