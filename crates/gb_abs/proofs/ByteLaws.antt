@@ -12,7 +12,7 @@ use Rattle.gb_domain.specs.declared.types.Core.{Core}
 use Rattle.gb_domain.specs.Types.{AbsState}
 use Rattle.gb_domain.specs.Areas.{IsRegion}
 use Rattle.gb_vals.specs.Vals.{any_val}
-use Rattle.gb_abs.specs.Meaning.{Activation, AreItems, MeansCore, MeansParts, IsMemory}
+use Rattle.gb_abs.specs.Meaning.{Activation, AreItems, MeansCore, MeansParts, IsMemory, is_located}
 use Rattle.gb_abs.specs.Stack.{AreInRegion}
 use Rattle.gb_abs.specs.Bytes.{without_newest, with_any_bytes, resized, IsSoundTaking, IsSoundAppending, IsSoundResizing}
 use Rattle.gb_abs.proofs.CoveringLaws.{Holds-any}
@@ -58,7 +58,7 @@ region_end : (region : Region) → IsRegion region → region.last < 0xFFFF
 region_end region r = let area = r.area in grind (arith, nat_tests)
 
 MeansParts-without_newest :
-    (k : ℕ) (s : AbsState) (region : Region) (entry : Activation) (base : ℕ) (x : MState) → k ≤ length s.items → MeansParts s entry base x → s.core.stack_set ≡ true
+    (k : ℕ) (s : AbsState) (region : Region) (entry : Activation) (base : ℕ) (x : MState) → k ≤ length s.items → MeansParts s entry base x → is_located s ≡ true
     → AreInRegion region base (length s.items) → IsRegion region
     → MeansParts (without_newest k s) entry base (record x { processor = with_sp x.processor ((x.processor.sp + k) % 65536) })
 unfolding without_newest
@@ -77,7 +77,7 @@ MeansParts-without_newest k s region entry base x some m set room r =
     }
 
 MeansParts-with_any_bytes :
-    (k : ℕ) (s : AbsState) (region : Region) (entry : Activation) (base : ℕ) (x : MState) → MeansParts s entry base x → s.core.stack_set ≡ true
+    (k : ℕ) (s : AbsState) (region : Region) (entry : Activation) (base : ℕ) (x : MState) → MeansParts s entry base x → is_located s ≡ true
     → AreInRegion region base (length s.items + k) → IsRegion region
     → MeansParts (with_any_bytes k s) entry base (record x { processor = with_sp x.processor ((x.processor.sp + (65536 - k)) % 65536) })
 unfolding with_any_bytes

@@ -28,10 +28,11 @@ use Rattle.gb_domain.specs.declared.types.Core.{Core}
 use Rattle.gb_domain.specs.Types.{AbsState}
 use Rattle.gb_domain.proofs.ValueLaws.{has_covered}
 use Rattle.gb_abs.specs.Storage.{peek}
-use Rattle.gb_abs.specs.Meaning.{Activation, Holds, HoldsFlags, KeepsBanks, HoldsLowBank, HoldsController, MeansCore, AreItems, MeansParts, IsMemory, ime_may_be}
+use Rattle.gb_abs.specs.Meaning.{Activation, Holds, HoldsFlags, KeepsBanks, HoldsLowBank, HoldsController, MeansCore, AreItems, MeansParts, IsMemory, ime_may_be, is_located}
 use Rattle.gb_abs.specs.Covering.{origin_number, covers_origin, covers_val, covers_may, covers_flags, covers_ime, covers_kept, covers_low_bank, covers_controller, covers_registers, covers_core, covers_items, cell_at, covers_cells, covers_parts, implied}
 use Rattle.gb_abs.specs.Sound.{IsPartOf}
 use Rattle.gb_vals.specs.Vals.{any_val}
+use Rattle.gb_abs.proofs.LocationLaws.{located-set, located-none, is_located-of}
 use Rattle.gb_vals.specs.Meaning.{may_be}
 
 -- ---- tests and what they say
@@ -250,20 +251,25 @@ cells_covered ss (t ∷ ts) entry m k h a =
     (Holds-covered _ _ _ _ p.0 (Holds-cell ss t.address entry m k a), cells_covered ss ts entry m k p.1 a)
 
 -- what covers an abstract state stands for each of its machine states
-pub MeansParts-covered : (k : Kind) (s t : AbsState) (entry : Activation) (base : ℕ) (x : MState) → entry.program.kind ≡ k → covers_parts k s t ≡ true → MeansParts s entry base x → MeansParts t entry base x
+pub MeansParts-covered : (k : Kind) (s t : AbsState) (entry : Activation) (base : ℕ) (x : MState) → entry.program.kind ≡ k → covers_parts k s t ≡ true
+    → (t.summary.aside ≡ None → s.summary.aside ≡ None) → MeansParts s entry base x → MeansParts t entry base x
 unfolding covers_parts covers_cells
-MeansParts-covered k s t entry base x is h m =
+MeansParts-covered k s t entry base x is h aside m =
     let cells = and_parts _ _ h in
     let items = and_parts _ _ cells.0 in
     record {
       core = core_covered k s.core t.core entry x is items.0 m.core;
       memory = m.memory;
       sp = m.sp;
-      stack = λ e. ap (λ n. x.processor.sp + n) (sym (lengths s.items t.items items.1)) ∙ m.stack (stack_covered k s.core t.core items.0 e);
+      stack = λ e. ap (λ n. x.processor.sp + n) (sym (lengths s.items t.items items.1)) ∙ m.stack (located e (stack_covered k s.core t.core items.0));
       items = items_covered s.items t.items entry base x.storage items.1 m.items;
       cells = cells_covered s.cells t.cells entry x.storage m.memory cells.1 m.cells;
     }
   where
+    located : is_located t ≡ true → (t.core.stack_set ≡ true → s.core.stack_set ≡ true) → is_located s ≡ true
+    located e set =
+        is_located-of s.summary.aside s.core.stack_set (aside (located-none t.summary.aside t.core.stack_set e)) (set (located-set t.summary.aside t.core.stack_set e))
+
     lengths : (ss ts : List Val) → covers_items ss ts ≡ true → length ss ≡ length ts
     lengths [] [] h = refl
     lengths [] (t ∷ ts) h = cc
@@ -271,4 +277,4 @@ MeansParts-covered k s t entry base x is h m =
     lengths (s ∷ ss) (t ∷ ts) h = ap suc (lengths ss ts (and_parts _ _ h).1)
 
 pub covers_parts_sound : (k : Kind) (s t : AbsState) (o : Bool) → o ≡ covers_parts k s t → o ≡ true → IsPartOf k s t
-covers_parts_sound k s t o e h = record { gives = λ entry base x is m. MeansParts-covered k s t entry base x is (sym e ∙ h) m }
+covers_parts_sound k s t o e h = record { gives = λ entry base x is aside m. MeansParts-covered k s t entry base x is (sym e ∙ h) aside m }

@@ -1,9 +1,11 @@
 pub mod CellLaws
 pub mod CoveringLaws
 pub mod ListLaws
+pub mod SpanLaws
 pub mod StorageLaws
 pub mod StackLaws
 pub mod OperationLaws
+pub mod LocationLaws
 pub mod LocatedLaws
 pub mod ByteLaws
 pub mod WideningLaws

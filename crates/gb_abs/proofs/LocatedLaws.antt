@@ -1,7 +1,8 @@
 -- Where items stand and SP points, where the base is known.
-use Rattle.std.proofs.Common.{◌≡◌, ℕ, zero, suc, ◌-◌, ◌/◌, ◌%◌, ◌≤◌, ◌<◌, Bool, true, false, nat_lt, cond, List, [], ◌∷◌, length, slice_get, Option, Some, None, refl, sym, subst, arith}
+use Rattle.std.proofs.Common.{◌≡◌, ℕ, zero, suc, ◌-◌, ◌/◌, ◌%◌, ◌≤◌, ◌<◌, ◌==◌, Bool, true, false, nat_lt, cond, List, [], ◌∷◌, length, slice_get, Option, Some, None, refl, sym, subst, arith}
 use Rattle.std.specs.Prelude.{IfSome}
 use Rattle.std.proofs.lemmas.Bool.Decides.{nat_tests}
+use Rattle.std.proofs.lemmas.Bool.{eqb-true}
 use Rattle.gb_ops.specs.Memory.{Storage}
 use Rattle.gb_ops.specs.Play.{MState}
 use Rattle.gb_domain.specs.declared.pairs.Bounds.{Bounds}
@@ -12,11 +13,12 @@ use Rattle.gb_domain.specs.declared.types.Halves.{Halves}
 use Rattle.gb_domain.specs.declared.types.Val.{Val}
 use Rattle.gb_domain.specs.Settings.{known_base, IsBase}
 use Rattle.gb_domain.specs.Types.{AbsState}
-use Rattle.gb_vals.specs.Vals.{single}
+use Rattle.gb_vals.specs.Vals.{any_val, single}
 use Rattle.gb_abs.specs.Meaning.{Activation, Holds, AreItems, MeansParts}
 use Rattle.gb_abs.specs.Storage.{peek}
-use Rattle.gb_abs.specs.Located.{base_by, stack_base, item_by, item_at, halves_by, sp_halves, bounds_by, sp_bounds, IsSoundItem, IsSoundSp, IsSoundSpBounds}
+use Rattle.gb_abs.specs.Located.{base_by, stack_base, item_by, item_at, halves_by, halves_within, sp_halves_by, sp_halves, bounds_by, sp_bounds_by, sp_bounds, IsSpWithin, IsSoundItem, IsSoundSp, IsSoundSpBounds}
 use Rattle.gb_abs.proofs.CoveringLaws.{Holds-any}
+use Rattle.gb_abs.proofs.LocationLaws.{is_located-of}
 use Rattle.gb_abs.proofs.OperationLaws.{Holds-single}
 
 -- a base from which addresses are reckoned is the procedure's, and SP is where the items say
@@ -79,51 +81,82 @@ item_sound z s a o e =
 -- ---- SP
 
 -- SP, reckoned from the base
-sp_is : (z : Setting) (s : AbsState) (entry : Activation) (base : ℕ) (x : MState) (b : ℕ) → IsBase z base → MeansParts s entry base x → stack_base z s.core ≡ Some b
+sp_is : (z : Setting) (s : AbsState) (entry : Activation) (base : ℕ) (x : MState) (b : ℕ) → IsBase z base → MeansParts s entry base x → s.summary.aside ≡ None → stack_base z s.core ≡ Some b
     → b - length s.items ≡ x.processor.sp
-sp_is z s entry base x b right m e =
+sp_is z s entry base x b right m none e =
     let r = reckoned z s base b right e in
     let is = r.is in
-    let stack = m.stack r.set in
+    let stack = m.stack (is_located-of s.summary.aside s.core.stack_set none r.set) in
     omega arith
 
-high_held : (z : Setting) (s : AbsState) (entry : Activation) (base : ℕ) (x : MState) (o : Option ℕ) → IsBase z base → MeansParts s entry base x → stack_base z s.core ≡ o
+high_held : (z : Setting) (s : AbsState) (entry : Activation) (base : ℕ) (x : MState) (o : Option ℕ) → IsBase z base → MeansParts s entry base x → s.summary.aside ≡ None → stack_base z s.core ≡ o
     → Holds (halves_by o (length s.items)).high entry (x.processor.sp / 256)
-high_held z s entry base x None right m e = let small = m.sp in Holds-any entry _ (omega arith)
-high_held z s entry base x (Some b) right m e =
-    subst (λ n. Holds (single ((b - length s.items) / 256)) entry (n / 256)) (sp_is z s entry base x b right m e) (Holds-single _ entry)
+high_held z s entry base x None right m none e = let small = m.sp in Holds-any entry _ (omega arith)
+high_held z s entry base x (Some b) right m none e =
+    subst (λ n. Holds (single ((b - length s.items) / 256)) entry (n / 256)) (sp_is z s entry base x b right m none e) (Holds-single _ entry)
 
-low_held : (z : Setting) (s : AbsState) (entry : Activation) (base : ℕ) (x : MState) (o : Option ℕ) → IsBase z base → MeansParts s entry base x → stack_base z s.core ≡ o
+low_held : (z : Setting) (s : AbsState) (entry : Activation) (base : ℕ) (x : MState) (o : Option ℕ) → IsBase z base → MeansParts s entry base x → s.summary.aside ≡ None → stack_base z s.core ≡ o
     → Holds (halves_by o (length s.items)).low entry (x.processor.sp % 256)
-low_held z s entry base x None right m e = Holds-any entry _ (omega arith)
-low_held z s entry base x (Some b) right m e =
-    subst (λ n. Holds (single ((b - length s.items) % 256)) entry (n % 256)) (sp_is z s entry base x b right m e) (Holds-single _ entry)
+low_held z s entry base x None right m none e = Holds-any entry _ (omega arith)
+low_held z s entry base x (Some b) right m none e =
+    subst (λ n. Holds (single ((b - length s.items) % 256)) entry (n % 256)) (sp_is z s entry base x b right m none e) (Holds-single _ entry)
+
+within_halves : (b : Bounds) (entry : Activation) (n : ℕ) → n < 65536 → (b.first ≤ n) × (n ≤ b.last)
+    → Holds (halves_within b).high entry (n / 256) × Holds (halves_within b).low entry (n % 256)
+within_halves b entry n small h = by (b.first == b.last) refl
+  where
+    by :
+        (e : Bool) → (b.first == b.last) ≡ e
+        → Holds (cond {A = Halves} e (record { high = single (b.first / 256); low = single (b.first % 256) }) (record { high = any_val; low = any_val })).high entry (n / 256)
+        × Holds (cond {A = Halves} e (record { high = single (b.first / 256); low = single (b.first % 256) }) (record { high = any_val; low = any_val })).low entry (n % 256)
+    by true e =
+        let same = eqb-true b.first b.last e in
+        let low = h.0 in
+        let high = h.1 in
+        let is : b.first ≡ n = omega arith in
+        (subst (λ k. Holds (single (b.first / 256)) entry (k / 256)) is (Holds-single _ entry), subst (λ k. Holds (single (b.first % 256)) entry (k % 256)) is (Holds-single _ entry))
+    by false e = (Holds-any entry _ (omega arith), Holds-any entry _ (omega arith))
+
+high_in : (z : Setting) (s : AbsState) (entry : Activation) (base : ℕ) (x : MState) (o : Option Bounds) → IsBase z base → MeansParts s entry base x → s.summary.aside ≡ o
+    → IsSpWithin o x.processor.sp → Holds (sp_halves_by o (stack_base z s.core) (length s.items)).high entry (x.processor.sp / 256)
+high_in z s entry base x None right m e a = high_held z s entry base x (stack_base z s.core) right m e refl
+high_in z s entry base x (Some b) right m e a = (within_halves b entry x.processor.sp m.sp a).0
+
+low_in : (z : Setting) (s : AbsState) (entry : Activation) (base : ℕ) (x : MState) (o : Option Bounds) → IsBase z base → MeansParts s entry base x → s.summary.aside ≡ o
+    → IsSpWithin o x.processor.sp → Holds (sp_halves_by o (stack_base z s.core) (length s.items)).low entry (x.processor.sp % 256)
+low_in z s entry base x None right m e a = low_held z s entry base x (stack_base z s.core) right m e refl
+low_in z s entry base x (Some b) right m e a = (within_halves b entry x.processor.sp m.sp a).1
 
 pub halves_sound : (z : Setting) (s : AbsState) (w : Halves) → w ≡ sp_halves z s → IsSoundSp z s w
 unfolding sp_halves
 halves_sound z s w e =
     subst (λ h. IsSoundSp z s h) (sym e)
     (record {
-      high = λ entry base x right m. high_held z s entry base x (stack_base z s.core) right m refl;
-      low = λ entry base x right m. low_held z s entry base x (stack_base z s.core) right m refl;
+      high = λ entry base x right m a. high_in z s entry base x s.summary.aside right m refl a;
+      low = λ entry base x right m a. low_in z s entry base x s.summary.aside right m refl a;
     })
 
 record IsBetween (b : Bounds) (n : ℕ) : Type 0 where
   first : b.first ≤ n
   last : n ≤ b.last
 
-within : (z : Setting) (s : AbsState) (entry : Activation) (base : ℕ) (x : MState) (o : Option ℕ) → IsBase z base → MeansParts s entry base x → stack_base z s.core ≡ o
+within : (z : Setting) (s : AbsState) (entry : Activation) (base : ℕ) (x : MState) (o : Option ℕ) → IsBase z base → MeansParts s entry base x → s.summary.aside ≡ None → stack_base z s.core ≡ o
     → IsBetween (bounds_by o (length s.items)) x.processor.sp
-within z s entry base x None right m e = let small = m.sp in record { first = omega arith; last = omega arith }
-within z s entry base x (Some b) right m e =
-    let is = sp_is z s entry base x b right m e in
+within z s entry base x None right m none e = let small = m.sp in record { first = omega arith; last = omega arith }
+within z s entry base x (Some b) right m none e =
+    let is = sp_is z s entry base x b right m none e in
     record { first = omega arith; last = omega arith }
+
+sp_in : (z : Setting) (s : AbsState) (entry : Activation) (base : ℕ) (x : MState) (o : Option Bounds) → IsBase z base → MeansParts s entry base x → s.summary.aside ≡ o
+    → IsSpWithin o x.processor.sp → IsBetween (sp_bounds_by o (stack_base z s.core) (length s.items)) x.processor.sp
+sp_in z s entry base x None right m e a = within z s entry base x (stack_base z s.core) right m e refl
+sp_in z s entry base x (Some b) right m e a = record { first = a.0; last = a.1 }
 
 pub bounds_sound : (z : Setting) (s : AbsState) (b : Bounds) → b ≡ sp_bounds z s → IsSoundSpBounds z s b
 unfolding sp_bounds
 bounds_sound z s b e =
     subst (λ h. IsSoundSpBounds z s h) (sym e)
     (record {
-      first = λ entry base x right m. (within z s entry base x (stack_base z s.core) right m refl).first;
-      last = λ entry base x right m. (within z s entry base x (stack_base z s.core) right m refl).last;
+      first = λ entry base x right m a. (sp_in z s entry base x s.summary.aside right m refl a).first;
+      last = λ entry base x right m a. (sp_in z s entry base x s.summary.aside right m refl a).last;
     })

@@ -23,11 +23,12 @@ use Rattle.gb_domain.specs.Types.{AbsState}
 use Rattle.gb_domain.specs.Areas.{IsRegion, meets}
 use Rattle.gb_abs.specs.Storage.{is_ram, peek, peek_by}
 use Rattle.gb_abs.specs.Operations.{with_core}
-use Rattle.gb_abs.specs.Meaning.{Activation, Holds, MeansCore, AreItems, MeansParts, IsMemory}
+use Rattle.gb_abs.specs.Meaning.{Activation, Holds, MeansCore, AreItems, MeansParts, IsMemory, located_by, is_located}
 use Rattle.gb_abs.specs.Cells.{ArePlaced}
 use Rattle.gb_abs.specs.Stack.{AreInRegion, pushed, word_of, last_word, youngest, popped}
 use Rattle.gb_abs.specs.Poked.{IsPoked}
 use Rattle.gb_abs.specs.Sound.{IsRegionOpen, with_stack, Pushes, Pops, IsSoundPush, IsSoundPop}
+use Rattle.gb_abs.proofs.LocationLaws.{located-more}
 use Rattle.gb_abs.proofs.CoveringLaws.{AreCells}
 use Rattle.gb_abs.proofs.StorageLaws.{high-at, region_in_ram, placed_in_ram, wrote-poked, wrote_ram-starting, wrote_ram-rom, read_ram, read_ram-faultless, AreItems-same, MeansCore-storage}
 
@@ -206,7 +207,7 @@ apart-from region a b low high h e = grind (arith, nat_tests)
 
 MeansParts-pushed-to :
     (region : Region) (s : AbsState) (entry : Activation) (base : ℕ) (x : MState) (i : Halves) (w sp : ℕ) (t : Storage)
-    → IsRegion region → AreInRegion region base (length s.items + 2) → ArePlaced region s.cells → s.core.stack_set ≡ true
+    → IsRegion region → AreInRegion region base (length s.items + 2) → ArePlaced region s.cells → is_located s ≡ true
     → Holds i.high entry (w / 256) → Holds i.low entry (w % 256) → IsTop region x.processor.sp → ArePushed x.processor.sp w x.storage t
     → MeansParts s entry base x → MeansParts (pushed i s) entry base (with_stack x (x.processor.sp - 2) t)
 unfolding pushed
@@ -271,7 +272,7 @@ machine p t = record { processor = p; storage = t }
 
 pushes :
     (region : Region) (s : AbsState) (entry : Activation) (base : ℕ) (p : Processor) (m : View) (i : Halves) (w : ℕ)
-    → MeansParts s entry base (machine p m.storage) → s.core.stack_set ≡ true → AreInRegion region base (length s.items + 2)
+    → MeansParts s entry base (machine p m.storage) → is_located s ≡ true → AreInRegion region base (length s.items + 2)
     → IsRegion region → ArePlaced region s.cells → IsRegionOpen m.storage region → Holds i.high entry (w / 256) → Holds i.low entry (w % 256) → w < 65536
     → Pushes region (pushed i s) entry base (machine p m.storage) m w
 pushes region s entry base p m i w means set room r placed clear high low lt =
@@ -294,7 +295,7 @@ pushes region s entry base p m i w means set room r placed clear high low lt =
 -- a word is pushed: the high byte at SP-1, the low byte at SP-2
 pub MeansParts-pushed :
     (region : Region) (s : AbsState) (entry : Activation) (base : ℕ) (x : MState) (m : View) (i : Halves) (w : ℕ)
-    → MeansParts s entry base x → m.storage ≡ x.storage → s.core.stack_set ≡ true → AreInRegion region base (length s.items + 2)
+    → MeansParts s entry base x → m.storage ≡ x.storage → is_located s ≡ true → AreInRegion region base (length s.items + 2)
     → IsRegion region → ArePlaced region s.cells → IsRegionOpen x.storage region → Holds i.high entry (w / 256) → Holds i.low entry (w % 256) → w < 65536
     → Pushes region (pushed i s) entry base x m w
 MeansParts-pushed region s entry base x m i w means same set room r placed clear high low lt =
@@ -408,7 +409,7 @@ loaded-faultless m sp e ram ram' clear clear' = rw (e, read_ram-faultless m sp r
 
 pops :
     (region : Region) (s : AbsState) (entry : Activation) (base : ℕ) (p : Processor) (m : View) (i : Halves) (free : List ℕ)
-    → MeansParts s entry base (machine p m.storage) → s.core.stack_set ≡ true → youngest s ≡ Some i → AreInRegion region base (length s.items)
+    → MeansParts s entry base (machine p m.storage) → is_located s ≡ true → youngest s ≡ Some i → AreInRegion region base (length s.items)
     → IsRegion region → IsRegionOpen m.storage region → Pops (popped s) i entry base (machine p m.storage) m free
 unfolding popped youngest
 pops region s entry base p m i free means set is room r clear =
@@ -448,7 +449,7 @@ pops region s entry base p m i free means set is room r clear =
 -- a word is popped: the two bytes that the machine reads are the youngest word's
 pub Pops-popped :
     (region : Region) (s : AbsState) (entry : Activation) (base : ℕ) (x : MState) (m : View) (i : Halves) (free : List ℕ)
-    → MeansParts s entry base x → m.storage ≡ x.storage → s.core.stack_set ≡ true → youngest s ≡ Some i → AreInRegion region base (length s.items)
+    → MeansParts s entry base x → m.storage ≡ x.storage → is_located s ≡ true → youngest s ≡ Some i → AreInRegion region base (length s.items)
     → IsRegion region → IsRegionOpen x.storage region → Pops (popped s) i entry base x m free
 Pops-popped region s entry base x m i free means same set is room r clear =
     let moved = ap (machine x.processor) same in
@@ -485,7 +486,7 @@ AreCells-all (c ∷ cells) entry s t same h = (subst (λ n. Holds c.val entry n)
 pub MeansParts-with_stack :
     (s : AbsState) (core : Core) (entry : Activation) (base : ℕ) (x y : MState)
     → MeansParts s entry base x → MeansCore core entry y → y.storage.work ≡ x.storage.work → y.storage.high ≡ x.storage.high → y.processor.sp < 65536
-    → (core.stack_set ≡ true → y.processor.sp + length s.items ≡ base) → MeansParts (with_core s core) entry base y
+    → (located_by s.summary.aside core.stack_set ≡ true → y.processor.sp + length s.items ≡ base) → MeansParts (with_core s core) entry base y
 MeansParts-with_stack s core entry base x y m c work high sp stack =
     record {
       core = c;
@@ -502,7 +503,7 @@ pub MeansParts-with_core :
     → MeansParts s entry base x → MeansCore core entry y → y.storage.work ≡ x.storage.work → y.storage.high ≡ x.storage.high
     → y.processor.sp ≡ x.processor.sp → (core.stack_set ≡ true → s.core.stack_set ≡ true) → MeansParts (with_core s core) entry base y
 MeansParts-with_core s core entry base x y m c work high sp set =
-    MeansParts-with_stack s core entry base x y m c work high (subst (λ n. n < 65536) (sym sp) m.sp) (λ e. ap (λ n. n + length s.items) sp ∙ m.stack (set e))
+    MeansParts-with_stack s core entry base x y m c work high (subst (λ n. n < 65536) (sym sp) m.sp) (λ e. ap (λ n. n + length s.items) sp ∙ m.stack (located-more s.summary.aside s.core.stack_set core.stack_set set e))
 
 -- ---- the operations
 

@@ -1,13 +1,19 @@
 -- The memory cells of an abstract state, in order of address: entering one, and dropping those of an area (own).
-use Rattle.std.specs.Prelude.{◌≡◌, ℕ, Bool, true, false, not, ◌||◌, ◌==◌, nat_lt, if◌then◌else◌, List, ◌∷◌, ◌++◌, length, map, None}
+use Rattle.std.specs.Prelude.{◌≡◌, ℕ, Bool, true, false, not, ◌||◌, ◌==◌, nat_lt, if◌then◌else◌, List, ◌∷◌, ◌++◌, length, map, Option, None}
 use Rattle.std.specs.List.{AllByRecursion, filter, list_any}
 use Rattle.gb_ops.specs.declared.machine.Region.{Region}
 use Rattle.gb_ops.specs.Cartridge.{is_within}
+use Rattle.gb_domain.specs.declared.interval.StridedInterval.{StridedInterval}
 use Rattle.gb_domain.specs.declared.types.Cell.{Cell}
+use Rattle.gb_domain.specs.declared.types.Origin.{Origin}
 use Rattle.gb_domain.specs.declared.types.Val.{Val}
 use Rattle.gb_domain.specs.Areas.{is_area, meets}
+use Rattle.gb_domain.specs.Interval.{join}
 use Rattle.gb_domain.specs.Rules.{IsVal, IsChain, IsCell, after_cell}
+use Rattle.gb_domain.specs.Values.{interval_of}
+use Rattle.gb_abs.specs.declared.span.Span.{Span}
 use Rattle.gb_abs.specs.Covering.{covers_origin}
+use Rattle.gb_abs.specs.Span.{counts}
 
 abbrev pub is_below : ℕ → Cell → Bool
 is_below a c = nat_lt c.address a
@@ -34,22 +40,32 @@ is_outside first last c = not (is_within first last c.address)
 unfoldable pub without_cells : ℕ → ℕ → List Cell → List Cell
 without_cells first last cells = filter (is_outside first last) cells
 
--- the least interval that holds both; a copy of what both are copies of
-abbrev pub widened : Val → Val → Val
-widened v w =
+-- what both are copies of
+abbrev pub common_origin : Option Origin → Option Origin → Option Origin
+common_origin from to = if covers_origin from to then to else None
+
+-- a value with the bounds and low bits of an interval
+abbrev pub of_interval : StridedInterval → Option Origin → Val
+of_interval i origin = record { lo = i.lo; hi = i.hi; low_bits = i.count; origin = origin }
+
+-- the least interval that holds both, by the rules of version 4 with the low bits that all their values have; a copy of what both
+-- are copies of
+abbrev pub widened : Bool → Val → Val → Val
+widened true v w = of_interval (join (interval_of v) (interval_of w)) (common_origin v.origin w.origin)
+widened false v w =
     record {
       lo = if nat_lt w.lo v.lo then w.lo else v.lo;
       hi = if nat_lt v.hi w.hi then w.hi else v.hi;
       low_bits = 0;
-      origin = if covers_origin v.origin w.origin then w.origin else None;
+      origin = common_origin v.origin w.origin;
     }
 
-abbrev pub widened_at : ℕ → ℕ → Val → Cell → Cell
-widened_at first last v c = if is_within first last c.address then record { address = c.address; val = widened c.val v } else c
+abbrev pub widened_at : Bool → Span → Val → Cell → Cell
+widened_at whole span v c = if counts span c.address then record { address = c.address; val = widened whole c.val v } else c
 
--- the cells from first to last may hold another value too
-unfoldable pub widened_cells : ℕ → ℕ → Val → List Cell → List Cell
-widened_cells first last v cells = map (widened_at first last v) cells
+-- the cells at addresses of a span that count may hold another value too
+unfoldable pub widened_cells : Bool → Span → Val → List Cell → List Cell
+widened_cells whole span v cells = map (widened_at whole span v) cells
 
 -- a cell's byte stands in RAM, outside the declared stack region
 pub record IsPlaced (region : Region) (c : Cell) : Type 0 where

@@ -1,5 +1,5 @@
 -- Where items stand and SP points, where the base is known (own).
-use Rattle.std.specs.Prelude.{ℕ, ◌-◌, ◌/◌, ◌%◌, ◌≤◌, Bool, nat_lt, if◌then◌else◌, List, length, slice_get, Option, Some, None}
+use Rattle.std.specs.Prelude.{ℕ, ◌-◌, ◌/◌, ◌%◌, ◌≤◌, ◌==◌, Bool, nat_lt, if◌then◌else◌, List, length, slice_get, Option, Some, None}
 use Rattle.gb_ops.specs.Play.{MState}
 use Rattle.gb_domain.specs.declared.pairs.Bounds.{Bounds}
 use Rattle.gb_domain.specs.declared.rules.Rules.{Rules}
@@ -35,17 +35,31 @@ abbrev pub halves_by : Option ℕ → ℕ → Halves
 halves_by None count = record { high = any_val; low = any_val }
 halves_by (Some b) count = record { high = single ((b - count) / 256); low = single ((b - count) % 256) }
 
+-- of a word within bounds
+abbrev pub halves_within : Bounds → Halves
+halves_within b =
+    if b.first == b.last then record { high = single (b.first / 256); low = single (b.first % 256) } else record { high = any_val; low = any_val }
+
+-- put aside, it is within bounds
+abbrev pub sp_halves_by : Option Bounds → Option ℕ → ℕ → Halves
+sp_halves_by None base count = halves_by base count
+sp_halves_by (Some b) base count = halves_within b
+
 -- SP as a pair
 unfoldable pub sp_halves : Setting → AbsState → Halves
-sp_halves z s = halves_by (stack_base z s.core) (length s.items)
+sp_halves z s = sp_halves_by s.summary.aside (stack_base z s.core) (length s.items)
 
 abbrev pub bounds_by : Option ℕ → ℕ → Bounds
 bounds_by None count = record { first = 0; last = 0xFFFF }
 bounds_by (Some b) count = record { first = b - count; last = b - count }
 
+abbrev pub sp_bounds_by : Option Bounds → Option ℕ → ℕ → Bounds
+sp_bounds_by None base count = bounds_by base count
+sp_bounds_by (Some b) base count = b
+
 -- the bounds of SP
 unfoldable pub sp_bounds : Setting → AbsState → Bounds
-sp_bounds z s = bounds_by (stack_base z s.core) (length s.items)
+sp_bounds z s = sp_bounds_by s.summary.aside (stack_base z s.core) (length s.items)
 
 -- ---- what that promises
 
@@ -53,12 +67,17 @@ sp_bounds z s = bounds_by (stack_base z s.core) (length s.items)
 pub record IsSoundItem (z : Setting) (s : AbsState) (a : ℕ) (v : Val) : Type 0 where
   pub gives : (entry : Activation) (base : ℕ) (x : MState) → IsBase z base → MeansParts s entry base x → Holds v entry (peek x.storage a)
 
+-- SP lies within the bounds, where it is put aside
+abbrev pub IsSpWithin : Option Bounds → ℕ → Type 0
+IsSpWithin None sp = Unit {0}
+IsSpWithin (Some b) sp = (b.first ≤ sp) × (sp ≤ b.last)
+
 -- in each of these states the halves stand for SP's
 pub record IsSoundSp (z : Setting) (s : AbsState) (w : Halves) : Type 0 where
-  pub high : (entry : Activation) (base : ℕ) (x : MState) → IsBase z base → MeansParts s entry base x → Holds w.high entry (x.processor.sp / 256)
-  pub low : (entry : Activation) (base : ℕ) (x : MState) → IsBase z base → MeansParts s entry base x → Holds w.low entry (x.processor.sp % 256)
+  pub high : (entry : Activation) (base : ℕ) (x : MState) → IsBase z base → MeansParts s entry base x → IsSpWithin s.summary.aside x.processor.sp → Holds w.high entry (x.processor.sp / 256)
+  pub low : (entry : Activation) (base : ℕ) (x : MState) → IsBase z base → MeansParts s entry base x → IsSpWithin s.summary.aside x.processor.sp → Holds w.low entry (x.processor.sp % 256)
 
 -- in each of these states SP lies within the bounds
 pub record IsSoundSpBounds (z : Setting) (s : AbsState) (b : Bounds) : Type 0 where
-  pub first : (entry : Activation) (base : ℕ) (x : MState) → IsBase z base → MeansParts s entry base x → b.first ≤ x.processor.sp
-  pub last : (entry : Activation) (base : ℕ) (x : MState) → IsBase z base → MeansParts s entry base x → x.processor.sp ≤ b.last
+  pub first : (entry : Activation) (base : ℕ) (x : MState) → IsBase z base → MeansParts s entry base x → IsSpWithin s.summary.aside x.processor.sp → b.first ≤ x.processor.sp
+  pub last : (entry : Activation) (base : ℕ) (x : MState) → IsBase z base → MeansParts s entry base x → IsSpWithin s.summary.aside x.processor.sp → x.processor.sp ≤ b.last

@@ -1,5 +1,5 @@
 -- Which machine states an abstract state means (abstract interpretation: concretization).
-use Rattle.std.specs.Prelude.{◌≡◌, ℕ, ◌+◌, ◌-◌, ◌/◌, ◌%◌, ◌≤◌, ◌<◌, Bool, true, false, List, [], ◌∷◌, length, slice_index, Some}
+use Rattle.std.specs.Prelude.{◌≡◌, ℕ, ◌+◌, ◌-◌, ◌/◌, ◌%◌, ◌≤◌, ◌<◌, Bool, true, false, List, [], ◌∷◌, length, slice_index, Option, Some, None}
 use Rattle.std.specs.List.{AllByRecursion}
 use Rattle.gb_ops.specs.declared.op.Register.{Register}
 use Rattle.gb_ops.specs.declared.registers.Flags.{Flags}
@@ -12,6 +12,7 @@ use Rattle.gb_ops.specs.Registers.{get}
 use Rattle.gb_ops.specs.Flags.{flags_byte}
 use Rattle.gb_ops.specs.Memory.{Storage}
 use Rattle.gb_ops.specs.Play.{MState}
+use Rattle.gb_domain.specs.declared.pairs.Bounds.{Bounds}
 use Rattle.gb_domain.specs.declared.types.Origin.{Origin}
 use Rattle.gb_domain.specs.declared.types.Origin.TheVariants as origin
 use Rattle.gb_domain.specs.declared.types.Val.{Val}
@@ -127,12 +128,21 @@ pub record IsMemory (s : Storage) : Type 0 where
   pub high : length s.high ≡ 127
   pub bytes : (a : ℕ) → peek s a ≤ 255
 
+-- where a stack that is set is put aside, SP isn't reckoned from the items
+abbrev pub located_by : Option Bounds → Bool → Bool
+located_by None set = set
+located_by (Some b) set = false
+
+-- SP stands where the items end
+abbrev pub is_located : AbsState → Bool
+is_located s = located_by s.summary.aside s.core.stack_set
+
 -- s is one of the states that each part of abs means by itself, in a procedure that was entered in the state entry, with
 -- base the address above its items: where its return word stands (main: the address after the region)
 pub record MeansParts (abs : AbsState) (entry : Activation) (base : ℕ) (s : MState) : Type 0 where
   pub core : MeansCore abs.core entry s
   pub memory : IsMemory s.storage
   pub sp : s.processor.sp < 65536
-  pub stack : abs.core.stack_set ≡ true → s.processor.sp + length abs.items ≡ base
+  pub stack : is_located abs ≡ true → s.processor.sp + length abs.items ≡ base
   pub items : AreItems abs.items entry base s.storage
   pub cells : AllByRecursion (λ c. Holds c.val entry (peek s.storage c.address)) abs.cells

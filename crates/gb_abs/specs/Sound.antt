@@ -1,5 +1,5 @@
 -- What operations on abstract states promise of the machine (abstract interpretation: soundness; own).
-use Rattle.std.specs.Prelude.{◌≡◌, ℕ, ◌+◌, ◌/◌, ◌%◌, ◌≤◌, ◌<◌, ◌-◌, Bool, true, false, ◌==◌, List, length, ◌⊎◌}
+use Rattle.std.specs.Prelude.{◌≡◌, ℕ, ◌+◌, ◌/◌, ◌%◌, ◌≤◌, ◌<◌, ◌-◌, Bool, true, false, ◌==◌, List, length, None, ◌⊎◌}
 use Rattle.gb_ops.specs.declared.machine.Kind.{Kind}
 use Rattle.gb_ops.specs.declared.machine.Region.{Region}
 use Rattle.gb_ops.specs.declared.machine.Read.TheVariants as read
@@ -17,15 +17,17 @@ use Rattle.gb_domain.specs.declared.types.Core.{Core}
 use Rattle.gb_domain.specs.declared.types.Halves.{Halves}
 use Rattle.gb_domain.specs.Types.{AbsState}
 use Rattle.gb_domain.specs.Areas.{IsRegion, meets}
-use Rattle.gb_abs.specs.Meaning.{Activation, Holds, MeansCore, MeansParts}
+use Rattle.gb_abs.specs.Meaning.{Activation, Holds, MeansCore, MeansParts, is_located}
 use Rattle.gb_abs.specs.Cells.{IsPlaced, ArePlaced}
 use Rattle.gb_abs.specs.Poked.{IsPoked}
 use Rattle.gb_abs.specs.Storage.{is_ram, peek}
+use Rattle.gb_abs.specs.declared.span.Span.{Span}
+use Rattle.gb_abs.specs.Span.{IsIn}
 use Rattle.gb_abs.specs.Stack.{AreInRegion}
 
--- in programs with this controller t means each machine state that s means
+-- in programs with this controller t means each machine state that s means, where its stack is put aside only if that of t is
 pub record IsPartOf (kind : Kind) (s t : AbsState) : Type 0 where
-  pub gives : (entry : Activation) (base : ℕ) (x : MState) → entry.program.kind ≡ kind → MeansParts s entry base x → MeansParts t entry base x
+  pub gives : (entry : Activation) (base : ℕ) (x : MState) → entry.program.kind ≡ kind → (t.summary.aside ≡ None → s.summary.aside ≡ None) → MeansParts s entry base x → MeansParts t entry base x
 
 -- ---- cores
 
@@ -68,10 +70,10 @@ pub record IsSoundDrop (first last : ℕ) (s after : AbsState) : Type 0 where
       → MeansParts after entry base (record x { storage = t })
 
 -- of each of these states, where a byte that v stands for is stored at one of the addresses, outside the stack region
-pub record IsSoundWidening (first last : ℕ) (v : Val) (s after : AbsState) : Type 0 where
+pub record IsSoundWidening (span : Span) (v : Val) (s after : AbsState) : Type 0 where
   pub gives :
       (region : Region) (entry : Activation) (base : ℕ) (x : MState) (t : Storage) (a n : ℕ)
-      → MeansParts s entry base x → IsPoked a n x.storage t → Holds v entry n → first ≤ a → a ≤ last → meets region a a ≡ false
+      → MeansParts s entry base x → IsPoked a n x.storage t → Holds v entry n → IsIn span a → meets region a a ≡ false
       → ArePlaced region s.cells → AreInRegion region base (length s.items) → IsRegion region
       → MeansParts after entry base (record x { storage = t })
 
@@ -105,17 +107,17 @@ pub record Pops (after : AbsState) (i : Halves) (entry : Activation) (base : ℕ
   pub faults : load_faults m (read.Word x.processor.sp) ≡ no_faults
   pub means : MeansParts after entry base (record x { processor = with_sp x.processor ((x.processor.sp + 2) % 65536) })
 
--- of each of these states, with its stack set and room for the word, each word that i stands for
+-- of each of these states, with SP where the items end and room for the word, each word that i stands for
 pub record IsSoundPush (s : AbsState) (i : Halves) (after : AbsState) : Type 0 where
   pub gives :
       (region : Region) (entry : Activation) (base : ℕ) (x : MState) (m : View) (w : ℕ)
-      → MeansParts s entry base x → m.storage ≡ x.storage → s.core.stack_set ≡ true → AreInRegion region base (length s.items + 2)
+      → MeansParts s entry base x → m.storage ≡ x.storage → is_located s ≡ true → AreInRegion region base (length s.items + 2)
       → IsRegion region → ArePlaced region s.cells → IsRegionOpen x.storage region → Holds i.high entry (w / 256) → Holds i.low entry (w % 256) → w < 65536
       → Pushes region after entry base x m w
 
--- of each of these states, with its stack set: i stands for the word that is read
+-- of each of these states, with SP where the items end: i stands for the word that is read
 pub record IsSoundPop (s : AbsState) (i : Halves) (after : AbsState) : Type 0 where
   pub gives :
       (region : Region) (entry : Activation) (base : ℕ) (x : MState) (m : View) (free : List ℕ)
-      → MeansParts s entry base x → m.storage ≡ x.storage → s.core.stack_set ≡ true → AreInRegion region base (length s.items)
+      → MeansParts s entry base x → m.storage ≡ x.storage → is_located s ≡ true → AreInRegion region base (length s.items)
       → IsRegion region → IsRegionOpen x.storage region → Pops after i entry base x m free

@@ -8,6 +8,8 @@ ghost use Rattle.gb_abs.specs.Bytes.{without_newest, with_any_bytes, resized, Is
 
 use crate::stack::with_items;
 use arrayvec::ArrayVec;
+use gb_domain::pairs::Bounds;
+use gb_domain::summary::Summary;
 use gb_domain::types::{Abs, Core, Rules, Val};
 use gb_vals::vals::any;
 
@@ -88,15 +90,27 @@ fn oldest(items: &[Val], count: usize) -> &[Val]
     }
 }
 
-/// The state with its stack set, and other items.
+/// The same is said, but for where SP is put aside.
+pub fn with_aside(summary: &Summary, aside: Option<Bounds>) -> Summary
+    ensures { result ≡ record summary.now { aside = aside } }
+{
+    let mut fills = ArrayVec::new();
+    if fills.try_extend_from_slice(summary.fills()).is_err() {
+        unreachable!();
+    }
+    Summary::of_parts(summary.level(), fills, summary.shadows(), aside)
+}
+
+/// The state with its stack set, and not put aside, and other items.
 fn set_with_items(state: &Abs, items: ArrayVec<Val, 255>) -> Abs
-    ensures { result ≡ record state.now { core = record state.now.core { stack_set = true }; items = items.items } }
+    ensures { result ≡ record state.now { core = record state.now.core { stack_set = true }; summary = record state.now.summary { aside = None }; items = items.items } }
 {
     let mut after = with_items(state, items);
     after.set_core(Core {
         stack_set: true,
         ..*state.core()
     });
+    after.set_summary(with_aside(state.summary(), None));
     after
 }
 

@@ -4,12 +4,15 @@ ghost use Rattle.std.specs.Prelude.{◌≡◌, ◌+◌, ◌≤◌, ◌++◌, ◌
 ghost use Rattle.std.specs.List.{filter, list_any};
 ghost use Rattle.arrayvec.specs.ArrayVec.{array_vec_len};
 ghost use Rattle.gb_domain.specs.Limits.{cell_room};
-ghost use Rattle.gb_abs.specs.Cells.{is_below, is_above, is_at, is_outside, entered, with_cell, without_cells, widened, widened_at, widened_cells, IsEntryInOrder, IsDropInOrder, IsWideningInOrder};
+ghost use Rattle.gb_abs.specs.Cells.{is_below, is_above, is_at, is_outside, entered, with_cell, without_cells, common_origin, of_interval, widened, widened_at, widened_cells, IsEntryInOrder, IsDropInOrder, IsWideningInOrder};
 ghost use Rattle.gb_abs.specs.Sound.{IsSoundEntry, IsSoundDrop, IsSoundWidening};
 
 use crate::covering::covers_origin;
+use crate::span::Span;
 use arrayvec::ArrayVec;
-use gb_domain::types::{Abs, Cell, Rules, Val};
+use gb_domain::interval::{StridedInterval, join};
+use gb_domain::types::{Abs, Cell, Origin, Rules, Val};
+use gb_domain::values::interval_of;
 
 /// The state with other cells. All else stays.
 fn with_cells(state: &Abs, cells: ArrayVec<Cell, 64>) -> Abs
@@ -131,17 +134,36 @@ pub fn without_cells(state: &Abs, first: u16, last: u16) -> Abs
     dropped(state, first, last)
 }
 
-/// The least interval that holds both values; a copy of what both are copies of.
-fn widened(val: Val, other: Val) -> Val
-    ensures { result ≡ widened val other }
+/// What both are copies of.
+fn common_origin(from: Option<Origin>, to: Option<Origin>) -> Option<Origin>
+    ensures { result ≡ common_origin from to }
 {
+    if covers_origin(from, to) { to } else { None }
+}
+
+/// A value with the bounds and low bits of an interval.
+fn of_interval(interval: StridedInterval, origin: Option<Origin>) -> Val
+    ensures { result ≡ of_interval interval origin }
+{
+    Val {
+        lo: interval.lo,
+        hi: interval.hi,
+        low_bits: interval.count,
+        origin,
+    }
+}
+
+/// The least interval that holds both values, by the rules of version 4 with the low bits that all of them have; a copy of what both
+/// are copies of.
+fn widened(is_whole: bool, val: Val, other: Val) -> Val
+    ensures { result ≡ widened is_whole val other }
+{
+    let origin = common_origin(val.origin, other.origin);
+    if is_whole {
+        return of_interval(join(interval_of(val), interval_of(other)), origin);
+    }
     let lo = if other.lo < val.lo { other.lo } else { val.lo };
     let hi = if val.hi < other.hi { other.hi } else { val.hi };
-    let origin = if covers_origin(val.origin, other.origin) {
-        other.origin
-    } else {
-        None
-    };
     Val {
         lo,
         hi,
@@ -150,37 +172,37 @@ fn widened(val: Val, other: Val) -> Val
     }
 }
 
-fn widened_at(first: u16, last: u16, val: Val, cell: Cell) -> Cell
-    ensures { result ≡ widened_at first last val cell }
+fn widened_at(is_whole: bool, span: Span, val: Val, cell: Cell) -> Cell
+    ensures { result ≡ widened_at is_whole span val cell }
 {
-    if first <= cell.address && cell.address <= last {
+    if span.counts(cell.address) {
         Cell {
             address: cell.address,
-            val: widened(cell.val, val),
+            val: widened(is_whole, cell.val, val),
         }
     } else {
         cell
     }
 }
 
-/// The state where the cells from first to last may hold another value too.
+/// The state where the cells at addresses that count may hold another value too.
 #[tactic(auto, unfolding(crate::specs::Cells::widened_cells))]
-fn widened_or_same(state: &Abs, first: u16, last: u16, val: Val) -> Abs
-    ensures { result ≡ record state.now { cells = widened_cells first last val state.now.cells } }
+fn widened_or_same(state: &Abs, is_whole: bool, span: Span, val: Val) -> Abs
+    ensures { result ≡ record state.now { cells = widened_cells is_whole span val state.now.cells } }
 {
     let mut cells = ArrayVec::new();
     for cell in state.cells() {
-        cells.push(widened_at(first, last, val, *cell));
+        cells.push(widened_at(is_whole, span, val, *cell));
     }
     with_cells(state, cells)
 }
 
-/// One of the bytes from first to last gets a value: each of their cells may hold it too.
+/// One of the bytes at the addresses that count gets a value: each of their cells may hold it too.
 #[tactic(auto, using(crate::proofs::WideningLaws::widened_sound, crate::proofs::WideningLaws::widened_ordered))]
-pub fn widened_cells(state: &Abs, first: u16, last: u16, val: Val) -> Abs
-    ensures exact { result ≡ record state.now { cells = widened_cells first last val state.now.cells } }
-    ensures sound { IsSoundWidening first last val state.now result }
+pub fn widened_cells(state: &Abs, is_whole: bool, span: Span, val: Val) -> Abs
+    ensures exact { result ≡ record state.now { cells = widened_cells is_whole span val state.now.cells } }
+    ensures sound { IsSoundWidening span val state.now result }
     ensures ordered { IsWideningInOrder val state.now.cells result.cells }
 {
-    widened_or_same(state, first, last, val)
+    widened_or_same(state, is_whole, span, val)
 }

@@ -50,17 +50,34 @@ pub fn item_at(setting: Setting, core: &Core, state: &Abs, address: u16) -> Opti
     item_or_none(setting, core, state, address)
 }
 
-#[tactic(auto, unfolding(crate::specs::Located::sp_halves))]
-fn halves_of_sp(setting: Setting, state: &Abs) -> Halves
-    ensures { result ≡ Located.sp_halves setting state.now }
+/// SP as a pair, which lies within bounds: known where that is one address.
+fn halves_within(bounds: Bounds) -> Halves
+    ensures { result ≡ Located.halves_within bounds }
 {
-    match stack_base(setting, state.core()) {
+    if bounds.first == bounds.last {
+        Halves {
+            high: single((bounds.first / 256) as u8),
+            low: single((bounds.first % 256) as u8),
+        }
+    } else {
+        Halves {
+            high: any(),
+            low: any(),
+        }
+    }
+}
+
+/// SP as a pair, where it isn't put aside.
+fn halves_by(base: Option<u16>, count: u8) -> Halves
+    ensures { result ≡ Located.halves_by base count }
+{
+    match base {
         None => Halves {
             high: any(),
             low: any(),
         },
         Some(base) => {
-            let sp = base.saturating_sub(state.items().len() as u16);
+            let sp = base.saturating_sub(u16::from(count));
             Halves {
                 high: single((sp / 256) as u8),
                 low: single((sp % 256) as u8),
@@ -69,7 +86,17 @@ fn halves_of_sp(setting: Setting, state: &Abs) -> Halves
     }
 }
 
-/// SP as a pair: known where the base is and SP is where the items say.
+#[tactic(auto, unfolding(crate::specs::Located::sp_halves))]
+fn halves_of_sp(setting: Setting, state: &Abs) -> Halves
+    ensures { result ≡ Located.sp_halves setting state.now }
+{
+    match state.summary().aside() {
+        None => halves_by(stack_base(setting, state.core()), state.items().len() as u8),
+        Some(bounds) => halves_within(bounds),
+    }
+}
+
+/// SP as a pair: known where the base is and SP is where the items end, or where it is put aside at one address.
 #[tactic(auto, using(crate::proofs::LocatedLaws::halves_sound))]
 pub fn sp_halves(setting: Setting, state: &Abs) -> Halves
     ensures exact { result ≡ Located.sp_halves setting state.now }
@@ -78,19 +105,29 @@ pub fn sp_halves(setting: Setting, state: &Abs) -> Halves
     halves_of_sp(setting, state)
 }
 
-#[tactic(auto, unfolding(crate::specs::Located::sp_bounds))]
-fn bounds_of_sp(setting: Setting, state: &Abs) -> Bounds
-    ensures { result ≡ Located.sp_bounds setting state.now }
+/// The bounds of SP, where it isn't put aside.
+fn bounds_by(base: Option<u16>, count: u8) -> Bounds
+    ensures { result ≡ Located.bounds_by base count }
 {
-    match stack_base(setting, state.core()) {
+    match base {
         None => ANY_BOUNDS,
         Some(base) => {
-            let sp = base.saturating_sub(state.items().len() as u16);
+            let sp = base.saturating_sub(u16::from(count));
             Bounds {
                 first: sp,
                 last: sp,
             }
         }
+    }
+}
+
+#[tactic(auto, unfolding(crate::specs::Located::sp_bounds))]
+fn bounds_of_sp(setting: Setting, state: &Abs) -> Bounds
+    ensures { result ≡ Located.sp_bounds setting state.now }
+{
+    match state.summary().aside() {
+        None => bounds_by(stack_base(setting, state.core()), state.items().len() as u8),
+        Some(bounds) => bounds,
     }
 }
 

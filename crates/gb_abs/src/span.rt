@@ -1,15 +1,18 @@
 //! The addresses that an access may meet, as one interval.
 
 ghost use Rattle.std.specs.Prelude.{◌≡◌, ◌≤◌};
-ghost use Rattle.gb_abs.specs.Span.{one, pair_span, is_one, is_inside, may_meet};
+ghost use Rattle.gb_abs.specs.Span.{one, pair_span, is_one, is_inside, may_meet, counts};
 
+use gb_domain::LowBits;
+use gb_domain::low_bits::{are_congruent, none};
 use gb_domain::types::Val;
 
-/// Addresses, the last one included.
+/// Addresses, the last one included. Where several may be stored to, only those count that have the low bits.
 #[derive(Clone, Copy, PartialEq, Eq)]
 pub struct Span {
     pub first: u16,
     pub last: u16,
+    pub low: LowBits,
 }
 
 impl Span {
@@ -20,6 +23,7 @@ impl Span {
         Span {
             first: address,
             last: address,
+            low: none(),
         }
     }
 
@@ -31,6 +35,7 @@ impl Span {
         Span {
             first: u16::from_be_bytes([high.lo, low.lo]),
             last: u16::from_be_bytes([high.hi, low.hi]),
+            low: none(),
         }
     }
 
@@ -39,6 +44,15 @@ impl Span {
         ensures { result ≡ is_one self }
     {
         self.first == self.last
+    }
+
+    /// Whether an address is one of them, and has the low bits.
+    pub fn counts(self, address: u16) -> bool
+        ensures { result ≡ counts self address }
+    {
+        self.first <= address
+            && address <= self.last
+            && are_congruent(self.low.count, address, self.low.bits.into())
     }
 
     /// Whether all addresses lie from first to last.

@@ -17,6 +17,7 @@ use Rattle.gb_domain.specs.Rules.{IsVal, IsFlg, IsCore, may_be_any}
 use Rattle.gb_abs.specs.Below.gb_vals.Meaning.{In, FlagsIn}
 use Rattle.gb_abs.specs.Span.{IsIn, pair_span}
 use Rattle.gb_abs.specs.Meaning.{Activation, Holds, HoldsFlags, MeansCore, ime_may_be}
+use Rattle.gb_abs.proofs.SpanLaws.{Has-none}
 use Rattle.gb_abs.proofs.OperationLaws.{set_both, set_one}
 use Rattle.gb_abs_effects.specs.Transfer.{with_flags, with_ime}
 
@@ -51,7 +52,7 @@ IsIn-pair high low entry a b h l =
     let q : a ≤ high.hi = h.most in
     let r : low.lo ≤ b = l.least in
     let s : b ≤ low.hi = l.most in
-    record { first = omega arith; last = omega arith }
+    record { first = omega arith; last = omega arith; low = Has-none (word a b) }
 
 -- ---- the meaning of a core
 

@@ -25,11 +25,9 @@ use Rattle.gb_abs.proofs.OperationLaws.{Holds-single}
 use Rattle.gb_abs_effects.specs.declared.reads.AbsRead.{AbsRead}
 use Rattle.gb_abs_effects.specs.Accesses.{hl_span, indirect_span, high_span, operand_read, read_of}
 use Rattle.gb_abs_effects.specs.Sound.{HasBytes, HoldsRead, IsReadAt, IsSoundRead}
+use Rattle.gb_abs.proofs.SpanLaws.{IsIn-alone}
 use Rattle.gb_abs_effects.proofs.CoreLaws.{IsIn-pair}
 use Rattle.gb_abs_effects.proofs.SideLaws.{is_taken-with, is_taken-without}
-
-pub IsIn-one : (a : ℕ) → IsIn (one a) a
-IsIn-one a = record { first = omega arith; last = omega arith }
 
 pub IsIn-hl : (s : Core) (entry : Activation) (x : MState) → MeansCore s entry x → IsIn (hl_span s) (Effects.hl x.processor)
 unfolding hl_span pair_value
@@ -71,9 +69,9 @@ HoldsRead-read_of (op.ReturnIf c) s entry x l h m taken =
 HoldsRead-read_of op.Return s entry x l h m taken = refl
 HoldsRead-read_of op.ReturnFromInterrupt s entry x l h m taken = refl
 HoldsRead-read_of (op.Pop pair) s entry x l h m taken = refl
-HoldsRead-read_of (op.LoadHigh b) s entry x l h m taken = IsIn-one (0xFF00 + b)
+HoldsRead-read_of (op.LoadHigh b) s entry x l h m taken = IsIn-alone (0xFF00 + b)
 HoldsRead-read_of op.LoadHighC s entry x l h m taken = IsIn-high s entry x m
-HoldsRead-read_of (op.LoadAbsolute w) s entry x l h m taken = IsIn-one w
+HoldsRead-read_of (op.LoadAbsolute w) s entry x l h m taken = IsIn-alone w
 HoldsRead-read_of (op.Shift how which) s entry x l h m taken = HoldsRead-operand which s entry x x.processor.sp m
 HoldsRead-read_of (op.Bit n which) s entry x l h m taken = HoldsRead-operand which s entry x x.processor.sp m
 HoldsRead-read_of (op.Reset n which) s entry x l h m taken = HoldsRead-operand which s entry x x.processor.sp m

@@ -41,7 +41,8 @@ use Rattle.gb_abs_effects.proofs.CoreLaws.{MeansCore-at, MeansCore-ime}
 use Rattle.gb_abs_effects.proofs.PairLaws.{HoldsWord, HoldsWord-known, MeansCore-with_pair, MeansCore-with_stack_pair, HoldsWord-stack_pair}
 use Rattle.gb_abs_effects.proofs.OperandLaws.{Follows-store_operand, Follows-change_a, Follows-change_flags, Follows-test_operand}
 use Rattle.gb_abs_effects.proofs.AluLaws.{Follows-immediate, Follows-apply_alu}
-use Rattle.gb_abs_effects.proofs.ReadLaws.{IsIn-one, IsIn-indirect, IsIn-high, untaken-reads}
+use Rattle.gb_abs.proofs.SpanLaws.{IsIn-alone}
+use Rattle.gb_abs_effects.proofs.ReadLaws.{IsIn-indirect, IsIn-high, untaken-reads}
 use Rattle.gb_abs_effects.proofs.SideLaws.{is_taken-without}
 use Rattle.gb_abs_effects.proofs.TargetLaws.{sp-small}
 use Rattle.gb_abs_effects.proofs.InstructionLaws.{Follows-moved, a-byte, Follows-pushed, Follows-loaded, MeansCore-with_indirect, Follows-next, Follows-previous, Follows-add_hl, Follows-add_sp, Follows-load_hl, enabled-holds, Follows-increment, Follows-decrement, Follows-shift, Follows-reset, Follows-set, Follows-load, Follows-only_if}
@@ -130,13 +131,13 @@ Follows-transfer whole (op.CallIf c w) next sp s low high entry x l h bytes is i
 Follows-transfer whole (op.Call w) next sp s low high entry x l h bytes is is_low going b = Follows-call s entry x next w b.pc b.core
 Follows-transfer whole (op.Restart w) next sp s low high entry x l h bytes is is_low going b = Follows-call s entry x next w b.pc b.core
 Follows-transfer whole (op.StoreHigh n) next sp s low high entry x l h bytes is is_low going b =
-    record { core = b.core; write = (IsIn-one (0xFF00 + n), b.core.registers A, a-byte s entry x is b.core) }
+    record { core = b.core; write = (IsIn-alone (0xFF00 + n), b.core.registers A, a-byte s entry x is b.core) }
 Follows-transfer whole (op.LoadHigh n) next sp s low high entry x l h bytes is is_low going b = Follows-loaded s entry x low l b.low_read b.core
 Follows-transfer whole op.StoreHighC next sp s low high entry x l h bytes is is_low going b =
     record { core = b.core; write = (IsIn-high s entry x b.core, b.core.registers A, a-byte s entry x is b.core) }
 Follows-transfer whole op.LoadHighC next sp s low high entry x l h bytes is is_low going b = Follows-loaded s entry x low l b.low_read b.core
 Follows-transfer whole (op.StoreAbsolute w) next sp s low high entry x l h bytes is is_low going b =
-    record { core = b.core; write = (IsIn-one w, b.core.registers A, a-byte s entry x is b.core) }
+    record { core = b.core; write = (IsIn-alone w, b.core.registers A, a-byte s entry x is b.core) }
 Follows-transfer whole (op.LoadAbsolute w) next sp s low high entry x l h bytes is is_low going b = Follows-loaded s entry x low l b.low_read b.core
 Follows-transfer whole (op.AddSp e8) next sp s low high entry x l h bytes is is_low going b = Follows-add_sp e8 sp s entry x (record { high = b.sp_high; low = b.sp_low }) b.core
 Follows-transfer whole (op.LoadHlSp e8) next sp s low high entry x l h bytes is is_low going b = Follows-load_hl e8 sp s entry x (record { high = b.sp_high; low = b.sp_low }) b.core

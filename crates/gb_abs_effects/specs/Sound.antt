@@ -49,11 +49,12 @@ HasBytes _ = Unit {0}
 
 -- ---- reads
 
--- the machine, with its stack pointer at sp, reads one of the addresses, or the word on top of the stack
+-- the machine, with its stack pointer at sp, reads one of the addresses, the word on top of the stack, or a word at one of the addresses
 abbrev pub HoldsRead : AbsRead → ℕ → Read → Type 0
 HoldsRead read.Nothing sp machine_read.Nothing = Unit {0}
 HoldsRead (read.Byte span) sp (machine_read.Byte a) = IsIn span a
 HoldsRead read.Top sp (machine_read.Word a) = a ≡ sp
+HoldsRead (read.Word span) sp (machine_read.Word a) = IsIn span a
 HoldsRead _ sp _ = ⊥
 
 -- where the instruction is taken, the machine reads what is said
@@ -66,6 +67,7 @@ pub record IsSoundRead (o : Op) (s : Core) (what : AbsRead) : Type 0 where
 -- what is read lies at addresses
 abbrev pub IsReadAt : AbsRead → Type 0
 IsReadAt (read.Byte span) = span.last < 65536
+IsReadAt (read.Word span) = span.last < 65536
 IsReadAt _ = Unit {0}
 
 -- ---- sides

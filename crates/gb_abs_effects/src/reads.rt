@@ -18,6 +18,8 @@ pub enum AbsRead {
     Byte(Span),
     /// The word on top of the stack.
     Top,
+    /// A word, its low byte at one of these addresses and its high byte behind it.
+    Word(Span),
 }
 
 /// The addresses that HL may name.

@@ -17,6 +17,7 @@ use Rattle.gb_domain.specs.declared.setting.Setting.{Setting}
 use Rattle.gb_domain.specs.Rules.{IsVal, IsCtl, IsCore}
 use Rattle.gb_abs.specs.declared.span.Span.{Span}
 use Rattle.gb_abs.specs.Span.{IsIn, one, may_meet}
+use Rattle.gb_abs.proofs.SpanLaws.{Has-none}
 use Rattle.gb_abs_memory.specs.declared.windows.ControllerRegister.{ControllerRegister}
 use Rattle.gb_abs_memory.specs.declared.windows.ControllerRegister.TheVariants as register
 use Rattle.gb_abs_memory.specs.declared.windows.Window.{Window}
@@ -185,7 +186,7 @@ pub store_meets_closed_ram-stored :
     → store_meets_closed_ram rom (stored_state z region k (one a) v s).core (one ((a + 1) % 65536)) w ≡ store_meets_closed_ram rom s.core (one ((a + 1) % 65536)) w
 store_meets_closed_ram-stored z rom region k a v s w =
     met-is rom (stored_state z region k (one a) v s).core (one ((a + 1) % 65536)) w
-    ∙ choose (gate-stored z region k (one a) v s a (record { first = omega arith; last = omega arith }))
+    ∙ choose (gate-stored z region k (one a) v s a (record { first = omega arith; last = omega arith; low = Has-none a }))
     ∙ sym (met-is rom s.core (one ((a + 1) % 65536)) w)
   where
     choose :

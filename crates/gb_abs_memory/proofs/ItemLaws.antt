@@ -1,5 +1,5 @@
 -- What a store makes of the bytes of the stack: they stand for the bytes that are there after it.
-use Rattle.std.proofs.Common.{◌≡◌, ℕ, zero, suc, ◌-◌, ◌≤◌, ◌<◌, Bool, true, false, ◌==◌, if◌then◌else◌, cond, List, [], ◌∷◌, ◌++◌, length, drop, replicate, slice_get, Option, Some, None, refl, sym, ap, subst, arith, length-append, length-drop}
+use Rattle.std.proofs.Common.{◌≡◌, ℕ, zero, suc, ◌-◌, ◌≤◌, ◌<◌, Bool, true, false, ◌&&◌, ◌==◌, if◌then◌else◌, cond, List, [], ◌∷◌, ◌++◌, length, drop, replicate, slice_get, Option, Some, None, refl, sym, ap, subst, arith, length-append, length-drop}
 use Rattle.std.proofs.lemmas.List.{length-replicate}
 use Rattle.std.proofs.lemmas.Bool.Decides.{nat_tests}
 use Rattle.gb_ops.specs.declared.machine.Region.{Region}
@@ -12,16 +12,18 @@ use Rattle.gb_domain.specs.declared.rules.Rules.{Rules}
 use Rattle.gb_domain.specs.declared.rules.Rules.TheVariants.{Simple, Extended}
 use Rattle.gb_domain.specs.declared.setting.Setting.{Setting}
 use Rattle.gb_domain.specs.Areas.{IsRegion, meets}
+use Rattle.gb_domain.specs.LowBits.{are_congruent}
 use Rattle.gb_domain.specs.Settings.{known_base, IsBase}
 use Rattle.gb_abs.specs.Below.gb_vals.Vals.{any_val}
 use Rattle.gb_abs.specs.declared.span.Span.{Span}
-use Rattle.gb_abs.specs.Span.{IsIn, is_one}
+use Rattle.gb_abs.specs.Span.{IsIn, is_one, counts}
 use Rattle.gb_abs.specs.Storage.{is_ram, peek}
 use Rattle.gb_abs.specs.Located.{base_by, stack_base}
 use Rattle.gb_abs.specs.Meaning.{Activation, Holds, AreItems, IsMemory}
 use Rattle.gb_abs.specs.Poked.{IsPoked}
 use Rattle.gb_abs.specs.Stack.{AreInRegion}
 use Rattle.gb_abs.proofs.CoveringLaws.{Holds-any}
+use Rattle.gb_abs.proofs.SpanLaws.{apart-from}
 use Rattle.gb_abs.proofs.StorageLaws.{AreItems-poked, meets-inside, region_in_ram}
 use Rattle.gb_abs_memory.specs.Items.{items_below, items_by, items_under, items_stored}
 
@@ -73,6 +75,14 @@ base_is z core base b right h = by_rules z.rules core.stack_set h
 outside_region : (region : Region) (span : Span) (b : ℕ) → meets region span.first span.last ≡ false → region.first ≤ b → b ≤ region.last → is_within span.first span.last b ≡ false
 outside_region region span b h low high = grind (arith, nat_tests)
 
+-- an address outside the span doesn't count
+none_counts : (span : Span) (a : ℕ) → is_within span.first span.last a ≡ false → counts span a ≡ false
+none_counts span a h = ap (λ b. b && are_congruent span.low.count a span.low.bits) h
+
+within_of : (b c : Bool) → (b && c) ≡ true → b ≡ true
+within_of true c h = refl
+within_of false c h = cc
+
 -- ---- which they are
 
 -- by the rules of versions 1 and 2 the items stay
@@ -95,7 +105,7 @@ slice_get-below :
 slice_get-below top span v [] i h = refl
 slice_get-below top span v (item ∷ items) zero h =
     let first : top - 1 - zero ≡ top - 1 = omega arith in
-    let outside : is_within span.first span.last (top - 1) ≡ false = subst (λ b. is_within span.first span.last b ≡ false) first h in
+    let outside : counts span (top - 1) ≡ false = none_counts span (top - 1) (subst (λ b. is_within span.first span.last b ≡ false) first h) in
     ap (λ b. Some (cond b v item)) outside
 slice_get-below top span v (item ∷ items) (suc i) h =
     let same : top - 1 - 1 - i ≡ top - 1 - suc i = omega arith in
@@ -119,7 +129,7 @@ items_below-apart region top span v [] apart room = refl
 items_below-apart region top span v (item ∷ items) apart room =
     let first = room.first in
     let last = room.last in
-    let outside : is_within span.first span.last (top - 1) ≡ false = outside_region region span (top - 1) apart (omega arith) (omega arith) in
+    let outside : counts span (top - 1) ≡ false = none_counts span (top - 1) (outside_region region span (top - 1) apart (omega arith) (omega arith)) in
     let rest : items_below (top - 1) span v items ≡ items = items_below-apart region (top - 1) span v items apart (record { first = omega arith; last = omega arith }) in
     rw (outside, rest) refl
 
@@ -140,16 +150,10 @@ items_stored-apart z region span v core items base right apart room = by_rules z
 
 -- ---- what they stand for
 
-apart_from : (span : Span) (a b : ℕ) → IsIn span a → is_within span.first span.last b ≡ false → (b == a) ≡ false
-apart_from span a b i h =
-    let low = i.first in
-    let high = i.last in
-    grind (arith, nat_tests)
-
 -- a byte is stored to one of the addresses: where the value stands for what is then at each of them, each item stands for its byte
 AreItems-below :
     (region : Region) (items : List Val) (entry : Activation) (top a n : ℕ) (span : Span) (v : Val) (s t : Storage)
-    → IsPoked a n s t → IsIn span a → ((b : ℕ) → is_within span.first span.last b ≡ true → Holds v entry (peek t b))
+    → IsPoked a n s t → IsIn span a → ((b : ℕ) → counts span b ≡ true → Holds v entry (peek t b))
     → IsRegion region → AreInRegion region top (length items) → AreItems items entry top s → AreItems (items_below top span v items) entry top t
 AreItems-below region [] entry top a n span v s t p i met r room h = tt
 AreItems-below region (item ∷ items) entry top a n span v s t p i met r room h =
@@ -157,22 +161,25 @@ AreItems-below region (item ∷ items) entry top a n span v s t p i met r room h
     let last = room.last in
     let low : region.first ≤ top - 1 = omega arith in
     let high : top - 1 ≤ region.last = omega arith in (
-      here (is_within span.first span.last (top - 1)) refl (region_in_ram region (top - 1) r low high),
+      here (counts span (top - 1)) refl (region_in_ram region (top - 1) r low high),
       AreItems-below region items entry (top - 1) a n span v s t p i met r (record { first = omega arith; last = omega arith }) h.1,
     )
   where
-    here : (b : Bool) → is_within span.first span.last (top - 1) ≡ b → is_ram (top - 1) ≡ true → Holds (cond b v item) entry (peek t (top - 1))
+    here : (b : Bool) → counts span (top - 1) ≡ b → is_ram (top - 1) ≡ true → Holds (cond b v item) entry (peek t (top - 1))
     here true e ram = met (top - 1) e
-    here false e ram = subst (λ m. Holds item entry m) (sym (p.others (top - 1) ram (apart_from span a (top - 1) i e))) h.0
+    here false e ram = subst (λ m. Holds item entry m) (sym (p.others (top - 1) ram (apart-from span a (top - 1) i e))) h.0
+
+only_one : (first last a b : ℕ) → first ≤ a → a ≤ last → (first == last) ≡ true → is_within first last b ≡ true → b ≡ a
+only_one first last a b low high one e = grind (arith, nat_tests)
 
 -- of a store to one address the value is what is there
 one_met :
     (entry : Activation) (a n : ℕ) (span : Span) (v : Val) (s t : Storage) → IsPoked a n s t → IsIn span a → Holds v entry n → is_one span ≡ true
-    → (b : ℕ) → is_within span.first span.last b ≡ true → Holds v entry (peek t b)
+    → (b : ℕ) → counts span b ≡ true → Holds v entry (peek t b)
 one_met entry a n span v s t p i h one b e =
     let low = i.first in
     let high = i.last in
-    let same : b ≡ a = grind (arith, nat_tests) in
+    let same : b ≡ a = only_one span.first span.last a b low high one (within_of _ _ e) in
     subst (λ c. Holds v entry (peek t c)) (sym same) (subst (λ m. Holds v entry m) (sym p.byte) h)
 
 AreItems-any : (items : List Val) (entry : Activation) (top : ℕ) (t : Storage) → IsMemory t → AreItems (replicate (length items) any_val) entry top t

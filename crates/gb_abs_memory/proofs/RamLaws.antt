@@ -2,10 +2,8 @@
 use Rattle.std.proofs.Common.{◌≡◌, ℕ, ◌+◌, Bool, true, false, ◌==◌, cond, List, [], ◌∷◌, length, Some, None, refl, sym, ◌∙◌, ap, subst, arith}
 use Rattle.std.proofs.lemmas.Bool.Decides.{nat_tests}
 use Rattle.gb_ops.specs.declared.machine.Region.{Region}
-use Rattle.gb_ops.specs.Cartridge.{is_within}
 use Rattle.gb_ops.specs.Memory.{Storage}
 use Rattle.gb_ops.specs.Play.{MState}
-use Rattle.gb_domain.specs.declared.types.Origin.{Origin}
 use Rattle.gb_domain.specs.declared.types.Val.{Val}
 use Rattle.gb_domain.specs.declared.types.Cell.{Cell}
 use Rattle.gb_domain.specs.Types.{AbsState}
@@ -16,17 +14,16 @@ use Rattle.gb_domain.specs.Areas.{IsRegion, meets}
 use Rattle.gb_domain.specs.Limits.{cell_room}
 use Rattle.gb_domain.specs.Settings.{IsBase}
 use Rattle.gb_abs.specs.declared.span.Span.{Span}
-use Rattle.gb_abs.specs.Span.{IsIn, one, is_one}
+use Rattle.gb_abs.specs.Span.{IsIn, one, is_one, counts}
 use Rattle.gb_abs.specs.Storage.{is_ram, peek}
-use Rattle.gb_abs.specs.Covering.{covers_origin}
 use Rattle.gb_abs.specs.Cells.{IsPlaced, ArePlaced, with_cell, widened, widened_cells}
 use Rattle.gb_abs.specs.Meaning.{Activation, Holds, MeansParts}
 use Rattle.gb_abs.specs.Poked.{IsPoked}
 use Rattle.gb_abs.specs.Stack.{AreInRegion}
 use Rattle.gb_abs.proofs.CellLaws.{ArePlaced-with_cell, ArePlaced-without_cells}
-use Rattle.gb_abs.proofs.CoveringLaws.{AreCells, origin_from}
+use Rattle.gb_abs.proofs.CoveringLaws.{AreCells}
 use Rattle.gb_abs.proofs.StorageLaws.{MeansCore-storage, MeansParts-with_cell, MeansParts-without_cells, meets-inside, placed_in_ram}
-use Rattle.gb_abs.proofs.WideningLaws.{ArePlaced-widened, MeansParts-widened_cells}
+use Rattle.gb_abs.proofs.WideningLaws.{Holds-widened, ArePlaced-widened, MeansParts-widened_cells}
 use Rattle.gb_abs_memory.specs.Access.{one_stored, several_stored, cells_stored, ram_stored}
 use Rattle.gb_abs_memory.proofs.ItemLaws.{AreItems-stored, length-items_stored}
 
@@ -59,24 +56,14 @@ AreCells-region region (c ∷ cells) entry a n s t p met placed h = (
     differs : (b : ℕ) → meets region b b ≡ false → (b == a) ≡ false
     differs b apart = grind (arith, nat_tests)
 
-Holds-wider : (v w : Val) (entry : Activation) (n : ℕ) → Holds v entry n → Holds (widened v w) entry n
-Holds-wider v w entry n h =
-    let least = h.least in
-    let most = h.most in
-    record { least = grind (arith, nat_tests); most = grind (arith, nat_tests); low = refl; origin = λ o e. h.origin o (kept o (covers_origin v.origin w.origin) refl e) }
-  where
-    kept : (o : Origin) (b : Bool) → covers_origin v.origin w.origin ≡ b → cond b w.origin None ≡ Some o → v.origin ≡ Some o
-    kept o true covers e = origin_from v.origin w.origin o covers e
-    kept o false covers e = absurd (let bad : None ≡ Some o = e in cc)
-
-AreCells-wider : (cells : List Cell) (entry : Activation) (first last : ℕ) (v : Val) (s : Storage) → AreCells cells entry s → AreCells (widened_cells first last v cells) entry s
+AreCells-wider : (whole : Bool) (cells : List Cell) (entry : Activation) (span : Span) (v : Val) (s : Storage) → AreCells cells entry s → AreCells (widened_cells whole span v cells) entry s
 unfolding widened_cells
-AreCells-wider [] entry first last v s h = tt
-AreCells-wider (c ∷ cells) entry first last v s h = (wider (is_within first last c.address), AreCells-wider cells entry first last v s h.1)
+AreCells-wider whole [] entry span v s h = tt
+AreCells-wider whole (c ∷ cells) entry span v s h = (wider (counts span c.address), AreCells-wider whole cells entry span v s h.1)
   where
     wider : (b : Bool)
-        → Holds (cond b (record { address = c.address; val = widened c.val v }) c).val entry (peek s (cond b (record { address = c.address; val = widened c.val v }) c).address)
-    wider true = Holds-wider c.val v entry (peek s c.address) h.0
+        → Holds (cond b (record { address = c.address; val = widened whole c.val v }) c).val entry (peek s (cond b (record { address = c.address; val = widened whole c.val v }) c).address)
+    wider true = Holds-widened whole c.val v entry (peek s c.address) h.0
     wider false = h.0
 
 -- cells stand for their bytes, outside the region
@@ -109,36 +96,42 @@ Stand-one z Extended region s span v entry base x t a n h e = choose (meets regi
 
 Stand-several :
     (z : Setting) (rules : Rules) (region : Region) (s : AbsState) (span : Span) (v : Val) (entry : Activation) (base : ℕ) (x : MState) (t : Storage) (a n : ℕ)
-    → AtRam z region s span v entry base x t a n → z.rules ≡ rules → Stand region (several_stored rules span v s.cells) entry t
+    → AtRam z region s span v entry base x t a n → z.rules ≡ rules → Stand region (several_stored z.is_whole rules span v s.cells) entry t
 Stand-several z Simple region s span v entry base x t a n h e =
     record {
       means = (MeansParts-without_cells region s entry base x t a n span.first span.last h.means h.poked h.at.first h.at.last (h.simple e) h.placed h.room h.is_region).cells;
       placed = ArePlaced-without_cells region span.first span.last s.cells h.placed;
     }
 Stand-several z Extended region s span v entry base x t a n h e =
-    record { means = choose (meets region a a) refl; placed = ArePlaced-widened region span.first span.last v s.cells h.placed }
+    record { means = choose (meets region a a) refl; placed = ArePlaced-widened z.is_whole region span v s.cells h.placed }
   where
-    choose : (b : Bool) → meets region a a ≡ b → AreCells (widened_cells span.first span.last v s.cells) entry t
-    choose true met = AreCells-wider s.cells entry span.first span.last v t (AreCells-region region s.cells entry a n x.storage t h.poked met h.placed h.means.cells)
+    choose : (b : Bool) → meets region a a ≡ b → AreCells (widened_cells z.is_whole span v s.cells) entry t
+    choose true met = AreCells-wider z.is_whole s.cells entry span v t (AreCells-region region s.cells entry a n x.storage t h.poked met h.placed h.means.cells)
     choose false apart =
-        (MeansParts-widened_cells region s entry base x t a n span.first span.last v h.means h.poked h.holds h.at.first h.at.last apart h.placed h.room h.is_region).cells
+        (MeansParts-widened_cells z.is_whole region s entry base x t a n span v h.means h.poked h.holds h.at apart h.placed h.room h.is_region).cells
 
 Stand-stored :
     (z : Setting) (region : Region) (s : AbsState) (span : Span) (v : Val) (entry : Activation) (base : ℕ) (x : MState) (t : Storage) (a n : ℕ)
-    → AtRam z region s span v entry base x t a n → Stand region (cells_stored z.rules region span v s.cells) entry t
+    → AtRam z region s span v entry base x t a n → Stand region (cells_stored z.is_whole z.rules region span v s.cells) entry t
 Stand-stored z region s span v entry base x t a n h = choose (is_one span) refl
   where
-    alone : is_one span ≡ true → span ≡ one a
+    -- where it stands alone its low bits aren't asked
+    same_one : (rules : Rules) → one_stored rules region (record { first = a; last = a; low = span.low }) v s.cells ≡ one_stored rules region (one a) v s.cells
+    same_one Simple = refl
+    same_one Extended = refl
+
+    alone : is_one span ≡ true → one_stored z.rules region span v s.cells ≡ one_stored z.rules region (one a) v s.cells
     alone e =
         let low = h.at.first in
         let high = h.at.last in
         let first : span.first ≡ a = grind (arith, nat_tests) in
         let last : span.last ≡ a = grind (arith, nat_tests) in
-        ap (λ (b : ℕ). record { first = b; last = span.last }) first ∙ ap (λ (b : ℕ). record { first = a; last = b }) last
+        ap (λ (b : ℕ). one_stored z.rules region (record { first = b; last = span.last; low = span.low }) v s.cells) first
+        ∙ (ap (λ (b : ℕ). one_stored z.rules region (record { first = a; last = b; low = span.low }) v s.cells) last ∙ same_one z.rules)
 
-    choose : (one : Bool) → is_one span ≡ one → Stand region (cond one (one_stored z.rules region span v s.cells) (several_stored z.rules span v s.cells)) entry t
+    choose : (one : Bool) → is_one span ≡ one → Stand region (cond one (one_stored z.rules region span v s.cells) (several_stored z.is_whole z.rules span v s.cells)) entry t
     choose true e =
-        subst (λ (at : Span). Stand region (one_stored z.rules region at v s.cells) entry t) (sym (alone e)) (Stand-one z z.rules region s span v entry base x t a n h refl)
+        subst (λ cells. Stand region cells entry t) (sym (alone e)) (Stand-one z z.rules region s span v entry base x t a n h refl)
     choose false e = Stand-several z z.rules region s span v entry base x t a n h refl
 
 -- ---- states

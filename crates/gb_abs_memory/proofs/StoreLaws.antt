@@ -33,6 +33,7 @@ use Rattle.gb_abs.specs.Operations.{with_core}
 use Rattle.gb_abs.specs.Cells.{ArePlaced}
 use Rattle.gb_abs.specs.Stack.{AreInRegion}
 use Rattle.gb_abs.specs.Meaning.{Activation, Holds, KeepsBanks, HoldsLowBank, HoldsController, MeansCore, AreItems, MeansParts, IsMemory}
+use Rattle.gb_abs.proofs.LocationLaws.{located-more}
 use Rattle.gb_abs.proofs.StorageLaws.{region_in_ram, wrote-poked, wrote_ram-starting, wrote_ram-rom}
 use Rattle.gb_abs_memory.specs.declared.windows.ControllerRegister.{ControllerRegister}
 use Rattle.gb_abs_memory.specs.declared.windows.ControllerRegister.TheVariants as register
@@ -151,7 +152,7 @@ MeansParts-others s core entry base x banks ie m set c =
       core = c;
       memory = memory_same x.storage banks ie m.memory;
       sp = m.sp;
-      stack = λ e. m.stack (sym set ∙ e);
+      stack = λ e. m.stack (located-more s.summary.aside s.core.stack_set core.stack_set (λ on. sym set ∙ on) e);
       items = items_same s.items entry base x.storage (with_others x.storage banks ie) (same_bytes x.storage banks ie) m.items;
       cells = cells_same s.cells entry x.storage (with_others x.storage banks ie) (same_bytes x.storage banks ie) m.cells;
     }

@@ -183,20 +183,20 @@ one_stored Extended region span v cells =
     if meets region span.first span.last then cells else with_cell (cell_room Extended) (record { address = span.first; val = v }) cells
 
 -- the cells at several addresses: by the rules of versions 1 and 2 nothing is known of them any more, by those of version 3 they
--- may hold the value too
-abbrev pub several_stored : Rules → Span → Val → List Cell → List Cell
-several_stored Simple span v cells = without_cells span.first span.last cells
-several_stored Extended span v cells = widened_cells span.first span.last v cells
+-- may hold the value too; whole says that the rules are those of version 4
+abbrev pub several_stored : Bool → Rules → Span → Val → List Cell → List Cell
+several_stored whole Simple span v cells = without_cells span.first span.last cells
+several_stored whole Extended span v cells = widened_cells whole span v cells
 
-abbrev pub cells_stored : Rules → Region → Span → Val → List Cell → List Cell
-cells_stored rules region span v cells = if is_one span then one_stored rules region span v cells else several_stored rules span v cells
+abbrev pub cells_stored : Bool → Rules → Region → Span → Val → List Cell → List Cell
+cells_stored whole rules region span v cells = if is_one span then one_stored rules region span v cells else several_stored whole rules span v cells
 
 -- of a store to RAM that may meet items and cells both effects count
 unfoldable pub ram_stored : Setting → Region → Span → Val → AbsState → AbsState
 ram_stored z region span v s =
     record s {
       items = items_stored z region span v s.core s.items;
-      cells = cells_stored z.rules region span v s.cells;
+      cells = cells_stored z.is_whole z.rules region span v s.cells;
     }
 
 abbrev pub stored_in : Setting → Region → Option Area → Kind → Span → Val → AbsState → AbsState

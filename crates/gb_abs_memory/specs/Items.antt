@@ -1,7 +1,6 @@
 -- What a store makes of the bytes of the stack that it may meet (own).
 use Rattle.std.specs.Prelude.{ℕ, ◌-◌, if◌then◌else◌, List, [], ◌∷◌, length, replicate, Option, Some, None}
 use Rattle.gb_ops.specs.declared.machine.Region.{Region}
-use Rattle.gb_ops.specs.Cartridge.{is_within}
 use Rattle.gb_domain.specs.declared.types.Val.{Val}
 use Rattle.gb_domain.specs.declared.types.Core.{Core}
 use Rattle.gb_domain.specs.declared.rules.Rules.{Rules}
@@ -10,14 +9,14 @@ use Rattle.gb_domain.specs.declared.setting.Setting.{Setting}
 use Rattle.gb_domain.specs.Areas.{meets}
 use Rattle.gb_abs.specs.Below.gb_vals.Vals.{any_val}
 use Rattle.gb_abs.specs.declared.span.Span.{Span}
-use Rattle.gb_abs.specs.Span.{is_one}
+use Rattle.gb_abs.specs.Span.{is_one, counts}
 use Rattle.gb_abs.specs.Located.{stack_base}
 
--- the item at an address becomes a value, if the address is one of these
+-- the item at an address becomes a value, if the address is one of those that count
 abbrev pub item_after : Span → Val → ℕ → Val → Val
-item_after span v a item = if is_within span.first span.last a then v else item
+item_after span v a item = if counts span a then v else item
 
--- the items below an address, where each that stands at one of these addresses becomes a value
+-- the items below an address, where each that stands at one of the addresses that count becomes a value
 abbrev pub items_below : ℕ → Span → Val → List Val → List Val
 items_below top span v [] = []
 items_below top span v (item ∷ items) = item_after span v (top - 1) item ∷ items_below (top - 1) span v items

@@ -15,11 +15,7 @@ use gb_ops::machine::Region;
 fn item_after(span: Span, val: Val, address: u16, item: Val) -> Val
     ensures { result ≡ Items.item_after span val address item }
 {
-    if span.first <= address && address <= span.last {
-        val
-    } else {
-        item
-    }
+    if span.counts(address) { val } else { item }
 }
 
 /// The items below an address, where each that stands at one of these addresses becomes a value.

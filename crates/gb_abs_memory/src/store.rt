@@ -161,11 +161,11 @@ fn one_stored(setting: Setting, region: Region, span: Span, val: &Val, state: &A
 /// The state after a store to one of several addresses of RAM: nothing is known of their cells any more, or, by the rules of
 /// version 3, they may hold the value too.
 fn several_stored(setting: Setting, span: Span, val: &Val, state: &Abs) -> Abs
-    ensures { result ≡ record state.now { cells = Access.several_stored setting.rules span val.now state.now.cells } }
+    ensures { result ≡ record state.now { cells = Access.several_stored setting.is_whole setting.rules span val.now state.now.cells } }
 {
     match setting.rules {
         Rules::Simple => without_cells(state, span.first, span.last),
-        Rules::Extended => widened_cells(state, span.first, span.last, *val),
+        Rules::Extended => widened_cells(state, setting.is_whole, span, *val),
     }
 }
 

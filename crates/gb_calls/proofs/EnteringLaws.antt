@@ -205,8 +205,8 @@ Means-taken_over program k kept s entry base begun is f names h =
         core = MeansCore-entered s.core entry begun e h.caller.parts.core;
         memory = h.caller.parts.memory;
         sp = h.caller.parts.sp;
-        stack = λ e. taken_over-pointer k s.items begun.entered.processor.sp base h.few (h.caller.parts.stack h.stack_set);
-        items = taken_over-items k s entry base begun h.few h.stack_set h.caller.parts;
+        stack = λ e. taken_over-pointer k s.items begun.entered.processor.sp base h.few (h.caller.parts.stack h.located);
+        items = taken_over-items k s entry base begun h.few h.located h.caller.parts;
         cells = AreCells-entered program Extended kept s entry base begun begun.entered is names refl h.caller;
       };
       related = h.caller.related;

@@ -4,6 +4,7 @@ use Rattle.std.proofs.lemmas.Bool.{and_parts, or_parts, or_from}
 use Rattle.std.proofs.lemmas.Bool.Decides.{nat_tests}
 use Rattle.std.specs.List.{list_any, list_all}
 use Rattle.gb_ops.specs.declared.machine.Region.{Region}
+use Rattle.gb_domain.specs.LowBits.{no_low_bits}
 use Rattle.gb_domain.specs.declared.setting.Setting.{Setting}
 use Rattle.gb_domain.specs.declared.types.Range.{Range}
 use Rattle.gb_product.specs.Below.gb_abs.Span.{one}
@@ -13,7 +14,7 @@ use Rattle.gb_calls.specs.Calls.{is_in_one, are_ranges_inside}
 
 -- a byte outside a range is outside each that lies in it
 outside-range :
-    (o r : Range) (b : ℕ) → is_range (record { first = r.first; last = r.last }) o ≡ true → is_range (one b) o ≡ false → is_range (one b) r ≡ false
+    (o r : Range) (b : ℕ) → is_range (record { first = r.first; last = r.last; low = no_low_bits }) o ≡ true → is_range (one b) o ≡ false → is_range (one b) r ≡ false
 outside-range o r b inside apart = grind (arith, nat_tests)
 
 outside-one :
@@ -21,10 +22,10 @@ outside-one :
 outside-one [] r b inside apart = cc
 outside-one (o ∷ outer) r b inside apart =
     let p = or_parts (is_range (one b) o) (list_any (is_range (one b)) outer) apart in
-    choose (is_range (record { first = r.first; last = r.last }) o) refl inside p.0 (λ h. outside-one outer r b h p.1)
+    choose (is_range (record { first = r.first; last = r.last; low = no_low_bits }) o) refl inside p.0 (λ h. outside-one outer r b h p.1)
   where
     choose :
-        (t : Bool) → is_range (record { first = r.first; last = r.last }) o ≡ t → (t || is_in_one outer r) ≡ true
+        (t : Bool) → is_range (record { first = r.first; last = r.last; low = no_low_bits }) o ≡ t → (t || is_in_one outer r) ≡ true
         → is_range (one b) o ≡ false → (is_in_one outer r ≡ true → is_range (one b) r ≡ false) → is_range (one b) r ≡ false
     choose true e h here rest = outside-range o r b e here
     choose false e h here rest = rest h

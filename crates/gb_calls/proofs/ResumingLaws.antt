@@ -437,9 +437,9 @@ pub Means-resumed_alone :
     → ComesBack region ranges s exit entry base called x → Means (resumed_alone ranges s exit) entry base x
 unfolding resumed_alone
 Means-resumed_alone region ranges s exit entry base called x h =
-    let stack : called.entered.processor.sp + 2 + length s.items ≡ base = h.caller.parts.stack h.stack_set in
+    let stack : called.entered.processor.sp + 2 + length s.items ≡ base = h.caller.parts.stack h.located in
     let none : length exit.items ≡ 0 = ap length h.exit_items in
-    let back : x.processor.sp + length exit.items ≡ called.entered.processor.sp + 2 = h.exits.parts.stack h.exit_set in
+    let back : x.processor.sp + length exit.items ≡ called.entered.processor.sp + 2 = h.exits.parts.stack h.exit_located in
     let first = h.room.first in
     let last = h.room.last in
     record {
@@ -493,7 +493,7 @@ IsCaller-handed :
     (program : Program) (k : ℕ) (region : Region) (ranges : List Range) (names : List ℕ) (s exit : AbsState) (entry : Activation) (base : ℕ) (called : Activation) (x : MState)
     → HandsBack program k region ranges names s exit entry base called x → IsCaller program names s entry base called
 IsCaller-handed program k region ranges names s exit entry base called x h =
-    record { means = h.begins.caller; stack_set = h.begins.stack_set; program_is = h.caller_program; names = h.names }
+    record { means = h.begins.caller; located = h.begins.located; program_is = h.caller_program; names = h.names }
 
 -- the waiting items stand, the exit's behind them
 pub Means-rejoined :
@@ -507,7 +507,7 @@ Means-rejoined program whole k region ranges names s exit entry base called x h 
     let under : ℕ = base_below k s.items base in
     let back = map (val_back program whole names s) exit.items in
     let count : length back ≡ length exit.items = length-map exit.items (val_back program whole names s) in
-    let left : x.processor.sp + length exit.items ≡ under = h.exits.parts.stack h.exit_set in
+    let left : x.processor.sp + length exit.items ≡ under = h.exits.parts.stack h.exit_located in
     let tells : Tells program whole names s entry called =
     λ e. IsTold-exit program names s entry base called (IsCaller-handed program k region ranges names s exit entry base called x h) in
     let given = IsGiven-back names exit.cells called x.storage h.exits.parts.memory h.exits.parts.cells h.names in

@@ -5,7 +5,7 @@ use Rattle.gb_ops.specs.Memory.{Storage}
 use Rattle.gb_domain.specs.declared.types.Origin.TheVariants.{ReturnHigh, ReturnLow}
 use Rattle.gb_domain.specs.declared.types.Val.{Val}
 use Rattle.gb_domain.specs.Types.{AbsState}
-use Rattle.gb_product.specs.Below.gb_abs.Meaning.{Activation, AreItems, MeansParts}
+use Rattle.gb_product.specs.Below.gb_abs.Meaning.{Activation, AreItems, MeansParts, is_located}
 use Rattle.gb_product.specs.Below.gb_abs.Storage.{peek}
 use Rattle.gb_product.proofs.Below.gb_abs_laws.StorageLaws.{AreItems-same}
 use Rattle.gb_product.specs.Below.gb_abs.Origins.{without_origin}
@@ -56,7 +56,7 @@ waiting-length k items = length-take-le (length items - k) items (omega arith)
 -- what a caller's state means as its callee is entered, the callee's base and items mean too
 pub taken_over-items :
     (k : ℕ) (state : AbsState) (entry : Activation) (base : ℕ) (s : Activation)
-    → k ≤ length state.items → state.core.stack_set ≡ true → MeansParts state entry base s.entered
+    → k ≤ length state.items → is_located state ≡ true → MeansParts state entry base s.entered
     → AreItems (taken_over k state.items) s (base_below k state.items base) s.entered.storage
 unfolding taken_over
 taken_over-items k state entry base s few set m =

@@ -25,7 +25,7 @@ use Rattle.gb_product.specs.Below.gb_vals.Flags.{flags_val}
 use Rattle.gb_product.specs.Below.gb_vals.Strided.{left_of}
 use Rattle.gb_product.specs.Below.gb_vals.Vals.{any_val}
 use Rattle.gb_product.specs.Below.gb_abs.Covering.{covers_origin, cell_at}
-use Rattle.gb_product.specs.Below.gb_abs.Meaning.{Activation, origin_value, Holds, AreItems, IsMemory}
+use Rattle.gb_product.specs.Below.gb_abs.Meaning.{Activation, origin_value, Holds, AreItems, IsMemory, is_located}
 use Rattle.gb_product.specs.Below.gb_abs.Origins.{without_origin, is_own}
 use Rattle.gb_product.specs.Below.gb_abs.Stack.{youngest, last_word}
 use Rattle.gb_product.specs.Below.gb_abs.Storage.{peek}
@@ -46,13 +46,13 @@ use Rattle.gb_calls.specs.Told.{byte_or_any, named, shared, have_some, told_of, 
 -- the caller's state, in the program, means the machine as its callee was entered, which has these kept addresses
 pub record IsCaller (program : Program) (kept : List ℕ) (s : AbsState) (entry : Activation) (base : ℕ) (called : Activation) : Type 0 where
   pub means : Means s entry base called.entered
-  pub stack_set : s.core.stack_set ≡ true
+  pub located : is_located s ≡ true
   pub program_is : entry.program ≡ program
   pub names : called.kept ≡ kept
 
 Holds-return :
     (s : AbsState) (entry : Activation) (base : ℕ) (called : Activation) (o : Option Halves)
-    → Means s entry base called.entered → s.core.stack_set ≡ true → youngest s ≡ o
+    → Means s entry base called.entered → is_located s ≡ true → youngest s ≡ o
     → Holds (word_or_any o).high entry (peek called.entered.storage (called.entered.processor.sp + 1))
     × Holds (word_or_any o).low entry (peek called.entered.storage called.entered.processor.sp)
 Holds-return s entry base called None m set is = (Holds-any entry _ (m.parts.memory.bytes _), Holds-any entry _ (m.parts.memory.bytes _))
@@ -84,9 +84,9 @@ Holds-named program kept s entry base called origin.H x c byte e = subst (Holds 
 Holds-named program kept s entry base called origin.L x c byte e = subst (Holds s.core.registers.l entry) (sym e) (c.means.parts.core.registers register.L)
 Holds-named program kept s entry base called origin.Ie x c byte e = subst (Holds s.core.ie entry) (sym e) c.means.parts.core.ie
 Holds-named program kept s entry base called origin.ReturnHigh x c byte e =
-    subst (Holds (word_or_any (youngest s)).high entry) (sym e) (Holds-return s entry base called (youngest s) c.means c.stack_set refl).0
+    subst (Holds (word_or_any (youngest s)).high entry) (sym e) (Holds-return s entry base called (youngest s) c.means c.located refl).0
 Holds-named program kept s entry base called origin.ReturnLow x c byte e =
-    subst (Holds (word_or_any (youngest s)).low entry) (sym e) (Holds-return s entry base called (youngest s) c.means c.stack_set refl).1
+    subst (Holds (word_or_any (youngest s)).low entry) (sym e) (Holds-return s entry base called (youngest s) c.means c.located refl).1
 Holds-named program kept s entry base called (origin.Kept i) x c byte e =
     subst (Holds (byte_or_any program s (slice_get kept i)) entry) (sym e) (Holds-kept program kept s entry base called i (slice_get kept i) c refl)
 Holds-named program kept s entry base called origin.MarkHigh x c byte e = Holds-any entry x byte

@@ -2,6 +2,7 @@
 use Rattle.std.specs.Prelude.{ℕ, ◌+◌, ◌-◌, Bool, true, false, ◌&&◌, ◌||◌, ◌==◌, nat_le, List, [], ◌∷◌, length, map, slice_get, Option, Some, None}
 use Rattle.std.specs.List.{list_any, list_all}
 use Rattle.gb_ops.specs.declared.registers.Registers.{Registers}
+use Rattle.gb_domain.specs.LowBits.{no_low_bits}
 use Rattle.gb_domain.specs.declared.types.Origin.TheVariants as origin
 use Rattle.gb_domain.specs.declared.types.Val.{Val}
 use Rattle.gb_domain.specs.declared.types.Cell.{Cell}
@@ -130,7 +131,7 @@ callee_of program cert z a s = entry_behind_main program cert z a s cert.procedu
 
 -- the range lies in one of the others
 abbrev pub is_in_one : List Range → Range → Bool
-is_in_one outer r = list_any (is_range (record { first = r.first; last = r.last })) outer
+is_in_one outer r = list_any (is_range (record { first = r.first; last = r.last; low = no_low_bits })) outer
 
 -- each range of the callee lies in one of the caller's
 unfoldable pub are_ranges_inside : List Range → List Range → Bool

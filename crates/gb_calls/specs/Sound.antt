@@ -21,7 +21,7 @@ use Rattle.gb_product.specs.Below.gb_relations.Transfer.{values_of}
 use Rattle.gb_product.specs.Below.gb_abs.Cells.{ArePlaced}
 use Rattle.gb_product.specs.Meaning.{Means, IsApart}
 use Rattle.gb_product.specs.Below.gb_summaries.Elsewhere.{AreFreeFacts, IsFree}
-use Rattle.gb_product.specs.Below.gb_abs.Meaning.{Activation}
+use Rattle.gb_product.specs.Below.gb_abs.Meaning.{Activation, is_located}
 use Rattle.gb_product.specs.Below.gb_abs.Stack.{AreInRegion}
 use Rattle.gb_product.specs.Below.gb_abs.Storage.{peek}
 use Rattle.gb_abs_memory.specs.Kept.{keeps, IsKept}
@@ -38,7 +38,7 @@ without_word x = record x { processor = with_sp x.processor (x.processor.sp + 2)
 -- s was left by a call, the return word being two of its items, and the callee takes k of them over
 pub record IsCalled (k : ℕ) (s : AbsState) (entry : Activation) (base : ℕ) (x : MState) : Type 0 where
   pub few : k ≤ length s.items
-  pub stack_set : s.core.stack_set ≡ true
+  pub located : is_located s ≡ true
   pub caller : Means s entry base x
 
 -- x is the machine as a callee begins, whose caller is in s but for the return word at SP, or, by the rules of version 3, with it
@@ -68,9 +68,9 @@ pub record ComesBack (region : Region) (ranges : List Range) (s exit : AbsState)
   pub apart : AllByRecursion (λ r. meets region r.first r.last ≡ false) ranges
   pub placed : ArePlaced region s.cells
   pub room : AreInRegion region base (length s.items + 2)
-  pub stack_set : s.core.stack_set ≡ true
+  pub located : is_located s ≡ true
   pub caller : Means s entry base (without_word called.entered)
-  pub exit_set : exit.core.stack_set ≡ true
+  pub exit_located : is_located exit ≡ true
   pub exit_items : exit.items ≡ []
   pub exit_core : IsCore exit.core
   pub exits : Means exit called (called.entered.processor.sp + 2) x
@@ -92,7 +92,7 @@ pub record HandsBack (program : Program) (k : ℕ) (region : Region) (ranges : L
   pub callee : Setting
   pub keeps : keeps callee ≡ true
   pub callee_base : IsBase callee (base_below k s.items base)
-  pub exit_set : exit.core.stack_set ≡ true
+  pub exit_located : is_located exit ≡ true
   pub exit_core : IsCore exit.core
   pub exits : Means exit called (base_below k s.items base) x
   pub caller_program : entry.program ≡ program

@@ -29,6 +29,8 @@ mod told;
 pub use resuming::{Resumed, Return};
 
 // What lies below, for the crates above.
+pub use gb_abs_memory;
+pub use gb_cert;
 pub use gb_cert::{Cert, CertFault, Found, NodeRef, ProcedureRef, StateRef, test_alone};
 pub use gb_domain::low_bits::are_congruent;
 pub use gb_domain::summary::{BankShadows, Shadows, Summary};

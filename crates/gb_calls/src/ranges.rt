@@ -3,6 +3,7 @@
 ghost use Rattle.std.specs.Prelude.{◌≡◌};
 ghost use Rattle.gb_calls.specs.Calls as Calls;
 
+use gb_domain::low_bits::none;
 use gb_domain::types::Range;
 use gb_product::Span;
 
@@ -13,6 +14,7 @@ fn is_in_one(outer: &[Range], inner: &Range) -> bool
     let span = Span {
         first: inner.first,
         last: inner.last,
+        low: none(),
     };
     outer
         .iter()

@@ -7,7 +7,7 @@ use gb_command_line::messages::{FileNames, tell_output, verify};
 use gb_command_line::status::Status;
 use gb_command_line::symbols::{read_symbols, tell_symbols};
 use gb_command_line::{Cert, Rom, Trouble, read_cartridge, read_certificate};
-use gb_refine::{Changes, Older, Symbols, changes_json};
+use gb_page::{Changes, Older, Symbols, changes_json};
 use std::alloc::{AllocError, Global};
 use std::io::Input;
 use std::rt::{Clock, Files};

@@ -8,7 +8,7 @@ use gb_hunt::{
     WatchedRun, keys_at, lowest_fault, replayed, seconds_of, trace_fault, watch_line,
 };
 use gb_ops::machine::{CodePlace, Region};
-use gb_refine::{Crash, CrashFinding, Symbols};
+use gb_page::{Crash, CrashFinding, Symbols};
 use std::alloc::{AllocError, Global};
 use std::rt::Files;
 use std::{fmt, str};

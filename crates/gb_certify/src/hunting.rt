@@ -7,7 +7,7 @@ use crate::words::CertifyTask;
 use gb_command_line::{Rom, Trouble, shown_name};
 use gb_hunt::{Console, FoundStack, Hunt, find_stack, shorten};
 use gb_ops::machine::{CodePlace, Region};
-use gb_refine::{CrashFinding, Finding, Symbols};
+use gb_page::{CrashFinding, Finding, Symbols};
 use std::alloc::{AllocError, Global};
 use std::rt::{Clock, Files};
 

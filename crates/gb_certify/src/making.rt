@@ -11,10 +11,8 @@ use gb_command_line::status::Status;
 use gb_command_line::{
     Outcome, Plain, Rom, Trouble, UpgradeTo, Upgraded, upgrade_bytes, verify_bytes,
 };
-use gb_refine::{
-    CrashFinding, Finding, Made, Older, SearchLimits, ShownFinding, Symbols, crash_json,
-    finding_json, make,
-};
+use gb_page::{CrashFinding, Finding, Older, ShownFinding, Symbols, crash_json, finding_json};
+use gb_refine::{Made, SearchLimits, make};
 use std::io;
 use std::rt::{Clock, Files};
 

@@ -1,7 +1,7 @@
 //! What the program alone says on standard error.
 
 use gb_command_line::{Rom, shown_name};
-use gb_refine::color_note;
+use gb_page::color_note;
 use std::io;
 
 /// The program's name, in its messages.

@@ -14,7 +14,7 @@ use gb_command_line::status::Status;
 use gb_command_line::symbols::{read_symbols, tell_symbols};
 use gb_command_line::words::{explain, tell_words, words_of};
 use gb_command_line::{Trouble, is_input, read_cartridge};
-use gb_refine::{Older, SymbolFault, Symbols};
+use gb_page::{Older, SymbolFault, Symbols};
 use std::alloc::{AllocError, Global};
 use std::io::Input;
 use std::rt::{Clock, Env, Files};

@@ -6,7 +6,8 @@ use crate::words::CertifyTask;
 use gb_command_line::messages::{tell_output, verify};
 use gb_command_line::status::Status;
 use gb_command_line::{Cert, Rom, Trouble, read_certificate, shown_name};
-use gb_refine::{Listing, Made, Symbols, explain};
+use gb_page::{Listing, Symbols, explain};
+use gb_refine::Made;
 use std::io::Input;
 use std::rt::{Clock, Files};
 

@@ -11,10 +11,11 @@ use crate::words::CertifyTask;
 use gb_command_line::messages::verify;
 use gb_command_line::status::Status;
 use gb_command_line::{Cert, Rom, Trouble, read_certificate};
-use gb_refine::{
-    Changes, Extras, Finding, FindingsExtras, Made, Older, Symbols, crash_json, facts_json,
-    finding_json, findings_page, page_of,
+use gb_page::{
+    Changes, Extras, Finding, FindingsExtras, Older, Symbols, crash_json, facts_json, finding_json,
+    findings_page, page_of,
 };
+use gb_refine::Made;
 use std::alloc::{AllocError, Global};
 use std::fmt;
 use std::io::Input;

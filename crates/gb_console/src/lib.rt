@@ -26,5 +26,5 @@ pub use gb_verify::verify::{Outcome, certificate_line, verify_bytes};
 pub use gb_verify::{
     Abs, Answer, Cell, Cert, CertFault, Core, Ctl, Flg, ImeSet, KeptBanks, May, NodeRef, OneByte,
     Origin, ProcedureRef, Program, Range, Reason, Relations, Rules, Setting, Span, Test, Val,
-    callee, check_irqs, check_node, covered_at, covers, enter, resume, successors_of,
+    callee, check_irqs, check_node, covered_at, covers, enter, gb_calls, resume, successors_of,
 };

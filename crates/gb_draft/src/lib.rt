@@ -27,7 +27,7 @@ pub use gb_fixpoint::{
     Abs, AbsRead, AbsWrite, Cell, Cert, Core, Ctl, Fact, Flg, INTERRUPT_COUNT, KnownRegisters, May,
     NOTHING_KNOWN, OneByte, Origin, PADDING, PairFacts, Pairs, Program, Range, Relations, Resumed,
     Rom, Rules, Span, Stack, Successor, Successors, Target, Val, Verdict, any, callee_at, check,
-    check_irqs, check_node, covers, covers_core, enter, exit_of, handler, is_ram, kept_of,
+    check_irqs, check_node, covers, covers_core, enter, exit_of, gb_ops, handler, is_ram, kept_of,
     known_bytes, left_by_dispatch, limits, may_come, program_of, ranges_of, resume, stack_of,
     successors_of, taken_by, vector_of,
 };

@@ -36,6 +36,8 @@ pub use text::{BadLine, LineFault, read_events, write_events};
 // What lies below, for the crates above.
 pub use gb_hunt::{
     Console, CountedIn, Ending, FaultyRun, FoundStack, Hunt, HuntProgress, KeyWords, PressedKeys,
-    Progress, RunOutcome, WatchOutcome, Watched, certificate_line, find_stack, header_bytes,
-    no_fault_line, play_again, put_all, run_bytes, shorten, show_bytes, trace_fault, watch_bytes,
+    Progress, RunOutcome, WatchOutcome, Watched, certificate_line, find_stack, gb_trace,
+    header_bytes, no_fault_line, play_again, put_all, run_bytes, shorten, show_bytes, trace_fault,
+    watch_bytes,
 };
+pub use gb_plain;

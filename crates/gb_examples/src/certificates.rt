@@ -2,7 +2,9 @@
 
 use gb_cert::{Cert, CertFault};
 use gb_samples::cartridges::{PLAIN, put, small};
-use gb_samples::certificates::{least, least_in_version_2, least_in_version_3, two_procedures};
+use gb_samples::certificates::{
+    least, least_in_version_2, least_in_version_3, small_in_version_4, two_procedures,
+};
 use gb_samples::programs::LOOP;
 use gb_text::kept_bytes::KeptBytes;
 use gb_text::sink::{OutFault, Sink};
@@ -36,6 +38,16 @@ node 0 procedure 0 address 0100 bank 000\n\
 node 1 procedure 0 address 0101 bank 000\n\
 node 2 procedure 0 address 0150 bank 000\n";
 
+/// The lines of a certificate of version 4, with a fact and a kept byte.
+const FOURTH: &[u8] = b"\
+stack DF00..DFFF procedures 2 nodes 2\n\
+fact C000..C0F0 step 16 values 00..03 low bits 0\n\
+procedure 0 entry 0 base E000 need 3 ranges 0 returns no\n\
+procedure 1 entry 1 base 0000 need 4 ranges 1 returns no\n\
+procedure 1 keeps 1 mark 2\n\
+node 0 procedure 0 address 0100 bank 000\n\
+node 1 procedure 1 address 0150 bank 000\n";
+
 /// Shows a certificate, by its bytes and as it is read from them.
 fn shows(alloc: Global, bytes: &[u8], lines: &[u8]) -> Result<bool, Fail> {
     let mut out = KeptBytes::new(7, 1_000);
@@ -54,6 +66,7 @@ fn lines_of_each_version(rt: HostRuntime) -> Result<(), Fail> {
     let mut third = least_in_version_3();
     put(&mut third, 20, &[0x03]);
     assert!(rt; shows(rt.alloc(), &third, THIRD)?);
+    assert!(rt; shows(rt.alloc(), &small_in_version_4(), FOURTH)?);
     Ok(())
 }
 

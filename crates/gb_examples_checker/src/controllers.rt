@@ -72,7 +72,13 @@ fn register_of(kind: Kind, at: Span) -> Option<Option<ControllerRegister>> {
 #[test]
 fn finds_windows(rt: HostRuntime) {
     for (kind, first, last, register) in WINDOWS {
-        let found = register_of(kind, Span { first, last });
+        let found = register_of(
+            kind,
+            Span {
+                last,
+                ..Span::one(first)
+            },
+        );
         assert!(rt; found == register, "{first:x} to {last:x}");
     }
     assert!(rt; windows(Kind::Mbc5).len() == 5);

@@ -71,7 +71,10 @@ const RANGES: [Range; 3] = [
 ];
 
 fn span(first: u16, last: u16) -> Span {
-    Span { first, last }
+    Span {
+        last,
+        ..Span::one(first)
+    }
 }
 
 /// A cartridge with 30, 10 and 20 (hexadecimal) at 0200, and 77 at the start of bank 1.

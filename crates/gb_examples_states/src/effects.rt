@@ -481,7 +481,11 @@ fn is_read(read: AbsRead, want: Reads) -> bool {
     match want {
         Reads::Nothing => read == AbsRead::Nothing,
         Reads::Top => read == AbsRead::Top,
-        Reads::Bytes(first, last) => read == AbsRead::Byte(Span { first, last }),
+        Reads::Bytes(first, last) => read
+            == AbsRead::Byte(Span {
+                last,
+                ..Span::one(first)
+            }),
     }
 }
 
@@ -493,8 +497,8 @@ fn reads_are_where_the_machine_may_read(rt: HostRuntime) {
         assert!(rt; is_read(read_of(op, &core), want), "row {i}");
     }
     let at = Span {
-        first: 0xFF80,
         last: 0xFF90,
+        ..Span::one(0xFF80)
     };
     writes(
         &rt,
@@ -508,8 +512,8 @@ fn reads_are_where_the_machine_may_read(rt: HostRuntime) {
 fn changes_bytes(rt: HostRuntime) {
     let core = entered();
     let at_hl = Span {
-        first: 0x0000,
         last: 0xFFFF,
+        ..Span::one(0x0000)
     };
     // What (HL) held goes up by one and back; C stays, H is either.
     let read = Halves {

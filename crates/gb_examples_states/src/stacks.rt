@@ -1,5 +1,6 @@
 //! Bytes of the stack, where they stand, and cells, by the rules of version 3.
 
+use gb_abs::Span;
 use gb_abs::bytes::{append_bytes, resize, take_bytes};
 use gb_abs::cells::{widened_cells, with_cell};
 use gb_abs::covering::cell_at;
@@ -7,6 +8,7 @@ use gb_abs::located::{item_at, sp_bounds, sp_halves};
 use gb_abs::stack::{pop, push};
 use gb_abs_effects::transfer::{Inputs, transfer_in};
 use gb_abs_effects::writes::{AbsWrite, quiet};
+use gb_domain::low_bits::{low_bits, none};
 use gb_domain::types::{Abs, Core, Halves, Rules, Setting, Val};
 use gb_ops::op::{Op, Register};
 use gb_samples::states::{ANY, copy_of, entered, from_to};
@@ -257,12 +259,42 @@ fn cells_are_widened(rt: HostRuntime) {
         state = with_cell(Rules::Extended, &state, address, val(origin, bounds));
     }
     let stored = copy_of(Register::A, 0x05, 0x0F);
-    let widened = widened_cells(&state, 0xC000, 0xC0FF, stored);
+    let span = Span {
+        first: 0xC000,
+        last: 0xC0FF,
+        low: none(),
+    };
+    let widened = widened_cells(&state, false, span, stored);
     for (address, _, _, origin, bounds) in WIDENED {
         let held = cell_at(address, widened.cells());
         assert!(rt; held == val(origin, bounds), "{address:x}");
     }
     assert!(rt; widened.cells().len() == 5);
+}
+
+/// By the rules of version 4 a cell keeps the low bits that all its values have, and cells stay at addresses that don't count.
+#[test]
+fn widened_cells_keep_common_low_bits(rt: HostRuntime) {
+    let mut state = Abs::new(entered());
+    for address in [0xC000, 0xC001] {
+        state = with_cell(Rules::Extended, &state, address, single(4));
+    }
+    let span = Span {
+        first: 0xC000,
+        last: 0xC0FF,
+        low: low_bits(1, 0),
+    };
+    let stored = Val {
+        low_bits: 3,
+        ..from_to(0, 8)
+    };
+    let widened = widened_cells(&state, true, span, stored);
+    let joined = Val {
+        low_bits: 2,
+        ..from_to(0, 8)
+    };
+    assert!(rt; cell_at(0xC000, widened.cells()) == joined);
+    assert!(rt; cell_at(0xC001, widened.cells()) == single(4));
 }
 
 /// The 64th cell finds room, and the 65th doesn't.

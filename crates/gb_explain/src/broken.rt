@@ -2,9 +2,9 @@
 
 use crate::said::{ShownAddresses, ShownBytes};
 use crate::unshown::any_of;
-use gb_domain::values::interval_of;
-use gb_domain::{Fact, StridedInterval, Val};
-use gb_ram_bounds::facts::has_address;
+use gb_verify::gb_domain::values::interval_of;
+use gb_verify::gb_domain::{Fact, StridedInterval, Val};
+use gb_verify::gb_ram_bounds::facts::has_address;
 use gb_verify::{AbsWrite, Program, Span, Successor, covers_val};
 use std::fmt;
 

@@ -3,7 +3,7 @@
 ghost use Rattle.std.specs.Prelude.{◌<◌};
 
 use crate::gap::{Amount, GapKind, Gaps, TooDeep};
-use gb_ops::op::{Op, Pair};
+use gb_verify::gb_ops::op::{Op, Pair};
 use gb_verify::{Abs, Cert, Program, Rules, Successor, callee_at, need_of, setting_of, taken_by};
 
 /// So many bytes that are held, where they are more than the procedure needs or than a state can hold.

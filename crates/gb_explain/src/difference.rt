@@ -2,10 +2,10 @@
 
 use crate::said::{ShownAddresses, ShownBytes, ShownFill};
 use crate::together::fmt_relations;
-use gb_domain::values::interval_of;
-use gb_domain::{Fill, StridedInterval};
-use gb_ops::machine::Kind;
-use gb_ops::op::Register;
+use gb_verify::gb_domain::values::interval_of;
+use gb_verify::gb_domain::{Fill, StridedInterval};
+use gb_verify::gb_ops::machine::Kind;
+use gb_verify::gb_ops::op::Register;
 use gb_verify::{Bounds, ImeSet, KeptBanks, May, Origin, Relations, Val};
 use std::fmt;
 

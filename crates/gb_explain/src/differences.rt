@@ -10,11 +10,11 @@ ghost use Rattle.gb_explain.specs.Noted.{IsNoted};
 use crate::difference::{KnownPart, StateDifference, StatePart};
 use crate::together::{compared, compared_with, is_test_alone};
 use crate::unshown::{Unshown, unshown_of};
-use gb_domain::interval::bounds;
-use gb_domain::values::interval_of;
-use gb_ops::machine::Kind;
-use gb_ops::op::Register;
-use gb_ops::registers::Registers;
+use gb_verify::gb_domain::interval::bounds;
+use gb_verify::gb_domain::values::interval_of;
+use gb_verify::gb_ops::machine::Kind;
+use gb_verify::gb_ops::op::Register;
+use gb_verify::gb_ops::registers::Registers;
 use gb_verify::{
     Abs, Cell, Core, Ctl, Flg, KeptBanks, May, Origin, Program, Relations, Rules, States, Val,
     byte_of, covers_ime, covers_may, covers_origin, covers_relations, covers_said, covers_val,

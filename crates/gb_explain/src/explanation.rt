@@ -3,11 +3,11 @@
 ghost use Rattle.std.specs.Prelude.{◌≡◌, ◌<◌, length, slice_get, Some};
 ghost use Rattle.gb_verify.specs.Below.gb_domain.Types.{Node};
 
-use crate::code::Code;
 use crate::gap::Gaps;
 use crate::gaps::gaps_of;
 use crate::reasons::advice_on;
-use gb_verify::{Cert, Reason, Rom};
+use gb_spelling::Code;
+use gb_verify::{Cert, Reason, Rom, known_byte, known_bytes, program_of};
 use std::fmt;
 
 /// A refused node with its place, its instruction and the reason. It prints some lines, the last without its end: the place and
@@ -38,12 +38,17 @@ impl Explanation {
         let node = cert.node(number);
         let state = node.state();
         let address = node.address();
+        let program = program_of(rom, cert);
         Explanation {
             node: number,
             procedure: node.procedure(),
             address,
             bank: node.bank(),
-            code: Code::at(rom, &state, address),
+            code: Code::of(
+                known_bytes(&program, rom, &state, address),
+                known_byte(&program, rom, &state, address),
+                address,
+            ),
             reason,
             gaps: gaps_of(rom, cert, &node, reason),
         }

@@ -7,8 +7,8 @@ use crate::depth::{call_gaps, moved_gaps};
 use crate::gap::{After, Gaps, GoesOn};
 use crate::interrupts::interrupt_gaps;
 use crate::returns::return_gaps;
-use gb_ops::decode::decode;
-use gb_ops::op::Row;
+use gb_verify::gb_ops::decode::decode;
+use gb_verify::gb_ops::op::Row;
 use gb_verify::{
     Abs, Cert, NodeRef, Program, Reason, Rom, Successor, Successors, Target, known_bytes,
     program_of, stack_of, successors_of,
@@ -123,10 +123,10 @@ fn depth_gaps(
 /// reason is.
 pub fn gaps_of(rom: &Rom<'_>, cert: &Cert<'_>, node: &NodeRef<'_>, reason: Reason) -> Option<Gaps> {
     let state = node.state();
-    let bytes = known_bytes(rom, &state, node.address())?;
+    let program = &program_of(rom, cert);
+    let bytes = known_bytes(program, rom, &state, node.address())?;
     let row = decode(&bytes)?;
     let procedure = node.procedure();
-    let program = &program_of(rom, cert);
     let ways = successors_of(
         stack_of(cert, procedure),
         program,

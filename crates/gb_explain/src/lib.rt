@@ -11,7 +11,6 @@
 pub mod advice;
 mod broken;
 mod calls;
-mod code;
 mod covering;
 mod depth;
 mod difference;
@@ -30,7 +29,6 @@ mod unshown;
 
 pub use advice::Advice;
 pub use broken::BrokenFact;
-pub use code::Code;
 pub use difference::{BankPart, KnownPart, StateDifference, StatePart};
 pub use differences::Differences;
 pub use explanation::Explanation;
@@ -42,7 +40,7 @@ pub use said::{ShownAddresses, ShownBytes, ShownFact, ShownFill, ShownSummary, s
 
 // What lies below, for the crates above.
 pub use gb_spelling::{
-    AFTER_VECTORS, INTERRUPT_COUNT, PADDING, interrupt_at, interrupt_name, vector_of,
+    AFTER_VECTORS, Code, INTERRUPT_COUNT, PADDING, interrupt_at, interrupt_name, vector_of,
 };
 pub use gb_verify::check::check;
 pub use gb_verify::upgrade::{UpgradeTo, Upgraded, upgrade_bytes};

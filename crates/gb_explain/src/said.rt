@@ -2,10 +2,10 @@
 
 use crate::difference::{bank_part, bank_text};
 use crate::together::{BETWEEN, REGISTERS};
-use gb_domain::interval::bounds;
-use gb_domain::{Bounds, Fact, Fill, FillEnd, Reach, Shadows, StridedInterval, Summary};
-use gb_ops::machine::Kind;
-use gb_ops::op::Pointer;
+use gb_verify::gb_domain::interval::bounds;
+use gb_verify::gb_domain::{Bounds, Fact, Fill, FillEnd, Reach, Shadows, StridedInterval, Summary};
+use gb_verify::gb_ops::machine::Kind;
+use gb_verify::gb_ops::op::Pointer;
 use std::fmt;
 
 /// Bytes, as `$C0..$F8 step 8`.

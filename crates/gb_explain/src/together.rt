@@ -1,7 +1,7 @@
 //! What is known of several parts of a state together, as a person reads it.
 
-use gb_ops::op::Register;
-use gb_ops::registers::Registers;
+use gb_verify::gb_ops::op::Register;
+use gb_verify::gb_ops::registers::Registers;
 use gb_verify::{Bounds, Link, OneByte, Other, PairFacts, Pairs, Relations, Test, WordPair};
 use std::fmt;
 

@@ -4,11 +4,11 @@
 use crate::difference::{KnownPart, StateDifference, StatePart, bank_part};
 use crate::together::REGISTERS;
 use arrayvec::ArrayVec;
-use gb_domain::places::NO_REGISTER;
-use gb_domain::values::interval_of;
-use gb_domain::{BankShadows, Fact, Fill, Shadows, StridedInterval, Summary, Val};
-use gb_ram_bounds::cells::has_cell;
-use gb_ram_bounds::facts::has_address;
+use gb_verify::gb_domain::places::NO_REGISTER;
+use gb_verify::gb_domain::values::interval_of;
+use gb_verify::gb_domain::{BankShadows, Fact, Fill, Shadows, StridedInterval, Summary, Val};
+use gb_verify::gb_ram_bounds::cells::has_cell;
+use gb_verify::gb_ram_bounds::facts::has_address;
 use gb_verify::{Abs, Program, States, byte_of, covers_said, covers_val};
 
 /// What isn't shown: the first of it, and what else there is.

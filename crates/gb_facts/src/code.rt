@@ -1,6 +1,6 @@
 //! Which bytes are code.
 
-use gb_explain::{Abs, NodeRef, Rom, known_bytes};
+use gb_explain::{Abs, NodeRef, Program, Rom, known_bytes};
 use gb_ops::decode::decode;
 use std::alloc::{AllocError, Global};
 
@@ -36,8 +36,8 @@ fn mark(map: &mut [bool], first: usize, length: u8) {
 }
 
 /// How many bytes the instruction at an address has; an unknown one counts as one.
-pub fn length_at(rom: &Rom<'_>, state: &Abs, address: u16) -> u8 {
-    let Some(bytes) = known_bytes(rom, state, address) else {
+pub fn length_at(program: &Program<'_>, rom: &Rom<'_>, state: &Abs, address: u16) -> u8 {
+    let Some(bytes) = known_bytes(program, rom, state, address) else {
         return 1;
     };
     match decode(&bytes) {
@@ -88,9 +88,15 @@ impl CodeMap {
     }
 
     /// Marks a node's instruction.
-    pub(crate) fn mark_node(&mut self, rom: &Rom<'_>, node: &NodeRef<'_>, state: &Abs) {
+    pub(crate) fn mark_node(
+        &mut self,
+        program: &Program<'_>,
+        rom: &Rom<'_>,
+        node: &NodeRef<'_>,
+        state: &Abs,
+    ) {
         let address = node.address();
-        let length = length_at(rom, state, address);
+        let length = length_at(program, rom, state, address);
         let place = usize::from(address);
         if place < RAM {
             let first = BANK * usize::from(node.bank()) + place % BANK;

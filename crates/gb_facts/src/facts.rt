@@ -4,7 +4,7 @@ use crate::code::{CodeMap, CodeRun};
 use crate::depth::{Bound, StackStep, settle, steps_from};
 use crate::link::{CallLink, Links, add_links};
 use crate::procedure::{ProcedureFacts, all_declared, count_node};
-use gb_explain::{Cert, Rom, Verdict, check};
+use gb_explain::{Cert, Rom, Verdict, check, program_of};
 use gb_ops::machine::Region;
 use std::alloc::{AllocError, Global};
 
@@ -48,7 +48,9 @@ fn gather_node(
     }
     let node = cert.node(number);
     let state = node.state();
-    gathered.map.mark_node(rom, &node, &state);
+    gathered
+        .map
+        .mark_node(&program_of(rom, cert), rom, &node, &state);
     count_node(&mut gathered.procedures, number, &node, &state);
     add_links(rom, cert, number, &node, &state, &mut gathered.links)
 }

@@ -160,10 +160,10 @@ fn call_at(
     node: &NodeRef<'_>,
     state: &Abs,
 ) -> Option<CallLink> {
-    let bytes = known_bytes(rom, state, node.address())?;
+    let program = program_of(rom, cert);
+    let bytes = known_bytes(&program, rom, state, node.address())?;
     let row = decode(&bytes)?;
     let caller = node.procedure();
-    let program = program_of(rom, cert);
     let stack = stack_of(cert, caller);
     let ways = successors_of(stack, &program, rom, row, node.address(), state);
     call_of(&program, cert, caller, number, &ways.taken)

@@ -51,10 +51,10 @@ fn target_in(
 
 /// The node to which a node's jump or call leads: the first one at the address, whatever state it stands for.
 pub fn target_of(rom: &Rom<'_>, cert: &Cert<'_>, node: &NodeRef<'_>, state: &Abs) -> Option<u32> {
-    let bytes = known_bytes(rom, state, node.address())?;
+    let program = program_of(rom, cert);
+    let bytes = known_bytes(&program, rom, state, node.address())?;
     let row = decode(&bytes)?;
     let procedure = node.procedure();
-    let program = program_of(rom, cert);
     let stack = stack_of(cert, procedure);
     let ways = successors_of(stack, &program, rom, row, node.address(), state);
     target_in(&program, cert, procedure, &ways.taken)

@@ -1,11 +1,11 @@
 //! What would come after an access that is refused. A run ends there, so of a loop around it the run knows the first round alone: here
 //! its further rounds are gone through, as if the access were allowed. What is told by this is never part of a certificate.
 
-use crate::bounds::box_of;
-use crate::instruction::decoded;
-use crate::relating::hull;
 use crate::types::{Run, RunNode};
-use gb_verify::{Abs, Span, Successor, Target, WordPair};
+use gb_joining::bounds::box_of;
+use gb_joining::gb_verify::{Abs, Span, Successor, Target, WordPair};
+use gb_joining::instruction::decoded;
+use gb_joining::relating::hull;
 use std::alloc::AllocError;
 
 /// The most instructions that are stepped through.
@@ -65,7 +65,7 @@ impl<'a> Run<'a> {
                     None => here,
                 });
             }
-            if let Ok(row) = decoded(self.rom, &ahead.state, ahead.address) {
+            if let Ok(row) = decoded(&self.program(), self.rom, &ahead.state, ahead.address) {
                 let ways = self.ways_from(node.key.procedure, row, ahead.address, &ahead.state);
                 // The last one is followed first: a branch that is taken.
                 add_way(&ways.not_taken, around, &mut left)?;
@@ -75,6 +75,7 @@ impl<'a> Run<'a> {
         Ok(all.map(|bounds| Span {
             first: bounds.first,
             last: bounds.last,
+            ..Span::one(bounds.first)
         }))
     }
 }

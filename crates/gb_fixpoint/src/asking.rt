@@ -2,13 +2,15 @@
 //! know their base, or that take more of their callers' bytes over. These are decisions of the whole run, so that a run
 //! that needs another one stops, and begins anew under it.
 
-use crate::bounds::bounds_of;
-use crate::cause::Wish;
-use crate::limits::ARGUMENTS;
-use crate::stop::RunStop;
 use crate::types::Run;
-use gb_ops::op::{Indirect, Op, Operand, Pair, Register};
-use gb_verify::{Abs, AbsRead, AbsWrite, Core, Origin, Rules, Span, Successors, Target, WordPair};
+use gb_joining::bounds::bounds_of;
+use gb_joining::cause::Wish;
+use gb_joining::gb_ops::op::{Indirect, Op, Operand, Pair, Register};
+use gb_joining::gb_verify::{
+    Abs, AbsRead, AbsWrite, Core, Origin, Rules, Span, Successors, Target, WordPair,
+};
+use gb_joining::limits::ARGUMENTS;
+use gb_joining::stop::RunStop;
 
 /// The bytes that an instruction takes off the stack.
 fn bytes_taken(op: Op) -> usize {
@@ -69,6 +71,7 @@ fn span_written(write: AbsWrite) -> Option<Span> {
         AbsWrite::Word(address, _, _) => Some(Span {
             first: address,
             last: address.saturating_add(1),
+            ..Span::one(address)
         }),
         AbsWrite::Nothing | AbsWrite::Push { .. } => None,
     }

@@ -1,14 +1,14 @@
 //! Calls and dispatches: procedures are found or made, entered, and resumed behind.
 
-use crate::cause::Cause;
-use crate::code_point::CodePoint;
 use crate::contexts::Context;
-use crate::keys::{ControllerKey, KnownRegisters, NodeKey, ProcedureKey};
 use crate::probing::Arrival;
-use crate::register_set::RegisterSet;
-use crate::stop::RunStop;
 use crate::types::{CallSite, Run, RunProcedure};
-use gb_verify::{Abs, Core, Range, Resumed, Rules};
+use gb_joining::cause::Cause;
+use gb_joining::code_point::CodePoint;
+use gb_joining::gb_verify::{Abs, Core, Range, Resumed, Rules};
+use gb_joining::keys::{ControllerKey, KnownRegisters, NodeKey, ProcedureKey};
+use gb_joining::register_set::RegisterSet;
+use gb_joining::stop::RunStop;
 use std::collections::BTreeSet;
 use std::mem;
 

@@ -1,11 +1,11 @@
 //! What a procedure is entered with beside its caller's registers and memory: its base, and the bytes of its caller's
 //! stack that it takes over.
 
-use crate::cause::Wish;
-use crate::code_point::CodePoint;
-use crate::stop::RunStop;
 use crate::types::Run;
-use gb_verify::{Abs, Rules};
+use gb_joining::cause::Wish;
+use gb_joining::code_point::CodePoint;
+use gb_joining::gb_verify::{Abs, Rules};
+use gb_joining::stop::RunStop;
 
 /// With what part of its caller's stack a procedure begins.
 #[derive(Clone, Copy, PartialEq, Eq)]

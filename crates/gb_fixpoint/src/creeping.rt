@@ -1,14 +1,14 @@
 //! Cells that creep: counters in RAM, whose bounds go on from step to step, each time through all that is run. Such a cell goes
 //! on to the next value that it is compared with or masked by itself, else to an end.
 
-use crate::instruction::decoded;
-use crate::limits::{CREEPS, POINT_STEPS};
-use crate::steps::with_known_bits;
-use crate::stop::RunStop;
 use crate::types::{CellPoint, Creep, Run, RunNode};
 use arrayvec::ArrayVec;
-use gb_ops::op::{Indirect, Op, Operand, Register, StackPair};
-use gb_verify::{Abs, Cell, Val, any, cell_at};
+use gb_joining::gb_ops::op::{Indirect, Op, Operand, Register, StackPair};
+use gb_joining::gb_verify::{Abs, Cell, Val, any, cell_at};
+use gb_joining::instruction::decoded;
+use gb_joining::limits::{CREEPS, POINT_STEPS};
+use gb_joining::steps::with_known_bits;
+use gb_joining::stop::RunStop;
 
 /// Where A comes from, by one instruction.
 #[derive(Clone, Copy)]
@@ -68,7 +68,7 @@ impl<'a> Run<'a> {
         for _ in 0..POINT_STEPS {
             at = self.nodes.get(at)?.via?;
             let node = self.nodes.get(at)?;
-            let Ok(row) = decoded(self.rom, &node.state, node.key.address) else {
+            let Ok(row) = decoded(&self.program(), self.rom, &node.state, node.key.address) else {
                 return None;
             };
             match source_of(row.op, &node.state) {

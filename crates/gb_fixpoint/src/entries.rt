@@ -1,11 +1,11 @@
 //! What nodes enter, for who puts procedures in order.
 
-use crate::code_point::CodePoint;
 use crate::contexts::Context;
-use crate::instruction::decoded;
 use crate::types::Run;
-use gb_spelling::INTERRUPT_COUNT;
-use gb_verify::{Abs, Successor, Target, left_by_dispatch, may_come};
+use gb_joining::code_point::CodePoint;
+use gb_joining::gb_spelling::INTERRUPT_COUNT;
+use gb_joining::gb_verify::{Abs, Successor, Target, left_by_dispatch, may_come};
+use gb_joining::instruction::decoded;
 use std::alloc::AllocError;
 
 /// What a node enters, and where.
@@ -29,7 +29,7 @@ impl<'a> Run<'a> {
         let Some(node) = self.nodes.get(number) else {
             return Ok(all);
         };
-        if let Ok(row) = decoded(self.rom, &node.state, node.key.address) {
+        if let Ok(row) = decoded(&self.program(), self.rom, &node.state, node.key.address) {
             let caller = node.key.procedure;
             let ways = self.ways_from(caller, row, node.key.address, &node.state);
             let taken = self.called_by(caller, &ways.taken);

@@ -1,16 +1,16 @@
 //! What bytes of RAM hold throughout, as far as runs have shown: the candidates for a certificate's facts. A byte that is read begins
 //! with the 0 that most starts clear RAM with. It grows by all that a run was seen to put there, until a run stays within it.
 
-use crate::fact_news::ReadStretch;
-use crate::steps::Steps;
 use crate::types::Run;
-use gb_domain::StridedInterval;
-use gb_domain::interval::{bounds, join, lies_in, low_bits_of, with_low_bits};
-use gb_domain::summary::Fact;
-use gb_ops::machine::Region;
-use gb_ram_bounds::addresses::is_in;
-use gb_ram_bounds::facts::has_address;
-use gb_verify::is_ram;
+use gb_joining::fact_news::ReadStretch;
+use gb_joining::gb_domain::StridedInterval;
+use gb_joining::gb_domain::interval::{bounds, join, lies_in, low_bits_of, with_low_bits};
+use gb_joining::gb_domain::summary::Fact;
+use gb_joining::gb_ops::machine::Region;
+use gb_joining::gb_ram_bounds::addresses::is_in;
+use gb_joining::gb_ram_bounds::facts::has_address;
+use gb_joining::gb_verify::is_ram;
+use gb_joining::steps::Steps;
 use std::alloc::{AllocError, Global};
 use std::collections::BTreeMap;
 

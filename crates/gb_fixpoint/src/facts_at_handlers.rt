@@ -1,13 +1,13 @@
 //! Facts where handlers come. A byte may be beyond its fact for a while, as a counter that is raised and then compared. A handler that
 //! has nothing to do with it is entered with fewer facts, and these come last. For others the fact grows.
 
-use crate::levels::with_level;
-use crate::stop::RunStop;
 use crate::types::Run;
 use arrayvec::ArrayVec;
-use gb_domain::interval::lies_in;
-use gb_domain::values::interval_of;
-use gb_verify::{Abs, Cell};
+use gb_joining::claims::with_level;
+use gb_joining::gb_domain::interval::lies_in;
+use gb_joining::gb_domain::values::interval_of;
+use gb_joining::gb_verify::{Abs, Cell};
+use gb_joining::stop::RunStop;
 
 impl<'a> Run<'a> {
     /// A handler is entered in a state: without the cells that are beyond their facts, and with the facts before those that come last.

@@ -1,25 +1,25 @@
 //! States flow to the nodes of their keys.
 
-use crate::basis::Basis;
-use crate::code_point::CodePoint;
-use crate::configuration::{EntryCells, TargetPlace};
-use crate::covering::is_covered;
-use crate::joining::val_of;
-use crate::keys::{ControllerKey, KnownRegisters, NodeKey};
-use crate::limits::{
-    GROWTHS, HEAD_GROWTHS, PAGES, PAIR_GROWTHS, SIMPLE_GROWTHS, SIMPLE_HEAD_GROWTHS,
-};
 use crate::probing::Arrival;
-use crate::register_set::{REGISTERS, RegisterSet};
-use crate::shadowing::is_bank_shadowed;
-use crate::steps::{Growth, link_in};
-use crate::stop::RunStop;
 use crate::types::{CellValue, Edge, Run, RunNode, Spot};
 use arrayvec::ArrayVec;
-use gb_domain::interval::{bounds, cut};
-use gb_domain::values::interval_of;
-use gb_ops::op::Register;
-use gb_verify::{Abs, Cell, Core, Rules, reduced};
+use gb_joining::basis::Basis;
+use gb_joining::code_point::CodePoint;
+use gb_joining::configuration::{EntryCells, TargetPlace};
+use gb_joining::covering::is_covered;
+use gb_joining::gb_domain::interval::{bounds, cut};
+use gb_joining::gb_domain::values::interval_of;
+use gb_joining::gb_ops::op::Register;
+use gb_joining::gb_verify::{Abs, Cell, Core, Rules, Val, reduced};
+use gb_joining::joining::val_of;
+use gb_joining::keys::{ControllerKey, KnownRegisters, NodeKey};
+use gb_joining::limits::{
+    CODE_AHEAD, GROWTHS, HEAD_GROWTHS, PAGES, PAIR_GROWTHS, SIMPLE_GROWTHS, SIMPLE_HEAD_GROWTHS,
+};
+use gb_joining::register_set::{REGISTERS, RegisterSet};
+use gb_joining::shadowing::is_bank_shadowed;
+use gb_joining::steps::{Growth, link_in};
+use gb_joining::stop::RunStop;
 use std::mem;
 
 impl<'a> Run<'a> {
@@ -172,7 +172,20 @@ impl<'a> Run<'a> {
 
     /// Whether all that is known of registers is part of the key.
     fn is_keyed(&self, place: TargetPlace, core: &Core) -> bool {
-        core.bound != 0 || self.configuration.keyed.contains(&place)
+        core.bound != 0
+            || self.configuration.keyed.contains(&place)
+            || (self.configuration.copied.contains(&place)
+                && (self.is_at_kept(core.registers.d, core.registers.e)
+                    || self.is_at_kept(core.registers.h, core.registers.l)))
+    }
+
+    /// Whether a pointer is known and at a byte that is kept, or soon after one: the bytes of code that follow will be kept.
+    fn is_at_kept(&self, high: Val, low: Val) -> bool {
+        let address = u16::from_be_bytes([high.lo, low.lo]);
+        high.lo == high.hi
+            && low.lo == low.hi
+            && self.configuration.tracked.iter().any(|kept| *kept <= address
+                && address.saturating_sub(*kept) < u16::from(CODE_AHEAD))
     }
 
     /// The registers whose known values are part of the key, and the carry where all are and it is told apart.

@@ -1,161 +1,30 @@
 //! Interrupts. Most of those that may come at a node tell nothing new, which is seen by comparing: no state is made for them.
 
-use crate::bounds::{WORD_PAIRS, facts_of};
-use crate::cause::Cause;
-use crate::code_point::CodePoint;
 use crate::contexts::Context;
-use crate::covering::{are_cells_known, are_items_known};
-use crate::exits::kept_origin;
-use crate::keys::ProcedureKey;
-use crate::register_set::{REGISTERS, RegisterSet};
-use crate::stop::RunStop;
 use crate::types::{Run, RunNode, RunProcedure};
-use gb_ops::machine::Kind;
-use gb_ops::registers::Registers;
-use gb_spelling::{INTERRUPT_COUNT, vector_of};
-use gb_verify::{
+use gb_joining::bounds::{WORD_PAIRS, facts_of};
+use gb_joining::cause::Cause;
+use gb_joining::code_point::CodePoint;
+use gb_joining::covering::{are_cells_known, are_items_known};
+use gb_joining::gb_ops::machine::Kind;
+use gb_joining::gb_ops::registers::Registers;
+use gb_joining::gb_spelling::{INTERRUPT_COUNT, vector_of};
+use gb_joining::gb_verify::{
     Abs, Cell, Core, Ctl, Flg, ImeSet, KeptBanks, Origin, Pairs, Range, Rules, Shadows, States,
     Summary, Val, cell_at, covers_controller, covers_core, covers_ime, covers_relations,
     covers_said, covers_val, left_by_dispatch, may_come,
 };
+use gb_joining::handlers::{
+    entered_core, gives_back_all, has_links, holds_cells, holds_core, holds_summary, is_in,
+    return_word,
+};
+use gb_joining::keys::ProcedureKey;
+use gb_joining::register_set::{REGISTERS, RegisterSet};
+use gb_joining::seen::kept_origin;
+use gb_joining::stop::RunStop;
 
 /// The bytes of a return word.
 const RETURN_WORD: u8 = 2;
-
-/// Each register is a copy of what it holds.
-fn own_registers(registers: &Registers<Val>) -> Registers<Val> {
-    let mut own = *registers;
-    for register in REGISTERS {
-        let origin = Some(Origin::of(register));
-        let val = registers.get(register);
-        own.set(register, Val { origin, ..val });
-    }
-    own
-}
-
-/// What a handler begins with that comes in this core, where no transfer may run.
-fn entered_core(core: &Core) -> Core {
-    Core {
-        ime: ImeSet {
-            off: true,
-            pending: false,
-            on: false,
-        },
-        ctl: Ctl {
-            kept: KeptBanks::all_or_none(true),
-            ..core.ctl
-        },
-        flags: Flg {
-            is_own: true,
-            ..core.flags
-        },
-        ie: Val {
-            origin: Some(Origin::Ie),
-            ..core.ie
-        },
-        registers: own_registers(&core.registers),
-        ..*core
-    }
-}
-
-/// The bytes of a return word, as a handler takes them over.
-fn return_word(address: u16) -> [Val; 2] {
-    let [high, low] = address.to_be_bytes();
-    [
-        Val {
-            lo: high,
-            hi: high,
-            low_bits: 0,
-            origin: Some(Origin::ReturnHigh),
-        },
-        Val {
-            lo: low,
-            hi: low,
-            low_bits: 0,
-            origin: Some(Origin::ReturnLow),
-        },
-    ]
-}
-
-/// Whether registers, flags and IE are given back as they were.
-fn gives_back_all(exit: &Core) -> bool {
-    let are_own = REGISTERS.iter().all(|register| {
-        exit.registers.get(*register).origin == Some(Origin::of(*register))
-    });
-    are_own && exit.flags.is_own && exit.ie.origin == Some(Origin::Ie)
-}
-
-/// Whether a core holds what is left of it by a handler that gives registers, flags and IE back.
-fn holds_core(kind: Kind, core: &Core, exit: &Core) -> bool {
-    (exit.ctl.kept.are_all() || covers_controller(kind, &exit.ctl, &core.ctl))
-        && covers_ime(&exit.ime, &core.ime)
-        && exit.bound <= core.bound
-}
-
-fn has_links(pairs: &Pairs) -> bool {
-    WORD_PAIRS
-        .iter()
-        .any(|pair| facts_of(*pair, pairs).link.is_some())
-}
-
-fn is_in(ranges: &[Range], address: u16) -> bool {
-    ranges
-        .iter()
-        .any(|range| range.first <= address && address <= range.last)
-}
-
-/// Whether what is known of the cells that a handler may write is known behind it.
-fn holds_cells(kept: &[u16], ranges: &[Range], cells: &[Cell], exit: &[Cell]) -> bool {
-    cells.iter().all(|cell| {
-        !is_in(ranges, cell.address) || holds_cell(kept, cell, cell_at(cell.address, exit))
-    })
-}
-
-/// Whether what is known of a cell is known where a handler leaves this of it: also where that is what it was.
-fn holds_cell(kept: &[u16], cell: &Cell, left: Val) -> bool {
-    let own = kept_origin(kept, cell.address);
-    if own.is_some() && left.origin == own {
-        return true;
-    }
-    let left = Val {
-        origin: None,
-        ..left
-    };
-    covers_val(&left, &cell.val)
-}
-
-/// Whether the places that shadow a register of the controller do so behind a handler that gives back all registers, and whether it
-/// keeps that one.
-fn holds_shadows(ranges: &[Range], shadows: &Shadows, exit: &Shadows, is_kept: bool) -> bool {
-    let is_address_held = match (shadows.address, exit.address) {
-        (None, _) => true,
-        (Some(address), Some(left)) => address == left,
-        (Some(address), None) => is_kept && !is_in(ranges, address),
-    };
-    let has_register = REGISTERS
-        .iter()
-        .any(|register| shadows.registers.get(*register));
-    is_address_held && (is_kept || !has_register)
-}
-
-/// Whether what a state says of the whole program is known behind a handler with these ranges and this exit. Where facts or fills hold,
-/// that isn't seen at once.
-fn holds_summary(ranges: &[Range], summary: &Summary, exit: &Abs) -> bool {
-    if summary.is_silent() {
-        return true;
-    }
-    let (shadows, left) = (summary.shadows(), exit.summary().shadows());
-    let kept = exit.core().ctl.kept;
-    summary.level() == 0
-        && summary.fills().is_empty()
-        && holds_shadows(
-            ranges,
-            &shadows.first,
-            &left.first,
-            kept.bank && kept.high_bank,
-        )
-        && holds_shadows(ranges, &shadows.second, &left.second, kept.second)
-}
 
 impl<'a> Run<'a> {
     /// Dispatches each interrupt that may come at a node.

@@ -3,100 +3,29 @@
 //! A cell is an exception from facts, so that a byte may leave its fact for some instructions: it stays until it is within the fact
 //! again. Where such a cell is lost, or a store breaks a fact, the run goes on as if the fact held, and records what it lacks.
 
-use crate::bounds::bounds_of;
-use crate::covering::is_covered;
-use crate::filling::common_fills;
-use crate::limits::FILL_GROWTHS;
-use crate::stop::RunStop;
-use crate::tracking::keep_tracked;
 use crate::types::Run;
 use arrayvec::ArrayVec;
-use gb_domain::StridedInterval;
-use gb_domain::interval::{lies_in, low_bits_of};
-use gb_domain::low_bits::none;
-use gb_domain::summary::{Fact, Fill, Summary};
-use gb_domain::values::interval_of;
-use gb_ops::op::Op;
-use gb_ram_bounds::addresses::is_in;
-use gb_ram_bounds::cells::has_cell;
-use gb_ram_bounds::covering::gives_facts;
-use gb_ram_bounds::{AddressSet, Pointers};
-use gb_verify::{Abs, AbsWrite, Bounds, Cell, Span, Successors, WordPair, any};
+use gb_joining::claims::{fills_at, first_of, is_beyond_fill, pointers_of, raised, with_level};
+use gb_joining::covering::is_covered;
+use gb_joining::filling::{common_fills, fix_fills, offer_fills};
+use gb_joining::gb_domain::StridedInterval;
+use gb_joining::gb_domain::interval::{lies_in, low_bits_of};
+use gb_joining::gb_domain::low_bits::none;
+use gb_joining::gb_domain::summary::{Fact, Fill, Summary};
+use gb_joining::gb_domain::values::interval_of;
+use gb_joining::gb_ops::op::Op;
+use gb_joining::gb_ram_bounds::addresses::is_in;
+use gb_joining::gb_ram_bounds::cells::has_cell;
+use gb_joining::gb_ram_bounds::covering::gives_facts;
+use gb_joining::gb_ram_bounds::{AddressSet, Pointers};
+use gb_joining::gb_verify::{Abs, AbsWrite, Bounds, Cell, Span, Successors, WordPair, any};
+use gb_joining::limits::FILL_GROWTHS;
+use gb_joining::stop::RunStop;
+use gb_joining::tracking::keep_tracked;
 use std::alloc::{AllocError, Global};
 
 /// The most cells of a state.
 const CELLS: usize = 64;
-
-/// The bounds of a state's pointers.
-pub(crate) fn pointers_of(state: &Abs) -> Pointers<Bounds> {
-    let registers = &state.core().registers;
-    let pairs = &state.relations().pairs;
-    let c = registers.c;
-    Pointers {
-        bc: bounds_of(WordPair::Bc, registers, pairs),
-        de: bounds_of(WordPair::De, registers, pairs),
-        hl: bounds_of(WordPair::Hl, registers, pairs),
-        high_c: Bounds {
-            first: u16::from_be_bytes([0xFF, c.lo]),
-            last: u16::from_be_bytes([0xFF, c.hi]),
-        },
-    }
-}
-
-/// So many facts, from the first one on.
-pub(crate) fn first_of(facts: &[Fact], count: u16) -> &[Fact] {
-    match facts.get(..usize::from(count)) {
-        Some(first) => first,
-        None => facts,
-    }
-}
-
-/// The level of a state that says of all facts that it can that they hold.
-fn raised(facts: &[Fact], state: &Abs) -> u16 {
-    let level = state.summary().level();
-    let Some(open) = facts.get(usize::from(level)..) else {
-        return level;
-    };
-    let (cells, fills, pointers) = (state.cells(), state.summary().fills(), pointers_of(state));
-    let known = first_of(facts, level);
-    let mut level = level;
-    for fact in open {
-        if !gives_facts(known, cells, fills, &pointers, cells, &[*fact]) {
-            break;
-        }
-        level = level.saturating_add(1);
-    }
-    level
-}
-
-/// Whether a fill says of a cell's byte what the cell doesn't.
-fn is_beyond_fill(fill: &Fill, cell: &Cell) -> bool {
-    fill.first <= cell.address
-        && cell.address <= fill.last
-        && (cell.val.lo < fill.lo || fill.hi < cell.val.hi)
-}
-
-/// A state's fills, none where its level says all of them.
-fn fills_at(state: &Abs, is_full: bool) -> ArrayVec<Fill, 8> {
-    let mut fills = ArrayVec::new();
-    if !is_full {
-        for fill in state.summary().fills() {
-            let _ = fills.try_push(*fill);
-        }
-    }
-    fills
-}
-
-/// The summary with another level and other fills: those that allow any byte say nothing, and no certificate may have them.
-pub(crate) fn with_level(summary: &Summary, level: u16, fills: ArrayVec<Fill, 8>) -> Summary {
-    let mut telling = ArrayVec::new();
-    for fill in &fills {
-        if fill.lo != 0 || fill.hi != u8::MAX {
-            let _ = telling.try_push(*fill);
-        }
-    }
-    Summary::of_parts(level, telling, summary.shadows(), summary.aside())
-}
 
 impl<'a> Run<'a> {
     /// Whether the run has facts.
@@ -105,12 +34,12 @@ impl<'a> Run<'a> {
     }
 
     /// Whether a state claims all facts but those that come last.
-    pub(crate) fn claims_all(&self, state: &Abs) -> bool {
+    pub fn claims_all(&self, state: &Abs) -> bool {
         usize::from(state.summary().level()) >= self.configuration.early_facts
     }
 
     /// The state keeps the cells that it is to keep, and claims the facts that it can.
-    pub(crate) fn settle(&self, state: &mut Abs) {
+    pub fn settle(&self, state: &mut Abs) {
         if !self.has_facts() {
             keep_tracked(state, self.tracked.as_slice());
             return;
@@ -158,12 +87,7 @@ impl<'a> Run<'a> {
     }
 
     /// A cell of one state is none of a state above it: what it says beyond its fact is recorded.
-    pub(crate) fn give_back(
-        &mut self,
-        from: &[Cell],
-        kept: &[Cell],
-        level: u16,
-    ) -> Result<(), RunStop> {
+    pub fn give_back(&mut self, from: &[Cell], kept: &[Cell], level: u16) -> Result<(), RunStop> {
         for cell in from {
             let value = interval_of(cell.val);
             if !has_cell(kept, cell.address)
@@ -177,7 +101,7 @@ impl<'a> Run<'a> {
     }
 
     /// What the store of a node's instruction breaks of the facts that the node claims is recorded.
-    pub(crate) fn record_broken(
+    pub fn record_broken(
         &mut self,
         number: usize,
         op: Op,
@@ -259,12 +183,7 @@ impl<'a> Run<'a> {
     }
 
     /// The bytes of RAM are recorded that are read.
-    pub(crate) fn record_bytes_read(
-        &mut self,
-        number: usize,
-        op: Op,
-        span: Span,
-    ) -> Result<(), RunStop> {
+    pub fn record_bytes_read(&mut self, number: usize, op: Op, span: Span) -> Result<(), RunStop> {
         let Some(node) = self.nodes.get(number) else {
             return Ok(());
         };
@@ -289,7 +208,7 @@ impl<'a> Run<'a> {
 
 impl<'a> Run<'a> {
     /// A state goes on from a node as if the store had broken no fact of it: what it breaks was recorded.
-    pub(crate) fn hold_level(&self, number: usize, state: &mut Abs) {
+    pub fn hold_level(&self, number: usize, state: &mut Abs) {
         let Some(node) = self.nodes.get(number) else {
             return;
         };
@@ -302,7 +221,7 @@ impl<'a> Run<'a> {
     }
 
     /// A state without the cells that are beyond their facts, and that a state above it doesn't have: what they say is recorded.
-    pub(crate) fn given_back(&mut self, state: &Abs, above: &Abs) -> Result<Abs, RunStop> {
+    pub fn given_back(&mut self, state: &Abs, above: &Abs) -> Result<Abs, RunStop> {
         let level = state.summary().level().min(above.summary().level());
         self.give_back(state.cells(), above.cells(), level)?;
         let mut left = state.copied();
@@ -323,7 +242,7 @@ impl<'a> Run<'a> {
     }
 
     /// A state that was joined from two others gets the fills that both have, and what is lost of cells is recorded.
-    pub(crate) fn join_facts(
+    pub fn join_facts(
         &mut self,
         old: &Abs,
         added: &Abs,
@@ -344,7 +263,7 @@ impl<'a> Run<'a> {
 
     /// A node grows to hold a state, in a run with facts.
     #[inline(never)]
-    pub(crate) fn grow_with_facts(&mut self, number: usize, state: &Abs) -> Result<(), RunStop> {
+    pub fn grow_with_facts(&mut self, number: usize, state: &Abs) -> Result<(), RunStop> {
         let Some(node) = self.nodes.get(number) else {
             return Ok(());
         };
@@ -370,7 +289,7 @@ impl<'a> Run<'a> {
 impl<'a> Run<'a> {
     /// The facts that hold in no state of main, where some of those hold that no state claims: RAM isn't cleared there. At most so many
     /// nodes are asked.
-    pub(crate) fn never_held(&self, alloc: Global, most: usize) -> Result<Vec<Fact>, AllocError> {
+    pub fn never_held(&self, alloc: Global, most: usize) -> Result<Vec<Fact>, AllocError> {
         let mut never = Vec::new(alloc);
         let top = self.top_level();
         let Some(open) = self.configuration.facts.get(usize::from(top)..) else {
@@ -391,7 +310,7 @@ impl<'a> Run<'a> {
     }
 
     /// Whether the run went past no failure and no wish.
-    pub(crate) fn has_met_nothing(&self) -> bool {
+    pub fn has_met_nothing(&self) -> bool {
         self.passed.is_empty() && self.wishes.is_empty() && self.failures.is_empty()
     }
 
@@ -429,5 +348,27 @@ impl<'a> Run<'a> {
     /// Whether some byte is beyond its fact, so that the run claims what doesn't hold.
     pub fn has_broken_facts(&self) -> bool {
         !self.fact_news.grown.is_empty()
+    }
+}
+
+impl<'a> Run<'a> {
+    /// Fills that say nothing yet are offered to a state that arrives before a store through a pointer.
+    pub fn offer_fills(&self, state: &mut Abs, address: u16) {
+        if self.has_facts() && !self.claims_all(state) {
+            offer_fills(
+                &self.program(),
+                self.rom,
+                self.configuration.region,
+                state,
+                address,
+            );
+        }
+    }
+
+    /// The fills of a state in which a procedure returns have no end: its callers see what lies in its ranges alone.
+    pub fn fix_fills(&self, state: &mut Abs) {
+        if self.has_facts() && !state.summary().fills().is_empty() {
+            fix_fills(state);
+        }
     }
 }

@@ -1,18 +1,18 @@
 //! Probing: where the steps of some nodes lead under another configuration. An edit that sends all of them to the same nodes
 //! as before, whatever these are called, tells nothing apart, so that a run under it would end where this one did.
 
-use crate::code_point::CodePoint;
-use crate::configuration::{Configuration, TargetPlace};
-use crate::keys::{NodeKey, ProcedureKey};
-use crate::stop::RunStop;
 use crate::types::Run;
-use gb_verify::Abs;
+use gb_joining::code_point::CodePoint;
+use gb_joining::configuration::{Configuration, TargetPlace};
+use gb_joining::gb_verify::Abs;
+use gb_joining::keys::{NodeKey, ProcedureKey};
+use gb_joining::stop::RunStop;
 use std::alloc::{AllocError, Global};
 use std::collections::{BTreeSet, HashMap};
 
 /// What a step leads to.
 #[derive(Clone, Copy, PartialEq, Eq, Hash)]
-pub(crate) enum Arrival {
+pub enum Arrival {
     Node(NodeKey),
     Procedure(ProcedureKey),
 }
@@ -72,7 +72,12 @@ impl<'a> Run<'a> {
         let before = self.arrivals(nodes.as_slice())?;
         self.configuration = finer;
         let behind = self.arrivals(nodes.as_slice())?;
-        Ok(!are_one_to_one(before.as_slice(), behind.as_slice(), self)?)
+        match (before, behind) {
+            (Some(before), Some(behind)) => {
+                Ok(!are_one_to_one(before.as_slice(), behind.as_slice(), self)?)
+            }
+            _ => Ok(true),
+        }
     }
 
     /// The nodes whose steps lead to places, and those that call targets.
@@ -99,22 +104,24 @@ impl<'a> Run<'a> {
         nodes.iter().copied().collect(self.alloc)
     }
 
-    /// What the steps of nodes lead to, in their order.
-    fn arrivals(&mut self, nodes: &[usize]) -> Result<Vec<Arrival>, AllocError> {
+    /// What the steps of nodes lead to, in their order; None if one is refused, since what comes behind it is told apart only once it
+    /// isn't.
+    fn arrivals(&mut self, nodes: &[usize]) -> Result<Option<Vec<Arrival>>, AllocError> {
         self.probed = Some(Vec::new(self.alloc));
+        let mut is_refused = false;
         for node in nodes {
-            if let Err(RunStop::Memory(error)) = self.step(*node) {
-                return Err(error);
+            match self.step(*node) {
+                Err(RunStop::Memory(error)) => return Err(error),
+                Err(RunStop::Failed(_)) => is_refused = true,
+                _ => {}
             }
         }
-        match self.probed.take() {
-            Some(probed) => Ok(probed),
-            None => Ok(Vec::new(self.alloc)),
-        }
+        let probed = self.probed.take();
+        if is_refused { Ok(None) } else { Ok(probed) }
     }
 
     /// A node goes on behind a callee that it has called before, while it is probed.
-    pub(crate) fn go_behind_probed(
+    pub fn go_behind_probed(
         &mut self,
         number: usize,
         target: CodePoint,

@@ -1,16 +1,16 @@
 //! The instruction at a node, and what a run learns of it.
 
 use crate::asking::known_hl;
-use crate::cause::{Cause, StackMisuse, Wish};
-use crate::instruction::{decoded, refused};
-use crate::limits::CODE_AHEAD;
-use crate::register_set::RegisterSet;
 use crate::stacks::is_settable;
-use crate::steps::Steps;
-use crate::stop::RunStop;
 use crate::types::{CellRead, Run};
-use gb_ops::op::{AluOp, Op, Operand, Pair, Register, Row};
-use gb_verify::{Abs, Rules, Span, known_byte, length_of, reduced};
+use gb_joining::cause::{Cause, StackMisuse, Wish};
+use gb_joining::gb_ops::op::{AluOp, Op, Operand, Pair, Register, Row};
+use gb_joining::gb_verify::{Abs, Rules, Span, known_byte, length_of, reduced};
+use gb_joining::instruction::{decoded, refused};
+use gb_joining::limits::CODE_AHEAD;
+use gb_joining::register_set::RegisterSet;
+use gb_joining::steps::Steps;
+use gb_joining::stop::RunStop;
 
 /// What stands at a node.
 #[derive(Clone, Copy)]
@@ -50,7 +50,7 @@ impl<'a> Run<'a> {
             return Err(Run::failure(number, Cause::Area, RegisterSet::empty()));
         };
         let (address, procedure) = (node.key.address, node.key.procedure);
-        let row = match decoded(self.rom, &node.state, address) {
+        let row = match decoded(&self.program(), self.rom, &node.state, address) {
             Ok(row) => match self.refused_at(procedure, &node.state, address, row.op)? {
                 None => Ok(row),
                 Some(cause) => Err(cause),
@@ -60,7 +60,7 @@ impl<'a> Run<'a> {
         Ok(FoundPoints {
             address,
             procedure,
-            opcode: known_byte(self.rom, &node.state, address),
+            opcode: known_byte(&self.program(), self.rom, &node.state, address),
             row,
         })
     }
@@ -109,7 +109,8 @@ impl<'a> Run<'a> {
         op: Op,
     ) -> Result<Option<Cause>, RunStop> {
         self.ask_before(procedure, state, op)?;
-        Ok(refused(self.rules(), self.rom, state, address, op))
+        let program = self.program();
+        Ok(refused(self.rules(), &program, self.rom, state, address, op))
     }
 
     /// LD SP,n16: by the rules of versions 1 and 2 main's, to the address behind the region; by those of version 3 to an
@@ -222,6 +223,7 @@ fn are_in_one_area(a: u16, b: u16) -> bool {
     let span = Span {
         first: a.min(b),
         last: a.max(b),
+        ..Span::one(a)
     };
     span.is_inside(0xC000, 0xDFFF) || span.is_inside(0xFF80, 0xFFFE)
 }

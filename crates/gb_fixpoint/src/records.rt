@@ -1,9 +1,9 @@
 //! What refinement wants to know of a step's accesses.
 
-use crate::stop::RunStop;
 use crate::types::{CellRead, CellStore, Run, Spot};
-use gb_ops::op::{Op, Register};
-use gb_verify::{AbsRead, AbsWrite, Range, Rules, Span, Successors, Val, is_ram};
+use gb_joining::gb_ops::op::{Op, Register};
+use gb_joining::gb_verify::{Abs, AbsRead, AbsWrite, Range, Rules, Span, Successors, Val, is_ram};
+use gb_joining::stop::RunStop;
 
 /// Where the byte at an address is kept: the echo of work RAM is the same byte.
 fn home_of(address: u16) -> u16 {
@@ -151,5 +151,17 @@ impl<'a> Run<'a> {
                         && (val.lo < cell.val.lo || cell.val.hi < val.hi)))),
             None => false,
         }
+    }
+
+    /// The addresses are recorded that shadow registers of the controller in a state.
+    pub fn record_shadows(&mut self, state: &Abs) -> Result<(), RunStop> {
+        let shadows = state.summary().shadows();
+        if let Some(address) = shadows.first.address {
+            self.shadows.insert(address)?;
+        }
+        if let Some(address) = shadows.second.address {
+            self.shadows.insert(address)?;
+        }
+        Ok(())
     }
 }

@@ -1,21 +1,21 @@
 //! A run from power-up to the fixpoint.
 
-use crate::cause::{Cause, Failure, RunEnd, Wish};
-use crate::code_point::CodePoint;
-use crate::configuration::{Configuration, TargetPlace};
-use crate::fact_news::FactNews;
-use crate::keys::{NodeKey, ProcedureKey};
-use crate::limits::{DEAR_STEPS, MANY_PROCEDURES, RUN_STEPS, STEPS_PAST};
-use crate::ranges::RangeSet;
-use crate::register_set::RegisterSet;
 use crate::stacks::main_base;
-use crate::steps::Steps;
-use crate::stop::RunStop;
 use crate::types::{Run, RunProcedure, Spot, Turn};
 use arrayvec::ArrayVec;
-use gb_ops::op::Register;
-use gb_verify::check::core_at_power_up;
-use gb_verify::{Abs, Rom, Rules, known_bytes};
+use gb_joining::cause::{Cause, Failure, RunEnd, Wish};
+use gb_joining::code_point::CodePoint;
+use gb_joining::configuration::{Configuration, TargetPlace};
+use gb_joining::fact_news::FactNews;
+use gb_joining::gb_ops::op::Register;
+use gb_joining::gb_verify::check::core_at_power_up;
+use gb_joining::gb_verify::{Abs, Rom, Rules, known_bytes};
+use gb_joining::keys::{NodeKey, ProcedureKey};
+use gb_joining::limits::{DEAR_STEPS, MANY_PROCEDURES, RUN_STEPS, STEPS_PAST};
+use gb_joining::ranges::RangeSet;
+use gb_joining::register_set::RegisterSet;
+use gb_joining::steps::Steps;
+use gb_joining::stop::RunStop;
 use std::alloc::{AllocError, Global};
 use std::collections::{BTreeMap, BTreeSet, HashMap, HashSet};
 use std::mem;
@@ -393,7 +393,7 @@ impl<'a> Run<'a> {
     pub fn bytes_at(&self, spot: Spot) -> Option<[u8; 3]> {
         let number = self.nodes_at(spot).first()?;
         let node = self.nodes.get(*number)?;
-        known_bytes(self.rom, &node.state, spot.point.address)
+        known_bytes(&self.program(), self.rom, &node.state, spot.point.address)
     }
 
     /// Whether a register has one value alone in a node.

@@ -1,8 +1,8 @@
 //! The stack of a procedure, as a run sees it.
 
 use crate::types::Run;
-use gb_ops::machine::Region;
-use gb_verify::{Rules, Setting, Stack};
+use gb_joining::gb_ops::machine::Region;
+use gb_joining::gb_verify::{Rules, Setting, Stack};
 
 /// The most bytes that SP may be set below a base.
 const ROOM: u32 = 255;

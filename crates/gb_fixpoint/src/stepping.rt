@@ -1,12 +1,12 @@
 //! One step: a node's instruction is executed, and the interrupts come that may come.
 
-use crate::cause::Cause;
-use crate::refusals::{AtInstruction, refusal};
-use crate::register_set::RegisterSet;
-use crate::stop::RunStop;
 use crate::types::Run;
-use gb_ops::op::Op;
-use gb_verify::{Abs, Rules, Successor, Successors, Target};
+use gb_joining::cause::Cause;
+use gb_joining::gb_ops::op::Op;
+use gb_joining::gb_verify::{Abs, Rules, Successor, Successors, Target};
+use gb_joining::refusals::{AtInstruction, refusal};
+use gb_joining::register_set::RegisterSet;
+use gb_joining::stop::RunStop;
 
 /// The bytes of a return word.
 const RETURN_WORD: usize = 2;

@@ -1,15 +1,15 @@
 //! What a run is made of: nodes, procedures, and what refinement asks of them.
 
-use crate::cause::{Failure, Wish};
-use crate::code_point::CodePoint;
-use crate::configuration::Configuration;
-use crate::fact_news::FactNews;
-use crate::keys::{NodeKey, ProcedureKey};
 use crate::probing::Arrival;
-use crate::ranges::RangeSet;
-use crate::steps::Steps;
 use arrayvec::ArrayVec;
-use gb_verify::{Abs, Rom};
+use gb_joining::cause::{Failure, Wish};
+use gb_joining::code_point::CodePoint;
+use gb_joining::configuration::Configuration;
+use gb_joining::fact_news::FactNews;
+use gb_joining::gb_verify::{Abs, Rom};
+use gb_joining::keys::{NodeKey, ProcedureKey};
+use gb_joining::ranges::RangeSet;
+use gb_joining::steps::Steps;
 use std::alloc::Global;
 use std::collections::{BTreeMap, BTreeSet, HashMap, HashSet};
 
@@ -67,14 +67,14 @@ pub struct CellRead {
 
 /// A value that a cell's byte is compared with, or masked by.
 #[derive(Clone, Copy, PartialEq, Eq, PartialOrd, Ord)]
-pub(crate) struct CellPoint {
+pub struct CellPoint {
     pub cell: u16,
     pub point: u8,
 }
 
 /// A cell of a node, whose bounds go on and on.
 #[derive(Clone, Copy, PartialEq, Eq, PartialOrd, Ord)]
-pub(crate) struct Creep {
+pub struct Creep {
     pub node: usize,
     pub cell: u16,
 }
@@ -98,7 +98,7 @@ pub struct PlacedWord {
 /// before their callers go on, and of one procedure those at lower addresses, so that loops are finished before what
 /// is behind them.
 #[derive(Clone, Copy, PartialEq, Eq, PartialOrd, Ord)]
-pub(crate) struct Turn {
+pub struct Turn {
     /// How many procedures could still be found behind the node's.
     pub rank: usize,
     pub address: u16,
@@ -118,7 +118,7 @@ pub struct RunNode {
     /// None for main's entry.
     pub via: Option<usize>,
     /// Whether it waits in the queue.
-    pub(crate) is_queued: bool,
+    pub is_queued: bool,
 }
 
 impl RunNode {
@@ -140,7 +140,7 @@ pub struct RunProcedure {
     /// What it is said to return with, if it has returned yet.
     pub exit: Option<Abs>,
     /// What it returns with, where more is known than it is said to: by the rules of version 4.
-    pub(crate) exact: Option<Abs>,
+    pub exact: Option<Abs>,
     /// How often its exit grew.
     pub growths: u32,
     /// What it and its callees may write.
@@ -173,7 +173,7 @@ pub struct Run<'a> {
     /// The tracked cells that procedures may read.
     pub reads: BTreeSet<CellRead>,
     /// Cells that were stored to each by itself, as a loop does whose rounds are told apart.
-    pub(crate) copied: BTreeSet<u16>,
+    pub copied: BTreeSet<u16>,
     /// Cells that were stored to each by itself, with a value that says something: of others no state would know anything.
     pub set: BTreeSet<u16>,
     /// The addresses whose bytes shadow a register of the controller in some state, by the rules of version 4.
@@ -200,34 +200,34 @@ pub struct Run<'a> {
     /// What it wants its configuration to say, once for each target.
     pub wishes: Vec<Wish>,
     /// Whether it met a wish after a failure that it went past.
-    pub(crate) is_wish_left: bool,
+    pub is_wish_left: bool,
     /// How many nodes are stepped at most, once there is one of these.
-    pub(crate) last_step: u64,
+    pub last_step: u64,
     /// How many nodes were stepped.
     pub steps: u64,
     /// What it learns of bytes of RAM.
     pub fact_news: FactNews,
-    pub(crate) alloc: Global,
+    pub alloc: Global,
     /// The configuration's tracked cells, in order.
-    pub(crate) tracked: Vec<u16>,
+    pub tracked: Vec<u16>,
     /// The addresses whose bytes procedures but main keep, in order.
     pub kept: ArrayVec<u16, 16>,
-    pub(crate) node_index: HashMap<NodeKey, usize>,
-    pub(crate) procedure_index: HashMap<ProcedureKey, usize>,
+    pub node_index: HashMap<NodeKey, usize>,
+    pub procedure_index: HashMap<ProcedureKey, usize>,
     /// The numbers of the values that the key cells had, from 1 on.
-    pub(crate) cell_index: HashMap<Vec<CellValue>, usize>,
+    pub cell_index: HashMap<Vec<CellValue>, usize>,
     /// The numbers of the words that tell nodes apart, from 1 on.
-    pub(crate) word_index: HashMap<Vec<PlacedWord>, usize>,
+    pub word_index: HashMap<Vec<PlacedWord>, usize>,
     /// The addresses behind inlined calls.
-    pub(crate) returns: BTreeSet<u16>,
+    pub returns: BTreeSet<u16>,
     /// Calls that close a cycle of procedures.
-    pub(crate) cyclic: BTreeSet<CallSite>,
-    pub(crate) queue: BTreeSet<Turn>,
-    pub(crate) widening: Steps,
+    pub cyclic: BTreeSet<CallSite>,
+    pub queue: BTreeSet<Turn>,
+    pub widening: Steps,
     /// Where the widening of single cells stops.
-    pub(crate) cell_points: BTreeSet<CellPoint>,
+    pub cell_points: BTreeSet<CellPoint>,
     /// How often cells were widened.
-    pub(crate) creeps: BTreeMap<Creep, u8>,
+    pub creeps: BTreeMap<Creep, u8>,
     /// Where the steps lead that are only probed; None while the run goes on.
-    pub(crate) probed: Option<Vec<Arrival>>,
+    pub probed: Option<Vec<Arrival>>,
 }

@@ -1,12 +1,12 @@
 //! Known words that tell nodes apart: where states of different words were joined, it would no longer be known where a
 //! return leads.
 
-use crate::limits::WORDS;
-use crate::stop::RunStop;
 use crate::types::{PlacedWord, Run};
 use arrayvec::ArrayVec;
-use gb_ops::registers::Registers;
-use gb_verify::{Abs, Rules, Val};
+use gb_joining::gb_ops::registers::Registers;
+use gb_joining::gb_verify::{Abs, Rules, Val};
+use gb_joining::limits::WORDS;
+use gb_joining::stop::RunStop;
 
 /// The places of words in pairs of registers: BC, DE and HL.
 const IN_PAIRS: [u16; 3] = [0x100, 0x101, 0x102];

@@ -5,8 +5,8 @@ use crate::certificates::{Aim, Certificates, ToldVerdict, agree_on_verdict, chan
 use crate::random::Random;
 use crate::reached::{is_said, reached_states};
 use crate::tally::Tally;
-use gb_cert::Cert;
 use gb_header::Rom;
+use gb_printed::gb_calls::gb_cert::Cert;
 use std::alloc::Global;
 use std::io;
 

@@ -6,8 +6,8 @@ use crate::edits::edited;
 use crate::random::Random;
 use crate::reached::{ReachedState, is_said};
 use crate::tally::Tally;
-use gb_cert::{Cert, CertFault, encode};
 use gb_cert_place::place::{Sought, fault_place};
+use gb_printed::gb_calls::gb_cert::{Cert, CertFault, encode};
 use gb_printed::{Outcome, UpgradeTo, Upgraded, show_bytes, upgrade_bytes, verify_bytes};
 use gb_text::kept_bytes::KeptBytes;
 use std::alloc::Global;
@@ -100,8 +100,23 @@ fn can_be_upgraded(alloc: Global, bytes: &[u8], to: UpgradeTo, cert: &Cert<'_>) 
         && agree_on_upgrade(alloc, upgraded.kept(), to, cert)
 }
 
-/// Whether a certificate is written as it was read, `show` has a line for its region and for each procedure and node, and
-/// the upgraded one says the same.
+/// How many lines `show` has: one for the region, one for each fact, procedure and node, and one more for each procedure that keeps
+/// bytes or has a mark.
+fn shown_lines(cert: &Cert<'_>) -> u64 {
+    let mut lines = u64::from(cert.nodes())
+        .saturating_add(u64::from(cert.procedures()))
+        .saturating_add(cert.facts().len() as u64)
+        .saturating_add(1);
+    for number in 0..cert.procedures() {
+        let procedure = cert.procedure(number);
+        if !procedure.kept().is_empty() || procedure.mark() > 0 {
+            lines = lines.saturating_add(1);
+        }
+    }
+    lines
+}
+
+/// Whether a certificate is written as it was read, `show` has all its lines, and the upgraded one says the same.
 fn agree_on_certificate(alloc: Global, bytes: &[u8], cert: &Cert<'_>) -> bool {
     let is_written = match encode(alloc, cert) {
         Ok(written) => written.as_slice() == bytes,
@@ -112,11 +127,10 @@ fn agree_on_certificate(alloc: Global, bytes: &[u8], cert: &Cert<'_>) -> bool {
     let lines = shown.kept().iter().filter(|byte| **byte == b'\n').count();
     let is_upgraded = can_be_upgraded(alloc, bytes, UpgradeTo::Two, cert)
         && can_be_upgraded(alloc, bytes, UpgradeTo::Three, cert);
-    let expected = u64::from(cert.nodes()) + u64::from(cert.procedures()) + 1;
     is_written
         && is_shown
         && is_upgraded
-        && lines as u64 == expected
+        && lines as u64 == shown_lines(cert)
         && fault_place(alloc, bytes) == Sought::Certificate
 }
 

@@ -2,8 +2,8 @@
 
 use crate::random::Random;
 use bitflags::Flags;
-use gb_cert::Cert;
 use gb_header::Rom;
+use gb_printed::gb_calls::gb_cert::Cert;
 use gb_printed::{Console, Ending, Verdict, check, verify_bytes};
 use gb_samples::cartridges::put;
 use gb_samples::spelled::Example;

@@ -4,12 +4,12 @@
 use crate::parts::{CertificateParts, PartProcedure};
 use crate::random::Random;
 use arrayvec::ArrayVec;
-use gb_cert::Cert;
 use gb_domain::types::Abs;
 use gb_domain::{
     BankShadows, Cell, Fact, Fill, FillEnd, Origin, Reach, Shadows, StridedInterval, Summary, Val,
 };
 use gb_ops::op::{Pointer, Register};
+use gb_printed::gb_calls::gb_cert::Cert;
 use std::alloc::Global;
 use std::io;
 

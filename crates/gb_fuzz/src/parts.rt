@@ -1,12 +1,12 @@
 //! A certificate's parts, each of which can be changed and written again.
 
 use arrayvec::ArrayVec;
-use gb_cert::{
-    Cert, CertificatePlan, NodePlan, ProcedurePlan, Version, WriteFault, write_certificate,
-};
 use gb_domain::types::Abs;
 use gb_domain::{Fact, Range};
 use gb_ops::machine::Region;
+use gb_printed::gb_calls::gb_cert::{
+    Cert, CertificatePlan, NodePlan, ProcedurePlan, Version, WriteFault, write_certificate,
+};
 use std::alloc::{AllocError, Global};
 
 #[derive(Drop)]

@@ -5,7 +5,6 @@ ghost use Rattle.std.specs.Prelude.{◌<◌};
 
 use crate::random::Random;
 use bitflags::Flags;
-use gb_cert::Cert;
 use gb_cpu::{Bus, Cpu, Memory};
 use gb_domain::types::Abs;
 use gb_domain::{Cell, Fact, Fill, FillEnd, Flg, May, Reach, Shadows, Val};
@@ -13,6 +12,7 @@ use gb_header::Rom;
 use gb_ops::op::{Pointer, Register};
 use gb_ops::registers::{Ime, Processor, Registers};
 use gb_printed::Console;
+use gb_printed::gb_calls::gb_cert::Cert;
 use gb_timer::irqs::Keys;
 use std::alloc::Global;
 use std::io;

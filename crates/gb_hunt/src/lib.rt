@@ -19,6 +19,7 @@ pub use play::{Find, Replay, play_again, replayed};
 pub use shortening::shorten;
 
 // What lies below, for the crates above.
+pub use gb_trace;
 pub use gb_trace::{
     Console, CountedIn, Ending, FaultMoment, FaultyRun, FoundStack, HardwareBytes, HeaderFault,
     KeyWords, Keys, Met, PressedKeys, Progress, Recorder, Rom, RunOutcome, Sighting, Stepped,

@@ -3,10 +3,11 @@
 use bitflags::Flags;
 use clap::error::ErrorKind;
 use gb_bus::Memory;
-use gb_cert::{
+use gb_events::gb_trace::gb_calls::gb_cert::{
     Cert, CertFault, CertificatePlan, NodePlan, ProcedurePlan, Version, WriteFault, encode,
     write_certificate,
 };
+use gb_events::gb_trace::{Outcome, UpgradeTo, Upgraded, upgrade_bytes, verify_bytes};
 use gb_events::{
     Console, Ending, Progress, ReplayOutcome, WatchOutcome, read_events, replay_bytes, watch_bytes,
 };
@@ -18,8 +19,6 @@ use gb_page::{
 };
 use gb_text::kept_bytes::KeptBytes;
 use gb_timer::irqs::Keys;
-use gb_verify::upgrade::{UpgradeTo, Upgraded, upgrade_bytes};
-use gb_verify::verify::{Outcome, verify_bytes};
 use gb_words::{Task, read_words};
 use std::alloc::{AllocError, Global};
 

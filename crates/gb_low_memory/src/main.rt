@@ -12,8 +12,8 @@ mod calls;
 mod hoard;
 
 use calls::{CallAnswer, GivenFiles, NODES, Request};
-use gb_cert::{Cert, NodePlan, ProcedurePlan};
 use gb_events::Console;
+use gb_events::gb_trace::gb_calls::gb_cert::{Cert, NodePlan, ProcedurePlan};
 use gb_header::Rom;
 use gb_samples::cartridges::{PLAIN, put, small};
 use gb_samples::certificates::write_nodes;

@@ -1,11 +1,11 @@
 //! What a program of one's own calls: the checker and the console, in a few lines each.
 
 ghost use Rattle.std.specs.Prelude.{◌≡◌, true};
-ghost use Rattle.gb_trace.specs.Below.gb_verify.Text.{IsVerified};
+ghost use Rattle.gb_events.specs.Below.gb_console.Below.gb_verify.Text.{IsVerified};
 
 use bitflags::Flags;
+use gb_events::gb_trace::{Console, Keys, Outcome, verify_bytes};
 use gb_text::{KeptBytes, Rom};
-use gb_trace::{Console, Keys, Outcome, verify_bytes};
 use std::alloc::{AllocError, Global};
 
 /// Whether a certificate shows that every run of a cartridge is safe. Where memory ran out, or a file can't be read, it

@@ -3,7 +3,7 @@
 use crate::changes::{Build, Changes};
 use crate::escaped::Escaped;
 use crate::interrupts::interrupt_text;
-use gb_ops::machine::Region;
+use gb_reports::gb_ops::machine::Region;
 use gb_reports::{Difference, Interrupt, Range, Side};
 use std::fmt;
 

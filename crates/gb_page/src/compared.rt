@@ -3,7 +3,7 @@
 use crate::changed::name_of;
 use crate::changes::{Build, Changes};
 use crate::interrupts::interrupt_text;
-use gb_ops::machine::Region;
+use gb_reports::gb_ops::machine::Region;
 use gb_reports::{Difference, JsonObject, Side};
 use serde_json::Value;
 use std::alloc::{AllocError, Global};

@@ -2,7 +2,7 @@
 
 use crate::escaped::Escaped;
 use crate::screen::{Screen, fmt_picture};
-use gb_ops::machine::{CodePlace, Region};
+use gb_reports::gb_ops::machine::{CodePlace, Region};
 use gb_reports::{JsonObject, Symbols};
 use serde_json::Value;
 use std::alloc::{AllocError, Global};

@@ -3,8 +3,8 @@
 use crate::names::{Address, SymbolAt};
 use crate::page::Page;
 use gb_reports::{
-    Abs, Cell, Code, NodeRef, Rom, ShownCell, ShownFlags, ShownRegisters, ShownSummary, fmt_core,
-    target_of,
+    Abs, Cell, NodeRef, Rom, ShownCell, ShownFlags, ShownRegisters, ShownSummary, code_at,
+    fmt_core, program_of, target_of,
 };
 use std::fmt;
 
@@ -16,7 +16,12 @@ fn fmt_code<W: fmt::Write>(
     f: &mut fmt::Formatter<W>,
 ) -> fmt::Result {
     // Of an instruction only letters, digits, brackets and signs are printed that mean nothing to HTML.
-    let code = Code::at(page.rom, state, node.address());
+    let code = code_at(
+        &program_of(page.rom, page.cert),
+        page.rom,
+        state,
+        node.address(),
+    );
     match target_of(page.rom, page.cert, node, state) {
         Some(target) if page.is_listed(target) => { write!(f, "<a href=\"#n{target}\">{code}</a>") }
         _ => write!(f, "{code}"),

@@ -2,7 +2,8 @@
 
 use crate::names::{Address, SymbolAt};
 use gb_reports::{
-    Code, CodePoint, InstructionFinding, Rom, Segment, Start, Symbols, interrupt_at, length_at,
+    CodePoint, InstructionFinding, Program, Rom, Segment, Start, Symbols, code_at, interrupt_at,
+    length_at,
 };
 use std::fmt;
 
@@ -143,12 +144,14 @@ fn fmt_row<W: fmt::Write>(
     let symbol = path.symbol(bank, address);
     let at = PathAddress { bank, address };
     // Of an instruction only letters, digits, brackets and signs are printed that mean nothing to HTML.
-    let code = Code::at(path.rom, state, address);
+    // A path is of one run: facts that its certificate would state aren't asked.
+    let program = Program::unknown();
+    let code = code_at(&program, path.rom, state, address);
     write!(
         f,
         "<span class=\"at\">{at}</span><span class=\"symbol\">{symbol}</span><span class=\"op\">{code}</span></div>\n"
     )?;
-    Ok(length_at(path.rom, state, address))
+    Ok(length_at(&program, path.rom, state, address))
 }
 
 /// The instructions of a segment, up to the most that are shown.

@@ -3,7 +3,7 @@
 use crate::escaped::Escaped;
 use crate::names::NodeLink;
 use crate::page::Page;
-use gb_ops::machine::Kind;
+use gb_reports::gb_ops::machine::Kind;
 use gb_reports::{Cert, Explanation, Rom, Verdict, color_note};
 use std::alloc::{AllocError, Global};
 use std::fmt;

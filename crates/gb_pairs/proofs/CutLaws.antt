@@ -1,6 +1,6 @@
 -- Reducing only cuts: values and bounds become smaller, origins and links stay.
 use Rattle.std.proofs.Common.{◌≡◌, ℕ, ◌-◌, ◌*◌, ◌≤◌, Bool, true, false, ◌&&◌, ◌||◌, ◌==◌, cond, nat_lt, Option, Some, None, refl, sym, ◌∙◌, subst, arith}
-use Rattle.std.specs.Prelude.{IfSome, option_and_then}
+use Rattle.std.specs.Prelude.{IfSome, option_map, option_and_then}
 use Rattle.std.proofs.lemmas.Bool.{and_parts, eqb-true}
 use Rattle.std.proofs.lemmas.Bool.Decides.{nat_tests}
 use Rattle.gb_ops.specs.declared.op.Register.{Register}
@@ -13,13 +13,17 @@ use Rattle.gb_domain.specs.declared.pairs.Other.{Other}
 use Rattle.gb_domain.specs.declared.pairs.Other.TheVariants as other
 use Rattle.gb_domain.specs.declared.pairs.Link.{Link}
 use Rattle.gb_domain.specs.Pairs.{facts_of}
-use Rattle.gb_domain.specs.Values.{have_same, has_low_bits, is_strided}
+use Rattle.gb_domain.specs.declared.interval.StridedInterval.{StridedInterval}
+use Rattle.gb_domain.specs.LowBits.{low_bits}
+use Rattle.gb_domain.specs.Interval.{with_low_bits}
+use Rattle.gb_domain.specs.Values.{is_strided}
 use Rattle.gb_vals.specs.Logic.{smaller, larger}
 use Rattle.gb_pairs.specs.declared.values.Values.{Values}
 use Rattle.gb_pairs.specs.Bounds.{cut, is_empty, high_of, low_of, box, bounds_of}
-use Rattle.gb_pairs.specs.Reduced.{size, pairs_at, cut_by_other, others_at, low_bits_within, cut_val, with_register, with_bounds, with_register_if, with_bounds_if, cut_other, cut_other_if, high_bounds, low_bounds, with_bytes_if, settled, reduced_by_link, reduced_within, reduced_pair, reduced_once, reduced, restricted}
+use Rattle.gb_pairs.specs.Reduced.{size, pairs_at, cut_by_other, others_at, left_of, values_within, cut_val, with_register, with_bounds, with_register_if, with_bounds_if, cut_other, cut_other_if, high_bounds, low_bounds, with_bytes_if, settled, reduced_by_link, reduced_within, reduced_pair, reduced_once, reduced, restricted}
 use Rattle.gb_pairs.specs.Sound.{IsCut}
 use Rattle.gb_pairs.proofs.RegisterLaws.{each_set, each_facts}
+use Rattle.gb_pairs.proofs.StrideLaws.{IsLeft, IfSome-left, strided_left}
 
 -- ---- on bounds and values
 
@@ -62,22 +66,30 @@ record IsPartVal (y v : Val) : Type 0 where
   strided : is_strided v ≡ true → is_strided y ≡ true
   origin : y.origin ≡ v.origin
 
--- low bits that stay, of a value that stays
-pub kept_low : (v : Val) (lo n : ℕ) (c : Bool) → (c ≡ true → lo ≡ v.lo) → has_low_bits v n ≡ true → have_same (cond c v.low_bits 0) n lo ≡ true
-kept_low v lo n true e h = subst (λ m. have_same v.low_bits n m ≡ true) (sym (e refl)) h
-kept_low v lo n false e h = refl
-
-kept_strided :
-    (v : Val) (lo hi : ℕ) (c : Bool)
-    → (c ≡ true → (lo ≡ v.lo) × (hi ≡ v.hi)) → is_strided v ≡ true → is_strided (record v { lo = lo; hi = hi; low_bits = cond c v.low_bits 0 }) ≡ true
-kept_strided v lo hi true e h =
-    let k = e refl in
-    subst (λ (n : ℕ). is_strided (record v { lo = n; hi = hi }) ≡ true) (sym k.0)
-    (subst (λ (n : ℕ). is_strided (record v { lo = v.lo; hi = n }) ≡ true) (sym k.1) h)
-kept_strided v lo hi false e h = refl
-
-pub both_stay : (v : Val) (lo hi : ℕ) → (lo == v.lo && hi == v.hi) ≡ true → (lo ≡ v.lo) × (hi ≡ v.hi)
+both_stay : (v : Val) (lo hi : ℕ) → (lo == v.lo && hi == v.hi) ≡ true → (lo ≡ v.lo) × (hi ≡ v.hi)
 both_stay v lo hi h = let p = and_parts (lo == v.lo) (hi == v.hi) h in (eqb-true lo v.lo p.0, eqb-true hi v.hi p.1)
+
+IfSome-within : (lo hi : ℕ) (v : Val) → v.lo ≤ lo → hi ≤ v.hi → lo ≤ hi → IfSome (values_within lo hi v) (λ y. IsPartVal y v)
+unfolding values_within
+IfSome-within lo hi v least most order = choose (lo == v.lo && hi == v.hi) refl
+  where
+    part :
+        (o : Option StridedInterval) → IfSome o (IsLeft lo hi (low_bits v.low_bits v.lo)) → IfSome (option_map (left_of v) o) (λ y. IsPartVal y v)
+    part None h = tt
+    part (Some i) h =
+        let a = h.least in
+        let b = h.most in
+        record { least = omega arith; most = omega arith; order = h.order; strided = λ s. strided_left lo hi v i h s; origin = refl }
+
+    choose :
+        (b : Bool) → (lo == v.lo && hi == v.hi) ≡ b
+        → IfSome (cond b (Some v) (option_map (left_of v) (with_low_bits lo hi (low_bits v.low_bits v.lo)))) (λ y. IsPartVal y v)
+    choose true e =
+        let same = both_stay v lo hi e in
+        let first = same.0 in
+        let last = same.1 in
+        record { least = omega arith; most = omega arith; order = omega arith; strided = λ s. s; origin = refl }
+    choose false e = part (with_low_bits lo hi (low_bits v.low_bits v.lo)) (IfSome-left lo hi (low_bits v.low_bits v.lo))
 
 IfSome-cut_val : (v : Val) (d : Bounds) → IfSome (cut_val v d) (λ y. IsPartVal y v)
 unfolding cut_val
@@ -85,18 +97,10 @@ IfSome-cut_val v d = choose (nat_lt (smaller v.hi d.last) (larger v.lo d.first))
   where
     choose :
         (b : Bool) → nat_lt (smaller v.hi d.last) (larger v.lo d.first) ≡ b
-        → IfSome (cond b None (Some (record v { lo = larger v.lo d.first; hi = smaller v.hi d.last; low_bits = low_bits_within (larger v.lo d.first) (smaller v.hi d.last) v }))) (λ y. IsPartVal y v)
+        → IfSome (cond b None (values_within (larger v.lo d.first) (smaller v.hi d.last) v)) (λ y. IsPartVal y v)
     choose true e = tt
     choose false e =
-        record {
-          least = grind (arith, nat_tests);
-          most = grind (arith, nat_tests);
-          order = grind (arith, nat_tests);
-          strided =
-              kept_strided v (larger v.lo d.first) (smaller v.hi d.last) (larger v.lo d.first == v.lo && smaller v.hi d.last == v.hi)
-              (both_stay v (larger v.lo d.first) (smaller v.hi d.last));
-          origin = refl;
-        }
+        IfSome-within (larger v.lo d.first) (smaller v.hi d.last) v (grind (arith, nat_tests)) (grind (arith, nat_tests)) (grind (arith, nat_tests))
 
 -- ---- on values of all registers
 

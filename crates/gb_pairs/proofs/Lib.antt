@@ -8,6 +8,7 @@ pub mod PlainLaws
 pub mod ReducedLaws
 pub mod RegisterLaws
 pub mod StepLaws
+pub mod StrideLaws
 pub mod SumLaws
 pub mod WrittenLaws
 pub mod Below

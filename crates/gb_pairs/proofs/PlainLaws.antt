@@ -16,7 +16,7 @@ use Rattle.gb_vals.specs.Logic.{smaller, larger}
 use Rattle.gb_pairs.specs.declared.values.Values.{Values}
 use Rattle.gb_pairs.specs.Bounds.{cut, is_empty, high_of, low_of, box, bounds_of}
 use Rattle.gb_pairs.specs.Plain.{is_plain, are_plain, with_boxes, EndInBytes}
-use Rattle.gb_pairs.specs.Reduced.{low_bits_within, cut_val, with_bounds, high_bounds, low_bounds, with_bytes_if, settled, reduced_within, reduced_pair, reduced_once, reduced}
+use Rattle.gb_pairs.specs.Reduced.{values_within, cut_val, with_bounds, high_bounds, low_bounds, with_bytes_if, settled, reduced_within, reduced_pair, reduced_once, reduced}
 use Rattle.gb_pairs.specs.Meaning.{Holds}
 use Rattle.gb_pairs.specs.Sound.{IsSoundReducing}
 use Rattle.gb_pairs.proofs.RegisterLaws.{each_facts}
@@ -53,6 +53,10 @@ with_box p v = with_bounds p (box_of p v) v
 itself : (n : ℕ) → (n == n) ≡ true
 itself n = grind (arith, nat_tests)
 
+whole : (v : Val) → values_within v.lo v.hi v ≡ Some v
+unfolding values_within
+whole v = rw (itself v.lo, itself v.hi) refl
+
 -- a value that lies in the bounds stays
 cut_val-whole : (v : Val) (d : Bounds) → d.first ≤ v.lo → v.lo ≤ v.hi → v.hi ≤ d.last → cut_val v d ≡ Some v
 unfolding cut_val
@@ -60,11 +64,9 @@ cut_val-whole v d first order last =
     let lo : larger v.lo d.first ≡ v.lo = grind (arith, nat_tests) in
     let hi : smaller v.hi d.last ≡ v.hi = grind (arith, nat_tests) in
     let none : nat_lt v.hi v.lo ≡ false = grind (arith, nat_tests) in
-    let stays : (v.lo == v.lo && v.hi == v.hi) ≡ true = rw (itself v.lo, itself v.hi) refl in
-    subst (λ n. cond (nat_lt (smaller v.hi d.last) n) None (Some (record v { lo = n; hi = smaller v.hi d.last; low_bits = low_bits_within n (smaller v.hi d.last) v })) ≡ Some v) (sym lo)
-    (subst (λ n. cond (nat_lt n v.lo) None (Some (record v { lo = v.lo; hi = n; low_bits = low_bits_within v.lo n v })) ≡ Some v) (sym hi)
-    (subst (λ b. cond (nat_lt v.hi v.lo) None (Some (record v { low_bits = cond b v.low_bits 0 })) ≡ Some v) (sym stays)
-    (subst (λ b. cond b None (Some v) ≡ Some v) (sym none) refl)))
+    subst (λ n. cond (nat_lt (smaller v.hi d.last) n) None (values_within n (smaller v.hi d.last) v) ≡ Some v) (sym lo)
+    (subst (λ n. cond (nat_lt n v.lo) None (values_within v.lo n v) ≡ Some v) (sym hi)
+    (subst (λ b. cond b None (values_within v.lo v.hi v) ≡ Some v) (sym none) (whole v)))
 
 high_whole : (high low : Val) (f : PairFacts) → IsPlain high low f → cut_val high (high_bounds (box high low)) ≡ Some high
 high_whole high low f h =

@@ -20,11 +20,12 @@ use Rattle.gb_vals.specs.Meaning.{In}
 use Rattle.gb_pairs.specs.declared.values.Values.{Values}
 use Rattle.gb_pairs.specs.Bounds.{is_empty, high_of, low_of, bounds_of, bounds_of_other}
 use Rattle.gb_pairs.specs.Meaning.{word_of, other_of, IsLinked, HoldsPair, AreBytes, Holds}
-use Rattle.gb_pairs.specs.Reduced.{cut_by_other, others_at, low_bits_within, cut_val, with_register, with_bounds, with_register_if, with_bounds_if, cut_other, cut_other_if, high_bounds, low_bounds, with_bytes_if, settled, reduced_by_link, reduced_within, reduced_pair, reduced_once, reduced, restricted}
+use Rattle.gb_pairs.specs.Reduced.{cut_by_other, others_at, values_within, cut_val, with_register, with_bounds, with_register_if, with_bounds_if, cut_other, cut_other_if, high_bounds, low_bounds, with_bytes_if, settled, reduced_by_link, reduced_within, reduced_pair, reduced_once, reduced, restricted}
 use Rattle.gb_pairs.specs.Sound.{Within, HoldsIn, IsSoundByLink, IsSoundReducing, IsSoundRestriction, IsCut}
 use Rattle.gb_pairs.proofs.RegisterLaws.{each_set, each_facts}
 use Rattle.gb_pairs.proofs.BoundsLaws.{Within-cut, Within-bounds_of, Within-bounds_of_other, word_of-is, word_below, other_below}
-use Rattle.gb_pairs.proofs.CutLaws.{kept_low, both_stay, reduced_pair_cuts, reduced_by_two_cuts, reduced_once_cuts}
+use Rattle.gb_pairs.proofs.StrideLaws.{InIf, In-within}
+use Rattle.gb_pairs.proofs.CutLaws.{reduced_pair_cuts, reduced_by_two_cuts, reduced_once_cuts}
 use Rattle.gb_pairs.proofs.KeptLaws.{bounds_of_below, ArePairs-cut}
 use Rattle.gb_pairs.proofs.LinkLaws.{WithinIf, Within-cut_by_other, cut_by_other-last, Within-others_at}
 
@@ -49,30 +50,18 @@ Holds-with_bounds p b v x k h =
 
 -- ---- values are cut
 
-InIf : Option Val → ℕ → Type 0
-InIf None n = ⊥
-InIf (Some v) n = In v n
-
 InIf-cut_val : (v : Val) (d : Bounds) (n : ℕ) → In v n → Within d n → InIf (cut_val v d) n
-unfolding cut_val InIf
+unfolding cut_val
 InIf-cut_val v d n h k = choose (nat_lt (smaller v.hi d.last) (larger v.lo d.first)) refl
   where
     choose :
         (b : Bool) → nat_lt (smaller v.hi d.last) (larger v.lo d.first) ≡ b
-        → InIf (cond b None (Some (record v { lo = larger v.lo d.first; hi = smaller v.hi d.last; low_bits = low_bits_within (larger v.lo d.first) (smaller v.hi d.last) v }))) n
+        → InIf (cond b None (values_within (larger v.lo d.first) (smaller v.hi d.last) v)) n
     choose true e = absurd (grind (arith, nat_tests))
-    choose false e =
-        record {
-          least = grind (arith, nat_tests);
-          most = grind (arith, nat_tests);
-          low =
-              kept_low v (larger v.lo d.first) n (larger v.lo d.first == v.lo && smaller v.hi d.last == v.hi)
-              (λ e. (both_stay v (larger v.lo d.first) (smaller v.hi d.last) e).0) h.low;
-        }
+    choose false e = In-within (larger v.lo d.first) (smaller v.hi d.last) v n h (grind (arith, nat_tests)) (grind (arith, nat_tests))
 
 HoldsIn-with_register_if :
     (r : Register) (o : Option Val) (v : Values) (x : Registers ℕ) → InIf o (get r x) → Holds v x → HoldsIn (with_register_if r o v) x
-unfolding InIf
 HoldsIn-with_register_if r None v x k h = k
 HoldsIn-with_register_if r (Some y) v x k h = Holds-with_register r y v x k h
 
@@ -121,7 +110,6 @@ Within-low_bounds b h l small k = choose (b.first / 256 == b.last / 256) refl
 HoldsIn-with_bytes_if :
     (p : WordPair) (high low : Option Val) (v : Values) (x : Registers ℕ)
     → InIf high (get (high_of p) x) → InIf low (get (low_of p) x) → Holds v x → HoldsIn (with_bytes_if p high low v) x
-unfolding InIf
 HoldsIn-with_bytes_if p None low v x j k h = j
 HoldsIn-with_bytes_if p (Some y) low v x j k h = HoldsIn-with_register_if (low_of p) low _ x k (Holds-with_register (high_of p) y v x j h)
 

@@ -1,11 +1,12 @@
 -- Reducing: values are cut to what their pairs and links leave (abstract interpretation: a reduced product; own). Interval
 -- arithmetic is used only where it doesn't go round at 65536.
-use Rattle.std.specs.Prelude.{ℕ, ◌+◌, ◌-◌, ◌*◌, ◌/◌, ◌%◌, Bool, true, false, ◌&&◌, ◌||◌, ◌==◌, if◌then◌else◌, nat_lt, Option, Some, None, option_and_then}
+use Rattle.std.specs.Prelude.{ℕ, ◌+◌, ◌-◌, ◌*◌, ◌/◌, ◌%◌, Bool, true, false, ◌&&◌, ◌||◌, ◌==◌, if◌then◌else◌, nat_lt, Option, Some, None, option_map, option_and_then}
 use Rattle.std.specs.Int.{div_ceil}
 use Rattle.gb_ops.specs.declared.op.Register.{Register}
 use Rattle.gb_ops.specs.declared.registers.Registers.{Registers}
 use Rattle.gb_ops.specs.Registers.{get, set}
 use Rattle.gb_domain.specs.declared.types.Val.{Val}
+use Rattle.gb_domain.specs.declared.interval.StridedInterval.{StridedInterval}
 use Rattle.gb_domain.specs.declared.pairs.WordPair.{WordPair}
 use Rattle.gb_domain.specs.declared.pairs.WordPair.TheVariants as pair
 use Rattle.gb_domain.specs.declared.pairs.Bounds.{Bounds}
@@ -14,6 +15,8 @@ use Rattle.gb_domain.specs.declared.pairs.Other.TheVariants as other
 use Rattle.gb_domain.specs.declared.pairs.Link.{Link}
 use Rattle.gb_domain.specs.declared.pairs.PairFacts.{PairFacts}
 use Rattle.gb_domain.specs.declared.pairs.Pairs.{Pairs}
+use Rattle.gb_domain.specs.Interval.{with_low_bits}
+use Rattle.gb_domain.specs.LowBits.{low_bits}
 use Rattle.gb_domain.specs.Pairs.{facts_of}
 use Rattle.gb_vals.specs.Logic.{smaller, larger}
 use Rattle.gb_pairs.specs.declared.values.Values.{Values}
@@ -81,16 +84,23 @@ others_at l o b =
 
 -- ---- cutting
 
--- what is known of low bits where a value's bounds become these: of a value that stays what was known, else nothing
-abbrev pub low_bits_within : ℕ → ℕ → Val → ℕ
-low_bits_within lo hi v = if lo == v.lo && hi == v.hi then v.low_bits else 0
+-- an interval in place of a value's
+abbrev pub left_of : Val → StridedInterval → Val
+left_of v i = record v { lo = i.lo; hi = i.hi; low_bits = i.count }
+
+-- the values of v from lo to hi, with its low bits: all where these are its bounds, none where none is left
+unfoldable pub values_within : ℕ → ℕ → Val → Option Val
+values_within lo hi v =
+    if lo == v.lo && hi == v.hi
+    then Some v
+    else option_map (left_of v) (with_low_bits lo hi (low_bits v.low_bits v.lo))
 
 -- what of a value is in d; none where that is empty
 unfoldable pub cut_val : Val → Bounds → Option Val
 cut_val v d =
     let lo = larger v.lo d.first in
     let hi = smaller v.hi d.last in
-    if nat_lt hi lo then None else Some (record v { lo = lo; hi = hi; low_bits = low_bits_within lo hi v })
+    if nat_lt hi lo then None else values_within lo hi v
 
 abbrev pub with_facts : WordPair → PairFacts → Pairs → Pairs
 with_facts pair.Bc f s = record s { bc = f }

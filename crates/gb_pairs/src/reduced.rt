@@ -1,13 +1,15 @@
 //! Reducing: values are cut to what their pairs and links leave.
 
-ghost use Rattle.std.specs.Prelude.{◌≡◌, ◌*◌, IfSome};
+ghost use Rattle.std.specs.Prelude.{◌≡◌, ◌≤◌, ◌*◌, IfSome};
 ghost use Rattle.gb_domain.specs.Pairs.{ArePairs};
-ghost use Rattle.gb_pairs.specs.Reduced.{values_of, values_if, is_rising, size, pair_at, pairs_at, cut_by_other, multiple_at, multiples_at, others_at, low_bits_within, cut_val, with_facts, with_bounds, with_bounds_if, cut_other, high_bounds, low_bounds, settled, reduced_by_link, reduced_pair, reduced_once, reduced, restricted};
+ghost use Rattle.gb_pairs.specs.Reduced.{values_of, values_if, is_rising, size, pair_at, pairs_at, cut_by_other, multiple_at, multiples_at, others_at, values_within, cut_val, with_facts, with_bounds, with_bounds_if, cut_other, high_bounds, low_bounds, settled, reduced_by_link, reduced_pair, reduced_once, reduced, restricted};
 ghost use Rattle.gb_pairs.specs.Sound.{IsSoundByLink, IsSoundReducing, IsSoundRestriction, IsCut};
 
 use crate::bounds::{bounds_of, bounds_of_other, cut, facts_of, high_of, is_empty, low_of};
 use crate::plain::{are_plain, put_boxes};
 use crate::values::Values;
+use gb_domain::interval::with_low_bits;
+use gb_domain::low_bits::low_bits;
 use gb_domain::pairs::{Bounds, Link, Other, PairFacts, Pairs, WordPair};
 use gb_domain::types::Val;
 use gb_ops::registers::Registers;
@@ -128,15 +130,25 @@ fn others_at(link: Link, other: Bounds, bounds: Bounds) -> Option<Bounds>
     }
 }
 
-/// What is known of low bits where a value's bounds become these: of a value that stays what was known, else nothing.
-fn low_bits_within(lo: u16, hi: u16, val: Val) -> u8
-    ensures { result ≡ low_bits_within lo hi val }
+/// The values from one bound to another, with their low bits: all where these are its bounds.
+#[tactic(auto, unfolding(crate::specs::Reduced::values_within))]
+fn values_within(lo: u8, hi: u8, val: Val) -> Option<Val>
+    requires { lo ≤ hi }
+    ensures { result ≡ values_within lo hi val }
 {
-    if lo == val.lo.into() && hi == val.hi.into() {
-        val.low_bits
-    } else {
-        0
+    if val.low_bits == 0 {
+        return Some(Val { lo, hi, ..val });
     }
+    if lo == val.lo && hi == val.hi {
+        return Some(val);
+    }
+    let left = with_low_bits(lo, hi, low_bits(val.low_bits, val.lo.into()))?;
+    Some(Val {
+        lo: left.lo,
+        hi: left.hi,
+        low_bits: left.count,
+        origin: val.origin,
+    })
 }
 
 /// What of a value is in some bounds.
@@ -149,12 +161,7 @@ fn cut_val(val: Val, bounds: Bounds) -> Option<Val>
     if hi < lo {
         return None;
     }
-    Some(Val {
-        lo: lo as u8,
-        hi: hi as u8,
-        low_bits: low_bits_within(lo, hi, val),
-        origin: val.origin,
-    })
+    values_within(lo as u8, hi as u8, val)
 }
 
 fn set_facts(pair: WordPair, facts: PairFacts, values: &mut Values)

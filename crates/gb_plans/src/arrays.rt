@@ -2,19 +2,20 @@
 //! that filled them. By the rules of version 3.
 
 use crate::cells::{Origins, all_origins_of, origins_of, span_at};
-use crate::loops::refine_loops;
-use crate::plan::Plan;
 use crate::plans::{callers_of, is_known_by_calls, part, plan_loops};
-use crate::slices::{SliceBy, SliceGoal, slice};
-use crate::sources::loaded_by;
-use crate::spots::{is_known, op_at, open_at};
-use crate::ways::Ways;
-use gb_fixpoint::cause::{Cause, Failure, StackMisuse};
-use gb_fixpoint::limits::{FEW_VALUES, STEPS_BACK};
-use gb_fixpoint::register_set::{REGISTERS, RegisterSet};
-use gb_fixpoint::types::{Run, RunNode, Spot};
-use gb_fixpoint::{Rules, Span, cell_at};
-use gb_ops::op::{Op, Operand, Pointer};
+use gb_dataflow::cause::{Cause, Failure, StackMisuse};
+use gb_dataflow::configuration::TargetPlace;
+use gb_dataflow::gb_ops::op::{Op, Operand, Pointer};
+use gb_dataflow::limits::{FEW_VALUES, STEPS_BACK};
+use gb_dataflow::loops::refine_loops;
+use gb_dataflow::plan::{Edit, Plan, unless_empty};
+use gb_dataflow::register_set::{REGISTERS, RegisterSet};
+use gb_dataflow::slices::{SliceBy, SliceGoal, slice};
+use gb_dataflow::sources::loaded_by;
+use gb_dataflow::spots::{is_known, op_at, open_at};
+use gb_dataflow::types::{Run, RunNode, Spot};
+use gb_dataflow::ways::Ways;
+use gb_dataflow::{Rules, Span, cell_at};
 use std::alloc::{AllocError, Global};
 use std::collections::BTreeSet;
 
@@ -260,8 +261,28 @@ fn copies_to(run: &Run<'_>, node: &RunNode, byte: u16) -> bool {
     }
 }
 
+/// The rounds of the innermost loop around a spot are told apart while they copy bytes that are kept: the same loop may copy much
+/// else.
+fn copy_apart(alloc: Global, run: &Run<'_>, spot: Spot) -> Result<Option<Plan>, AllocError> {
+    let ways = Ways::of(alloc, run, spot.procedure)?;
+    let loops = ways.loops(spot.point)?;
+    let mut plan = Plan::new(alloc);
+    if let Some(around) = loops.first() {
+        for point in around.iter() {
+            let place = TargetPlace {
+                target: run.target(spot.procedure),
+                point: *point,
+            };
+            if !run.configuration.copied.contains(&place) {
+                plan.add(Edit::Copied(place))?;
+            }
+        }
+    }
+    Ok(unless_empty(run, plan))
+}
+
 /// For a byte of code in RAM of which nothing is known, since a loop copied it together with others: each round of that loop gets
-/// states of its own.
+/// states of its own, by the rules of version 3 at first only those that copy code.
 pub(crate) fn plan_copied(
     alloc: Global,
     run: &Run<'_>,
@@ -271,6 +292,13 @@ pub(crate) fn plan_copied(
     for node in &run.nodes {
         if copies_to(run, node, byte) {
             copies.insert(node.spot())?;
+        }
+    }
+    if run.rules() == Rules::Extended {
+        for spot in copies.iter() {
+            if let Some(plan) = copy_apart(alloc, run, *spot)? {
+                return Ok(Some(plan));
+            }
         }
     }
     plan_loops(alloc, run, &copies)

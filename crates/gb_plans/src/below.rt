@@ -1,7 +1,7 @@
 //! Which of the tracked cells the procedures of a run, and what they call, may read or write: by the others none has to be parted.
 
-use gb_fixpoint::configuration::{Configuration, TouchedCell};
-use gb_fixpoint::types::{Run, RunProcedure};
+use gb_dataflow::configuration::{Configuration, TouchedCell};
+use gb_dataflow::types::{Run, RunProcedure};
 use std::alloc::{AllocError, Global};
 
 /// The bit of a tracked cell, by its place among them; none where there are more than 64.

@@ -1,18 +1,18 @@
 //! Memory cells: which are tracked, and which registers were loaded from them.
 
-use crate::plan::{Edit, Plan, number_of, unless_empty};
-use crate::sources::{copied, high_registers, loaded, loaded_by, sources, stacked, without};
-use crate::spots::{
+use gb_dataflow::code_point::CodePoint;
+use gb_dataflow::gb_ops::op::{AluOp, Indirect, Op, Operand, Pointer, Register, StackPair};
+use gb_dataflow::limits::SPOTS;
+use gb_dataflow::plan::{Edit, Plan, number_of, unless_empty};
+use gb_dataflow::register_set::{REGISTERS, RegisterSet};
+use gb_dataflow::sources::{copied, high_registers, loaded, loaded_by, sources, stacked, without};
+use gb_dataflow::spots::{
     SWITCHED, has_entry, high_of, is_known, op_at, open_at, pointed_at, pointed_by, points_to_rom,
     value_of,
 };
-use crate::ways::Ways;
-use gb_fixpoint::code_point::CodePoint;
-use gb_fixpoint::limits::SPOTS;
-use gb_fixpoint::register_set::{REGISTERS, RegisterSet};
-use gb_fixpoint::types::{Run, RunNode, Spot};
-use gb_fixpoint::{Span, known_bank};
-use gb_ops::op::{AluOp, Indirect, Op, Operand, Pointer, Register, StackPair};
+use gb_dataflow::types::{Run, RunNode, Spot};
+use gb_dataflow::ways::Ways;
+use gb_dataflow::{Span, known_bank};
 use std::alloc::{AllocError, Global};
 use std::collections::{BTreeMap, BTreeSet};
 
@@ -386,6 +386,7 @@ pub(crate) fn span_at(node: &RunNode, pointer: Pointer) -> Span {
     Span {
         first: u16::from_be_bytes([high.lo, low.lo]),
         last: u16::from_be_bytes([high.hi, low.hi]),
+        ..Span::one(0)
     }
 }
 
@@ -400,6 +401,7 @@ pub fn loaded_span(run: &Run<'_>, spot: Spot) -> Option<Span> {
                 Some(span) => Some(Span {
                     first: span.first.min(here.first),
                     last: span.last.max(here.last),
+                    ..here
                 }),
                 None => Some(here),
             };

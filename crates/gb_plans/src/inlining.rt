@@ -1,10 +1,10 @@
 //! Routines that are followed in their callers after a failure.
 
-use crate::plan::{Edit, Plan, unless_taken_back};
-use gb_fixpoint::cause::{Cause, Failure};
-use gb_fixpoint::code_point::CodePoint;
-use gb_fixpoint::types::Run;
-use gb_fixpoint::{PADDING, Rules};
+use gb_dataflow::cause::{Cause, Failure};
+use gb_dataflow::code_point::CodePoint;
+use gb_dataflow::plan::{Edit, Plan, unless_taken_back};
+use gb_dataflow::types::Run;
+use gb_dataflow::{PADDING, Rules};
 use std::alloc::{AllocError, Global};
 
 /// Whether following a procedure in its callers may help against a failure: more is known of what it is called with then.

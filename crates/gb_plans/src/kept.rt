@@ -1,13 +1,13 @@
 //! What to refine where a pointer is kept in RAM, or a key cell is lost.
 
 use crate::cells::{key_cells, pointer_cells, unknown_stores};
-use crate::loops::pointers_read;
-use crate::plan::{Edit, Plan, unless_taken_back};
 use crate::plans::{FailurePoint, plan_loops, plan_near};
-use crate::ways::Ways;
-use gb_fixpoint::register_set::RegisterSet;
-use gb_fixpoint::types::{Run, RunProcedure, Spot};
-use gb_fixpoint::{Rules, cell_at};
+use gb_dataflow::loops::pointers_read;
+use gb_dataflow::plan::{Edit, Plan, unless_taken_back};
+use gb_dataflow::register_set::RegisterSet;
+use gb_dataflow::types::{Run, RunProcedure, Spot};
+use gb_dataflow::ways::Ways;
+use gb_dataflow::{Rules, cell_at};
 use std::alloc::{AllocError, Global};
 
 /// Whether a procedure is entered with a cell known, and left with several values in it.

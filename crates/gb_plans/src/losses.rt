@@ -2,13 +2,13 @@
 //! parted by what the controller shows, nor by cells; where a failure comes from such a join, the procedures there are parted.
 
 use crate::cells::{CellLoad, Entering, origins_of};
-use crate::plan::{Edit, Plan, parted_by, unless_empty};
-use crate::spots::{SWITCHED, is_known, value_of};
-use gb_fixpoint::limits::VISITS;
-use gb_fixpoint::register_set::{REGISTERS, RegisterSet};
-use gb_fixpoint::types::{Run, RunNode, RunProcedure, Spot};
-use gb_fixpoint::{Abs, Rules, cell_at, known_bank};
-use gb_ops::op::Register;
+use gb_dataflow::gb_ops::op::Register;
+use gb_dataflow::limits::VISITS;
+use gb_dataflow::plan::{Edit, Plan, parted_by, unless_empty};
+use gb_dataflow::register_set::{REGISTERS, RegisterSet};
+use gb_dataflow::spots::{SWITCHED, is_known, value_of};
+use gb_dataflow::types::{Run, RunNode, RunProcedure, Spot};
+use gb_dataflow::{Abs, Rules, cell_at, known_bank};
 use std::alloc::{AllocError, Global};
 use std::collections::BTreeSet;
 

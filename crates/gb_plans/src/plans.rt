@@ -4,23 +4,23 @@ use crate::arrays::{plan_array, plan_copied, plan_filled};
 use crate::cells::{key_all_cells, key_cells};
 use crate::inlining::{inline_plan, may_be_inlined};
 use crate::kept::{part_exits, plan_kept, plan_stored, plan_written};
-use crate::loops::refine_loops;
 use crate::losses::{part_all, part_circle, plan_banked, plan_shown};
-use crate::plan::{Edit, Plan, parted_by, unless_taken_back};
-use crate::slices::{
-    SliceBy, SliceGoal, slice, slice_past_skip, slice_through_loop, slice_to_call,
-};
-use crate::sources::high_registers;
-use crate::spots::{is_known, place_of, value_of};
-use crate::ways::Ways;
-use gb_fixpoint::Rules;
-use gb_fixpoint::cause::{Cause, Failure, StackMisuse};
-use gb_fixpoint::limits::{
+use gb_dataflow::Rules;
+use gb_dataflow::cause::{Cause, Failure, StackMisuse};
+use gb_dataflow::gb_ops::op::Register;
+use gb_dataflow::limits::{
     ALL_VALUES, CALL_KINDS, CALL_VALUES, CALLERS, DEAR_STEPS, FEW_VALUES, VISITS,
 };
-use gb_fixpoint::register_set::{REGISTERS, RegisterSet};
-use gb_fixpoint::types::{Run, RunProcedure, Spot};
-use gb_ops::op::Register;
+use gb_dataflow::loops::refine_loops;
+use gb_dataflow::plan::{Edit, Plan, parted_by, unless_taken_back};
+use gb_dataflow::register_set::{REGISTERS, RegisterSet};
+use gb_dataflow::slices::{
+    SliceBy, SliceGoal, slice, slice_past_skip, slice_through_loop, slice_to_adder, slice_to_call,
+};
+use gb_dataflow::sources::high_registers;
+use gb_dataflow::spots::{is_known, place_of, value_of};
+use gb_dataflow::types::{Run, RunProcedure, Spot};
+use gb_dataflow::ways::Ways;
 use std::alloc::{AllocError, Global};
 use std::collections::BTreeSet;
 
@@ -436,6 +436,30 @@ pub(crate) fn callers_of(
     Ok(callers)
 }
 
+/// A routine that adds to the address of a jump's table: before the jump, or before the calls of a routine that is nothing but the
+/// jump. Joined, the tables of several calls would look like one, and their indices like an array's.
+fn plan_adder(
+    alloc: Global,
+    run: &Run<'_>,
+    spot: Spot,
+    wanted: &RegisterSet,
+) -> Result<Option<Plan>, AllocError> {
+    let mut spots = Vec::new(alloc);
+    spots.push(spot)?;
+    if run.target(spot.procedure) == spot.point {
+        for caller in &callers_of(alloc, run, spot.procedure)? {
+            spots.push(*caller)?;
+        }
+    }
+    for spot in &spots {
+        let ways = Ways::of(alloc, run, spot.procedure)?;
+        if let Some(plan) = slice_to_adder(alloc, run, &ways, *spot, wanted)? {
+            return Ok(Some(plan));
+        }
+    }
+    Ok(None)
+}
+
 /// What there is to refine at a spot, or at the calls that lead to it.
 fn plan_at(
     alloc: Global,
@@ -638,6 +662,11 @@ fn plan_pointer(
         is_array_sought: failure.cause == Cause::JumpHl,
     };
     if let Some(plan) = plan_bounded(alloc, run, spot, &trouble)? {
+        return Ok(Some(plan));
+    }
+    if trouble.is_jump
+        && let Some(plan) = plan_adder(alloc, run, spot, &wanted)?
+    {
         return Ok(Some(plan));
     }
     if let Some(plan) = plan_kept(alloc, run, spot, &wanted, is_kept_in_ram)? {

@@ -1,10 +1,10 @@
 //! What to follow in its callers where there would be more procedures than a certificate has room for: the smallest
 //! routines first, as one that shows a bank, since a caller that gets large is harder to refine.
 
-use gb_fixpoint::code_point::CodePoint;
-use gb_fixpoint::limits::{NODES_A_PROCEDURE, SAVED_PROCEDURES};
-use gb_fixpoint::types::Run;
-use gb_fixpoint::{PADDING, Rules};
+use gb_dataflow::code_point::CodePoint;
+use gb_dataflow::limits::{NODES_A_PROCEDURE, SAVED_PROCEDURES};
+use gb_dataflow::types::Run;
+use gb_dataflow::{PADDING, Rules};
 use std::alloc::{AllocError, Global};
 use std::collections::BTreeMap;
 

@@ -15,7 +15,7 @@ use Rattle.gb_text.proofs.Remaining.{Remains, remains_less, remains_cut, remains
 use Rattle.gb_watch.specs.Below.gb_verify.Text.{certificate_text}
 use Rattle.gb_watch.specs.Below.gb_verify.CertificateFile.{text_of, HasBeginning}
 use Rattle.gb_watch.proofs.Below.gb_verify_laws.FileLaws.{text_of-fault, memory_or_other, certificate_written, certificate_begins}
-use Rattle.gb_printed.specs.Show.{procedure_text, node_text, numbered, show_text}
+use Rattle.gb_printed.specs.Show.{procedure_lines, node_text, numbered, show_text}
 use Rattle.gb_printed.specs.Commands.{written_lines}
 
 pub short_decimal : (n : ℕ) → n < 65536 → length (decimal n) ≤ 5
@@ -47,8 +47,8 @@ pub lines_taken : {X : Type 0} (text : ℕ → X → List ℕ) (old new : Option
 lines_taken text old new all xs i h r = remains_none old new all (subst (λ t. Remains old all new t) (none_left text xs i h) r)
 
 pub procedure_taken : (rules : Rules) (old mid new : Option (List ℕ)) (all : List ℕ) (ps : List ProcedureParts) (i : ℕ) (p : ProcedureParts) → slice_get ps i ≡ Some p
-    → Remains old all mid (numbered (procedure_text rules) i (drop i ps)) → Gains mid (procedure_text rules i p) new → Remains old all new (numbered (procedure_text rules) (i + 1) (drop (i + 1) ps))
-procedure_taken rules old mid new all ps i p h r g = line_taken (procedure_text rules) old mid new all ps i p h r g
+    → Remains old all mid (numbered (procedure_lines rules) i (drop i ps)) → Gains mid (procedure_lines rules i p) new → Remains old all new (numbered (procedure_lines rules) (i + 1) (drop (i + 1) ps))
+procedure_taken rules old mid new all ps i p h r g = line_taken (procedure_lines rules) old mid new all ps i p h r g
 
 pub node_taken : (old mid new : Option (List ℕ)) (all : List ℕ) (ns : List Node) (i : ℕ) (n : Node) → slice_get ns i ≡ Some n
     → Remains old all mid (numbered node_text i (drop i ns)) → Gains mid (node_text i n) new → Remains old all new (numbered node_text (i + 1) (drop (i + 1) ns))

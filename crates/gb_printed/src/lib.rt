@@ -24,6 +24,6 @@ pub use gb_watch::{
     Input, KeptBanks, Keys, May, Memory, Met, OneByte, Origin, Outcome, Program, Range, Reason,
     Relations, Rules, Setting, Sighting, Span, Stepped, Test, UpgradeTo, Upgraded, Val, Verdict,
     Watched, callee, certificate_line, check, check_irqs, check_node, covered_at, covers, enter,
-    place_now, resume, steps_are_played, successors_of, upgrade_bytes, verdict_ignores_version,
-    verify_bytes, watch_frame, watched_frames_are_played,
+    gb_calls, place_now, resume, steps_are_played, successors_of, upgrade_bytes,
+    verdict_ignores_version, verify_bytes, watch_frame, watched_frames_are_played,
 };

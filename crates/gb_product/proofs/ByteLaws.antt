@@ -15,6 +15,7 @@ use Rattle.gb_domain.specs.Values.{interval_of, have_same, is_strided}
 use Rattle.gb_domain.proofs.IntervalLaws.{IsOfBytes-any, cut_leaves, cut_strided}
 use Rattle.gb_domain.proofs.ValueLaws.{IsStrided-val, same-Has}
 use Rattle.gb_abs_effects.specs.Below.gb_abs.Covering.{cell_at}
+use Rattle.gb_abs_effects.proofs.Below.gb_abs_laws.WideningLaws.{IsVal-of_interval}
 use Rattle.gb_summaries.specs.Below.gb_pairs.declared.values.Values.{Values}
 use Rattle.gb_summaries.specs.Below.gb_ram_bounds.declared.pointers.Pointers.{Pointers}
 use Rattle.gb_summaries.specs.Below.gb_ram_bounds.Cells.{cell_at as strided_at, is_there, has_cell}
@@ -52,25 +53,8 @@ IsOfBytes-fills p [] a v h = h
 IsOfBytes-fills p (f ∷ fills) a v h =
     IsOfBytes-fills p fills a (cut_by_fill p f a v) (IsOfBytes-either (is_in_extent p f a) (cut_or_same v (bytes_of f)) v (IsOfBytes-cut v (bytes_of f) h) h)
 
--- low bits that are known, of two ends that differ
-strided : (n lo hi : ℕ) → n < 8 → lo ≤ hi → (lo ≡ hi → n ≡ 0) → have_same n hi lo ≡ true → (n == 0 || nat_le n 7 && (nat_lt lo hi && have_same n hi lo)) ≡ true
-strided zero lo hi few order one same = refl
-strided (suc n) lo hi few order one same = rw same (tests (suc n) lo hi few order (λ e. none n (one e)))
-  where
-    none : (n : ℕ) → suc n ≡ 0 → ⊥
-    none n e = omega arith
-
-    tests : (n lo hi : ℕ) → n < 8 → lo ≤ hi → (lo ≡ hi → ⊥) → (n == 0 || nat_le n 7 && (nat_lt lo hi && true)) ≡ true
-    tests n lo hi few order other = grind (arith, nat_tests)
-
 pub IsVal-uncopied : (v : StridedInterval) → IsOfBytes v → IsVal (uncopied v)
-IsVal-uncopied v h =
-    let s : IsStrided v = h.strided in
-    record {
-      order = s.least.most;
-      hi = h.most;
-      strided = strided v.count v.lo v.hi s.count s.least.most s.one (same-Has v.count v.hi v.lo s.greatest.low);
-    }
+IsVal-uncopied v h = IsVal-of_interval v None h
 
 pub IsVal-byte_in : (program : Program) (v : Values) (cells : List Cell) (s : SummaryParts) (a : ℕ) → IsVal (cell_at a cells) → IsVal (byte_in program v cells s a)
 unfolding byte_in byte_at has_cell

@@ -11,7 +11,9 @@ use Rattle.gb_ops.specs.Play.{MState}
 use Rattle.gb_domain.specs.declared.interval.StridedInterval.{StridedInterval}
 use Rattle.gb_domain.specs.declared.pairs.WordPair.{WordPair}
 use Rattle.gb_domain.specs.declared.relations.Relations.{Relations}
+use Rattle.gb_domain.specs.declared.pairs.Bounds.{Bounds}
 use Rattle.gb_domain.specs.declared.types.Cell.{Cell}
+use Rattle.gb_domain.specs.declared.types.Ctl.{Ctl}
 use Rattle.gb_domain.specs.declared.types.Origin.{Origin}
 use Rattle.gb_domain.specs.declared.types.Val.{Val}
 use Rattle.gb_ops.specs.declared.machine.Kind.{Kind}
@@ -39,7 +41,7 @@ use Rattle.gb_summaries.specs.Below.gb_ram_bounds.Covering.{byte_at}
 use Rattle.gb_summaries.specs.Below.gb_ram_bounds.Meaning.{HoldCells, HoldsState}
 use Rattle.gb_summaries.specs.Below.gb_relations.Meaning.{IsZero, HoldRelations}
 use Rattle.gb_summaries.specs.Below.gb_relations.Transfer.{values_of}
-use Rattle.gb_summaries.specs.Covering.{covers_summary}
+use Rattle.gb_summaries.specs.Covering.{covers_aside, covers_summary}
 use Rattle.gb_summaries.specs.Known.{pointer_bounds, HoldsKnown}
 use Rattle.gb_summaries.specs.Meaning.{pointers_of}
 use Rattle.gb_product.specs.Covering.{covers_zero, covers_relations, uncopied, byte_in, covers_cells, values_in, covers}
@@ -199,6 +201,18 @@ AreCovered-all program s t h =
     let cells = and_parts _ _ relations.0 in
     record { parts = cells.0; cells = cells.1; relations = relations.1; said = said.1 }
 
+-- where t isn't put aside, s isn't
+none_aside : (o w : Option Bounds) → covers_aside o w ≡ true → w ≡ None → o ≡ None
+none_aside None w h e = refl
+none_aside (Some b) None h e = cc
+none_aside (Some b) (Some d) h e = absurd (let bad : Some d ≡ None = e in cc)
+
+aside_covered :
+    (program : Program) (v : Values) (c : Ctl) (cells : List Cell) (s : SummaryParts) (kept : List Cell) (t : SummaryParts)
+    → covers_summary program v c cells s kept t ≡ true → t.aside ≡ None → s.aside ≡ None
+unfolding covers_summary
+aside_covered program v c cells s kept t h e = none_aside s.aside t.aside (and_parts _ _ h).1 e
+
 pub Means-covered :
     (s t : AbsState) (entry : Activation) (base : ℕ) (x : MState)
     → covers entry.program s t ≡ true → Means s entry base x → Means t entry base x
@@ -209,6 +223,7 @@ Means-covered s t entry base x h m =
     let state = HoldsState-known entry.program (values_in s) s.core.ctl s.cells s.summary x.processor (peek x.storage) x.storage.banks known in
     let parts =
     MeansParts-covered entry.program.kind (without_cells s) (without_cells t) entry base x refl (without_cells-covered entry.program.kind s t all.parts)
+    (aside_covered entry.program (values_in s) s.core.ctl s.cells s.summary t.cells t.summary all.said)
     (MeansParts-without_cells s entry base x m.parts) in
     record {
       parts = record {

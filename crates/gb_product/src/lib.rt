@@ -35,6 +35,6 @@ pub use gb_abs_effects::{
 pub use gb_summaries::instruction::{InstructionStore, summary_after};
 pub use gb_summaries::returning::{GivenBack, KnownRam, is_byte_kept, summary_returned};
 pub use gb_summaries::{
-    AddressSet, Kept, Values, is_in, known_carry, only_of_a, pointer_bounds, reduce,
-    relations_after, returned,
+    AddressSet, Kept, Values, gb_ram_bounds, is_in, known_bits, known_carry, only_of_a,
+    pointed_bits, pointer_bounds, reduce, relations_after, returned,
 };

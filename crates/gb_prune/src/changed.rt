@@ -3,11 +3,11 @@
 use crate::demands::{entry_of, procedure_of};
 use crate::onward::state_of;
 use arrayvec::ArrayVec;
+use gb_draft::gb_ops::machine::Region;
 use gb_draft::{
     Abs, Cert, CertificatePlan, Fact, NodePlan, ProcedurePlan, Range, Version, WriteFault, exit_of,
     kept_of, ranges_of, write_certificate,
 };
-use gb_ops::machine::Region;
 use std::alloc::{AllocError, Global};
 
 /// A node of a certificate that is changed.

@@ -21,5 +21,5 @@ pub use pruning::{pruned, reached};
 pub use gb_draft::{
     Cause, Cert, CodePoint, Configuration, Edition, FactTable, Failure, PADDING, REGISTERS, Rom,
     Rules, Run, RunEnd, Span, Spot, StackMisuse, TargetPlace, Verdict, Wish, WriteFault,
-    certificate_of, check, find_needs, is_ram, limits,
+    certificate_of, check, find_needs, gb_ops, is_ram, limits,
 };

@@ -2,13 +2,13 @@
 
 use crate::parts::{Wanted, weakened};
 use crate::standing::{Standby, Standing};
+use gb_draft::gb_ops::decode::decode;
+use gb_draft::gb_ops::op::Row;
 use gb_draft::{
     Abs, Cert, INTERRUPT_COUNT, Program, Resumed, Rom, Rules, Stack, Successor, Successors, Target,
     callee_at, exit_of, handler, kept_of, known_bytes, left_by_dispatch, may_come, program_of,
     ranges_of, resume, stack_of, successors_of, taken_by, vector_of,
 };
-use gb_ops::decode::decode;
-use gb_ops::op::Row;
 use std::alloc::{AllocError, Global};
 
 /// The number of the first interrupt among the ways from a node: after an instruction's three.
@@ -63,7 +63,7 @@ impl<'c, 'a> NodeSite<'c, 'a> {
             return None;
         }
         let node = cert.node(number);
-        let bytes = known_bytes(rom, state, node.address())?;
+        let bytes = known_bytes(&program_of(rom, cert), rom, state, node.address())?;
         let row = decode(&bytes)?;
         Some(NodeSite {
             rom,

@@ -1,11 +1,11 @@
 //! Parts of states that a certificate may leave out, and states without those that nothing asks for.
 
 use arrayvec::ArrayVec;
+use gb_draft::gb_ops::op::Register;
 use gb_draft::{
     Abs, Cell, Core, Ctl, Flg, May, NOTHING_KNOWN, OneByte, Origin, PairFacts, Pairs, REGISTERS,
     Relations, Val, any,
 };
-use gb_ops::op::Register;
 
 /// The flags may be known.
 pub(crate) const FLAGS: u32 = 0x0000_0080;

@@ -1,10 +1,10 @@
 //! Which nodes of an address stand for a state. A node stands only for states that know the value of each register of which it
 //! knows one value alone, so nodes are sought by these values: where an address has a node for each value, few are tried.
 
+use gb_draft::gb_ops::registers::Registers;
 use gb_draft::{
     Abs, Cert, KnownRegisters, Program, REGISTERS, RegisterSet, Val, covers, covers_core,
 };
-use gb_ops::registers::Registers;
 use std::alloc::{AllocError, Global};
 use std::collections::HashMap;
 

@@ -6,8 +6,8 @@
 use crate::rounds::{Made, Refinement, SearchLimits, SearchProgress, alone};
 use crate::shrink::shrink;
 use crate::written::is_accepted;
-use gb_ops::machine::Kind;
-use gb_page::Finding;
+use gb_findings::Finding;
+use gb_prune::gb_ops::machine::Kind;
 use gb_prune::limits::{FEW_NODES, NODES};
 use gb_prune::{Edition, Rom};
 use std::alloc::{AllocError, Global};
@@ -79,7 +79,10 @@ impl<'a> Attempts<'a> {
             }
             Made::Findings(findings) => {
                 // What stood with fewer nodes was told as it was first met.
-                if self.findings.is_empty() || !refinement.stands_again() {
+                let is_told = !self.findings.is_empty();
+                if is_told && !progress.goes_on() {
+                    self.add_end(findings)?;
+                } else if !is_told || !refinement.stands_again() {
                     self.keep(edition, findings);
                 }
                 let is_over = refinement.is_hopeless
@@ -161,6 +164,22 @@ impl<'a> Attempts<'a> {
             }
             _ => u64::MAX,
         }
+    }
+
+    /// Of an attempt that time ended only that is told: its other findings are where it stood.
+    fn add_end(&mut self, findings: Vec<Finding>) -> Result<(), AllocError> {
+        let mut findings = findings;
+        let Some(last) = findings.pop() else {
+            return Ok(());
+        };
+        let is_told = match self.findings.as_slice().last() {
+            Some(told) => is_end(told),
+            None => false,
+        };
+        if is_end(&last) && !is_told {
+            self.findings.push(last)?;
+        }
+        Ok(())
     }
 
     /// Findings are kept by the first rules alone.
@@ -250,6 +269,11 @@ impl<'a> Attempts<'a> {
         let Attempts { findings, .. } = self;
         Ok(Made::Findings(findings))
     }
+}
+
+/// Whether a finding says that the search was given up.
+fn is_end(finding: &Finding) -> bool {
+    matches!(finding, Finding::OutOfRounds { .. })
 }
 
 /// What came of an attempt.

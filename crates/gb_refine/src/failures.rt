@@ -1,8 +1,8 @@
 //! What there is to tell of failures.
 
-use gb_ops::op::Register;
-use gb_page::{Finding, InstructionFinding, PointerLoad, report_finding};
+use gb_findings::{Finding, InstructionFinding, PointerLoad, report_finding};
 use gb_plans::{PointerSource, loaded_span, pointer_source, untracked_behind};
+use gb_prune::gb_ops::op::Register;
 use gb_prune::{Cause, Failure, PADDING, Rules, Run, Span, Spot};
 use std::alloc::{AllocError, Global};
 use std::collections::BTreeSet;
@@ -128,6 +128,7 @@ fn load_of(
             let from = Span {
                 first: first.from.first.min(ahead.first),
                 last: first.from.last.max(ahead.last),
+                ..ahead
             };
             if is_from_many(from) {
                 return Ok(Some((number, PointerLoad { from, ..first })));

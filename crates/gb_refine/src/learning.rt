@@ -5,9 +5,9 @@ use crate::rounds::{
     Change, Lesson, Mending, News, Refinement, Tried, WORD, alone, is_in_ram, region_below,
 };
 use crate::written::{is_accepted, written};
-use gb_ops::machine::Region;
-use gb_page::{Crowd, Finding, InstructionFinding};
+use gb_findings::{Crowd, Finding, InstructionFinding};
 use gb_plans::{Plan, array_behind, inline_plan, last_plan, plan_for, targets_to_follow};
+use gb_prune::gb_ops::machine::Region;
 use gb_prune::limits::{
     DEAR_STEPS, EDITS, EDITS_AGAIN, EDITS_OF_KEPT, KEPT, OBSTACLES, STEPS_BACK,
 };

@@ -25,12 +25,6 @@ pub use rounds::{Made, SearchLimits, SearchProgress};
 use std::alloc::{AllocError, Global};
 
 // What lies below, for the crates above.
-pub use gb_page::{
-    Changes, Crash, CrashFinding, Extras, Facts, Finding, FindingPart, FindingsExtras,
-    InstructionFinding, Listing, Older, Outline, ShownFinding, ShownPart, Sketch, SymbolFault,
-    SymbolFaultKind, Symbols, changes_json, color_note, crash_json, explain, facts_json,
-    finding_json, findings_page, page_of,
-};
 pub use gb_prune::Edition;
 
 /// A certificate of a cartridge, or why there is none. The certificate isn't checked as a last step: that is left to the

@@ -5,9 +5,9 @@ use crate::failures::tell;
 use crate::learning::is_no_code;
 use crate::measures::{outcome_of, pairs_of, targets_of};
 use crate::tracking::Cells;
-use gb_ops::machine::Region;
-use gb_page::{Crowd, Finding, InstructionFinding, Spent};
+use gb_findings::{Crowd, Finding, InstructionFinding, Spent};
 use gb_plans::{Plan, learn_touched};
+use gb_prune::gb_ops::machine::Region;
 use gb_prune::limits::{
     ALL_STEPS, FEW_NODES, OBSTACLES, STEPS_A_NODE, STEPS_A_NODE_OF_MANY, TAKEN_BACK,
     TAKEN_BACK_OF_MANY,

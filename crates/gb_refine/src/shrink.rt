@@ -3,8 +3,8 @@
 use crate::pruning::made_smaller;
 use crate::rounds::{Refinement, SearchProgress};
 use crate::written::{is_accepted, written};
-use gb_ops::op::Register;
 use gb_plans::{parted_by, without};
+use gb_prune::gb_ops::op::Register;
 use gb_prune::limits::{SHRINK_ATTEMPTS, SHRINK_STEPS, SPARE_NODES, STEPS_A_PAIR};
 use gb_prune::{CodePoint, Configuration, REGISTERS, Rom, Run, RunEnd, TargetPlace, find_needs};
 use std::alloc::{AllocError, Global};

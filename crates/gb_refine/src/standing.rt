@@ -3,7 +3,7 @@
 use crate::failures::tell;
 use crate::learning::is_no_code;
 use crate::rounds::{Change, Lesson, Made, Refinement};
-use gb_page::Finding;
+use gb_findings::Finding;
 use gb_prune::limits::{FEW_NODES, MULTIPLE, STEPS_STANDING};
 use gb_prune::{Edition, Run, RunEnd, TargetPlace};
 use std::alloc::{AllocError, Global};

@@ -2,7 +2,7 @@
 //! there are more, those go first of which a run knew nothing, and others get their room.
 
 use crate::rounds::{News, Refinement};
-use gb_ops::machine::Region;
+use gb_prune::gb_ops::machine::Region;
 use gb_prune::{Configuration, FactTable, Run, is_ram};
 use std::alloc::{AllocError, Global};
 use std::collections::BTreeSet;

@@ -5,7 +5,7 @@
 use crate::learning::is_no_code;
 use crate::rounds::{Change, Lesson, Refinement};
 use crate::standing::is_of_stack;
-use gb_page::{Finding, is_by_wild_return};
+use gb_findings::{Finding, is_by_wild_return};
 use gb_prune::limits::{OBSTACLES, WILD_RUNS};
 use gb_prune::{Cause, Failure, Run, TargetPlace};
 use std::alloc::AllocError;

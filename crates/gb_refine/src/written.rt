@@ -1,6 +1,6 @@
 //! The certificate of a run, if it keeps the limits, and whether the checker accepts it.
 
-use gb_ops::machine::Region;
+use gb_prune::gb_ops::machine::Region;
 use gb_prune::{Cert, Rom, Run, Verdict, WriteFault, certificate_of, check};
 use std::alloc::{AllocError, Global};
 

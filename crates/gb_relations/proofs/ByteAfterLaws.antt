@@ -1,5 +1,5 @@
 -- What each instruction leaves of the places still makes one byte.
-use Rattle.std.proofs.Common.{◌≡◌, ℕ, ◌+◌, ◌%◌, ◌<◌, ◌≤◌, Bool, true, false, ◌==◌, cond, Some, refl, sym, subst, arith}
+use Rattle.std.proofs.Common.{◌≡◌, ℕ, ◌+◌, ◌%◌, ◌<◌, ◌≤◌, Bool, true, false, ◌==◌, cond, Option, Some, None, refl, sym, subst, arith}
 use Rattle.std.proofs.lemmas.Bool.{eqb-true}
 use Rattle.std.proofs.lemmas.Bool.Decides.{nat_tests}
 use Rattle.gb_ops.specs.declared.op.Register.TheVariants.{A, C}
@@ -20,6 +20,7 @@ use Rattle.gb_ops.specs.Pairs.{pair_value, with_pair}
 use Rattle.gb_ops.specs.Arithmetic.{incremented, decremented, shifted}
 use Rattle.gb_ops.specs.Effects.{hl, indirect_address, with_indirect, operand_value, store_operand, update_a, read_of, effect_of}
 use Rattle.gb_domain.specs.declared.types.Val.{Val}
+use Rattle.gb_domain.specs.declared.low_bits.LowBits.{LowBits}
 use Rattle.gb_domain.specs.declared.pairs.Bounds.{Bounds}
 use Rattle.gb_domain.specs.declared.pairs.WordPair.TheVariants as words
 use Rattle.gb_domain.specs.declared.places.OneByte.{OneByte}
@@ -32,6 +33,7 @@ use Rattle.gb_pairs.proofs.BoundsLaws.{bounds_of_sound}
 use Rattle.gb_copies.specs.Meaning.{HoldOneByte}
 use Rattle.gb_relations.specs.Written.{counted, written, writes_flags}
 use Rattle.gb_relations.specs.Places.{stored_place, behind_echo, loaded_place}
+use Rattle.gb_relations.specs.PointedBits.{HasIf, WritesHas}
 use Rattle.gb_relations.specs.Bytes as bytes
 use Rattle.gb_relations.specs.Transfer.{values_of}
 use Rattle.gb_relations.specs.Sound.{HasBytes, IsKeptBut, Writes, Reads, Begins}
@@ -70,11 +72,11 @@ Within-high v c m =
 -- ---- loads and stores of A
 
 HoldOneByte-stored_a :
-    (region : Region) (addresses : Bounds) (a : ℕ) (b : OneByte) (p : Processor) (memory after : ℕ → ℕ)
-    → Within addresses a → AreBytes p.registers → Writes region (write.Byte a p.registers.a) memory after
-    → HoldOneByte b p.registers memory p.flags → HoldOneByte (bytes.stored_a region addresses b) p.registers after p.flags
-HoldOneByte-stored_a region addresses a b p memory after in_it small w h =
-    HoldOneByte-stored A region addresses a (stored_place region addresses) b p.registers memory after p.flags (IsAt-stored_place region addresses a in_it.least in_it.most) in_it (small.each A) w.0 w.1 h
+    (bits : Option LowBits) (region : Region) (addresses : Bounds) (a : ℕ) (b : OneByte) (p : Processor) (memory after : ℕ → ℕ)
+    → HasIf bits a → Within addresses a → AreBytes p.registers → Writes region (write.Byte a p.registers.a) memory after
+    → HoldOneByte b p.registers memory p.flags → HoldOneByte (bytes.stored_a bits region addresses b) p.registers after p.flags
+HoldOneByte-stored_a bits region addresses a b p memory after has in_it small w h =
+    HoldOneByte-stored bits A region addresses a (stored_place region addresses) b p.registers memory after p.flags has (IsAt-stored_place region addresses a in_it.least in_it.most) in_it (small.each A) w.0 w.1 h
 
 HoldOneByte-loaded_a :
     (region : Region) (addresses : Bounds) (a l : ℕ) (b : OneByte) (p : Processor) (memory after : ℕ → ℕ)
@@ -139,10 +141,10 @@ HoldOneByte-word :
     (w : ℕ) (b : OneByte) (x : Registers ℕ) (memory after : ℕ → ℕ) (f : Flags)
     → ((c : ℕ) → (c ≡ w → ⊥) → (c ≡ (w + 1) % 65536 → ⊥) → after c ≡ memory c)
     → HoldOneByte b x memory f
-    → HoldOneByte (bytes.without_all (bytes.one ((w + 1) % 65536)) (bytes.without_all (bytes.one w) b)) x after f
+    → HoldOneByte (bytes.without_all None (bytes.one ((w + 1) % 65536)) (bytes.without_all None (bytes.one w) b)) x after f
 HoldOneByte-word w b x memory after f kept h =
-    HoldOneByte-without_all (bytes.one ((w + 1) % 65536)) ((w + 1) % 65536) _ x (first_written w memory after) after f (Within-one ((w + 1) % 65536)) (second-kept w ((w + 1) % 65536) memory after kept)
-    (HoldOneByte-without_all (bytes.one w) w b x memory (first_written w memory after) f (Within-one w) (first-kept w memory after) h)
+    HoldOneByte-without_all None (bytes.one ((w + 1) % 65536)) ((w + 1) % 65536) _ x (first_written w memory after) after f tt (Within-one ((w + 1) % 65536)) (second-kept w ((w + 1) % 65536) memory after kept)
+    (HoldOneByte-without_all None (bytes.one w) w b x memory (first_written w memory after) f tt (Within-one w) (first-kept w memory after) h)
 
 -- ---- instructions
 
@@ -168,53 +170,53 @@ HoldOneByte-forgotten region o b p memory after l h same m =
     (HoldOneByte-elsewhere b p.registers memory after p.flags same m)
 
 pub HoldOneByte-byte_after :
-    (region : Region) (o : Op) (sp : Bounds) (vals : Registers Val) (low : Val) (r : Relations) (p : Processor) (memory after : ℕ → ℕ) (l h : ℕ)
-    → HasBytes o → Begins region o sp vals low r p memory l h → Writes region (effect_of o p l h).write memory after
-    → HoldOneByte (bytes.byte_after region o (values_of vals r.pairs) low r.byte) (effect_of o p l h).processor.registers after (effect_of o p l h).processor.flags
+    (bits : Option LowBits) (region : Region) (o : Op) (sp : Bounds) (vals : Registers Val) (low : Val) (r : Relations) (p : Processor) (memory after : ℕ → ℕ) (l h : ℕ)
+    → WritesHas bits (effect_of o p l h).write → HasBytes o → Begins region o sp vals low r p memory l h → Writes region (effect_of o p l h).write memory after
+    → HoldOneByte (bytes.byte_after bits region o (values_of vals r.pairs) low r.byte) (effect_of o p l h).processor.registers after (effect_of o p l h).processor.flags
 unfolding bytes.byte_after effect_of read_of store_operand update_a
-HoldOneByte-byte_after region (op.StoreA to) sp vals low r p memory after l h has b w =
+HoldOneByte-byte_after bits region (op.StoreA to) sp vals low r p memory after l h at has b w =
     HoldOneByte-counted to _ p after
-    (HoldOneByte-stored_a region (bytes.at_indirect to (values_of vals r.pairs)) (indirect_address p to) r.byte p memory after (Within-indirect to _ p (Holds-begun b)) b.bytes w b.relations.byte)
-HoldOneByte-byte_after region (op.LoadA from) sp vals low r p memory after l h has b w =
+    (HoldOneByte-stored_a bits region (bytes.at_indirect to (values_of vals r.pairs)) (indirect_address p to) r.byte p memory after at (Within-indirect to _ p (Holds-begun b)) b.bytes w b.relations.byte)
+HoldOneByte-byte_after bits region (op.LoadA from) sp vals low r p memory after l h at has b w =
     HoldOneByte-counted_beside_a from l _ p after
     (HoldOneByte-loaded_a region (bytes.at_indirect from (values_of vals r.pairs)) (indirect_address p from) l r.byte p memory after (Within-indirect from _ p (Holds-begun b)) b.low_small b.reads w b.relations.byte)
-HoldOneByte-byte_after region (op.Increment which) sp vals low r p memory after l h has b w =
-    HoldOneByte-computed region which (values_of vals r.pairs) r.byte p (incremented (operand_value p which l) p.flags) memory after (Within-hl _ p (Holds-begun b)) (incremented-byte _ _) (incremented-zero _ _) w b.relations.byte
-HoldOneByte-byte_after region (op.Decrement which) sp vals low r p memory after l h has b w =
-    HoldOneByte-computed region which (values_of vals r.pairs) r.byte p (decremented (operand_value p which l) p.flags) memory after (Within-hl _ p (Holds-begun b)) (decremented-byte _ _) (decremented-zero _ _) w b.relations.byte
-HoldOneByte-byte_after region (op.LoadImmediate operand.AtHl n) sp vals low r p memory after l h has b w =
-    HoldOneByte-without_all (bytes.at_hl (values_of vals r.pairs)) (hl p) r.byte p.registers memory after p.flags (Within-hl _ p (Holds-begun b)) w.1 b.relations.byte
-HoldOneByte-byte_after region (op.StoreSp n) sp vals low r p memory after l h has b w =
+HoldOneByte-byte_after bits region (op.Increment which) sp vals low r p memory after l h at has b w =
+    HoldOneByte-computed bits region which (values_of vals r.pairs) r.byte p (incremented (operand_value p which l) p.flags) memory after at (Within-hl _ p (Holds-begun b)) (incremented-byte _ _) (incremented-zero _ _) w b.relations.byte
+HoldOneByte-byte_after bits region (op.Decrement which) sp vals low r p memory after l h at has b w =
+    HoldOneByte-computed bits region which (values_of vals r.pairs) r.byte p (decremented (operand_value p which l) p.flags) memory after at (Within-hl _ p (Holds-begun b)) (decremented-byte _ _) (decremented-zero _ _) w b.relations.byte
+HoldOneByte-byte_after bits region (op.LoadImmediate operand.AtHl n) sp vals low r p memory after l h at has b w =
+    HoldOneByte-without_all bits (bytes.at_hl (values_of vals r.pairs)) (hl p) r.byte p.registers memory after p.flags at (Within-hl _ p (Holds-begun b)) w.1 b.relations.byte
+HoldOneByte-byte_after bits region (op.StoreSp n) sp vals low r p memory after l h at has b w =
     HoldOneByte-word n r.byte p.registers memory after p.flags w b.relations.byte
-HoldOneByte-byte_after region (op.Load to from) sp vals low r p memory after l h has b w =
-    HoldOneByte-moved region to from (values_of vals r.pairs) r.byte p memory after l (Within-hl _ p (Holds-begun b)) b.bytes b.low_small b.reads w b.relations.byte
-HoldOneByte-byte_after region (op.Alu how from) sp vals low r p memory after l h has b w =
+HoldOneByte-byte_after bits region (op.Load to from) sp vals low r p memory after l h at has b w =
+    HoldOneByte-moved bits region to from (values_of vals r.pairs) r.byte p memory after l at (Within-hl _ p (Holds-begun b)) b.bytes b.low_small b.reads w b.relations.byte
+HoldOneByte-byte_after bits region (op.Alu how from) sp vals low r p memory after l h at has b w =
     HoldOneByte-elsewhere _ _ memory after _ (λ a e. w a)
     (HoldOneByte-of_a_with how from (values_of vals r.pairs) low l r.byte p memory b.registers b.low_read b.low_small b.bytes b.relations.byte)
-HoldOneByte-byte_after region (op.AluImmediate how n) sp vals low r p memory after l h has b w =
+HoldOneByte-byte_after bits region (op.AluImmediate how n) sp vals low r p memory after l h at has b w =
     HoldOneByte-elsewhere _ _ memory after _ (λ a e. w a)
     (HoldOneByte-of_a how (Some n) n r.byte p.registers memory p.flags refl has b.bytes b.relations.byte)
-HoldOneByte-byte_after region (op.StoreHigh n) sp vals low r p memory after l h has b w =
-    HoldOneByte-stored_a region (bytes.one (0xFF00 + n)) (0xFF00 + n) r.byte p memory after (Within-one _) b.bytes w b.relations.byte
-HoldOneByte-byte_after region (op.LoadHigh n) sp vals low r p memory after l h has b w =
+HoldOneByte-byte_after bits region (op.StoreHigh n) sp vals low r p memory after l h at has b w =
+    HoldOneByte-stored_a None region (bytes.one (0xFF00 + n)) (0xFF00 + n) r.byte p memory after tt (Within-one _) b.bytes w b.relations.byte
+HoldOneByte-byte_after bits region (op.LoadHigh n) sp vals low r p memory after l h at has b w =
     HoldOneByte-loaded_a region (bytes.one (0xFF00 + n)) (0xFF00 + n) l r.byte p memory after (Within-one _) b.low_small b.reads w b.relations.byte
-HoldOneByte-byte_after region op.StoreHighC sp vals low r p memory after l h has b w =
-    HoldOneByte-stored_a region (bytes.at_high (values_of vals r.pairs)) (0xFF00 + p.registers.c) r.byte p memory after (Within-high (values_of vals r.pairs) p.registers.c (b.registers C)) b.bytes w b.relations.byte
-HoldOneByte-byte_after region op.LoadHighC sp vals low r p memory after l h has b w =
+HoldOneByte-byte_after bits region op.StoreHighC sp vals low r p memory after l h at has b w =
+    HoldOneByte-stored_a bits region (bytes.at_high (values_of vals r.pairs)) (0xFF00 + p.registers.c) r.byte p memory after at (Within-high (values_of vals r.pairs) p.registers.c (b.registers C)) b.bytes w b.relations.byte
+HoldOneByte-byte_after bits region op.LoadHighC sp vals low r p memory after l h at has b w =
     HoldOneByte-loaded_a region (bytes.at_high (values_of vals r.pairs)) (0xFF00 + p.registers.c) l r.byte p memory after (Within-high (values_of vals r.pairs) p.registers.c (b.registers C)) b.low_small b.reads w b.relations.byte
-HoldOneByte-byte_after region (op.StoreAbsolute n) sp vals low r p memory after l h has b w =
-    HoldOneByte-stored_a region (bytes.one n) n r.byte p memory after (Within-one n) b.bytes w b.relations.byte
-HoldOneByte-byte_after region (op.LoadAbsolute n) sp vals low r p memory after l h has b w =
+HoldOneByte-byte_after bits region (op.StoreAbsolute n) sp vals low r p memory after l h at has b w =
+    HoldOneByte-stored_a None region (bytes.one n) n r.byte p memory after tt (Within-one n) b.bytes w b.relations.byte
+HoldOneByte-byte_after bits region (op.LoadAbsolute n) sp vals low r p memory after l h at has b w =
     HoldOneByte-loaded_a region (bytes.one n) n l r.byte p memory after (Within-one n) b.low_small b.reads w b.relations.byte
-HoldOneByte-byte_after region (op.Shift how which) sp vals low r p memory after l h has b w =
-    HoldOneByte-computed region which (values_of vals r.pairs) r.byte p (shifted how (operand_value p which l) p.flags.carry) memory after (Within-hl _ p (Holds-begun b)) (shift-byte how _ _ (operand-byte which p l b.low_small b.bytes)) (shifted-zero how _ _) w b.relations.byte
-HoldOneByte-byte_after region (op.Bit n which) sp vals low r p memory after l h has b w =
+HoldOneByte-byte_after bits region (op.Shift how which) sp vals low r p memory after l h at has b w =
+    HoldOneByte-computed bits region which (values_of vals r.pairs) r.byte p (shifted how (operand_value p which l) p.flags.carry) memory after at (Within-hl _ p (Holds-begun b)) (shift-byte how _ _ (operand-byte which p l b.low_small b.bytes)) (shifted-zero how _ _) w b.relations.byte
+HoldOneByte-byte_after bits region (op.Bit n which) sp vals low r p memory after l h at has b w =
     HoldOneByte-elsewhere _ _ memory after _ (λ a e. w a)
     (HoldOneByte-bit region n which (values_of vals r.pairs) r.byte p memory l (Within-hl _ p (Holds-begun b)) b.bytes b.low_small b.reads b.relations.byte)
-HoldOneByte-byte_after region (op.Reset n operand.AtHl) sp vals low r p memory after l h has b w =
-    HoldOneByte-without_all (bytes.at_hl (values_of vals r.pairs)) (hl p) r.byte p.registers memory after p.flags (Within-hl _ p (Holds-begun b)) w.1 b.relations.byte
-HoldOneByte-byte_after region (op.Set n operand.AtHl) sp vals low r p memory after l h has b w =
-    HoldOneByte-without_all (bytes.at_hl (values_of vals r.pairs)) (hl p) r.byte p.registers memory after p.flags (Within-hl _ p (Holds-begun b)) w.1 b.relations.byte
-HoldOneByte-byte_after region o sp vals low r p memory after l h has b w =
+HoldOneByte-byte_after bits region (op.Reset n operand.AtHl) sp vals low r p memory after l h at has b w =
+    HoldOneByte-without_all bits (bytes.at_hl (values_of vals r.pairs)) (hl p) r.byte p.registers memory after p.flags at (Within-hl _ p (Holds-begun b)) w.1 b.relations.byte
+HoldOneByte-byte_after bits region (op.Set n operand.AtHl) sp vals low r p memory after l h at has b w =
+    HoldOneByte-without_all bits (bytes.at_hl (values_of vals r.pairs)) (hl p) r.byte p.registers memory after p.flags at (Within-hl _ p (Holds-begun b)) w.1 b.relations.byte
+HoldOneByte-byte_after bits region o sp vals low r p memory after l h at has b w =
     HoldOneByte-forgotten region o r.byte p memory after l h
     (places-stay region (effect_of o p l h).write r.byte.address memory after (effect_of-outside o p l h refl) w b.free) b.relations.byte

@@ -1,5 +1,5 @@
 -- What is left of the places, and what is copied or tested, still makes one byte.
-use Rattle.std.proofs.Common.{◌≡◌, ℕ, ◌<◌, Bool, true, false, ◌==◌, List, [], ◌∷◌, Option, Some, None, refl, sym, ◌∙◌, subst, arith}
+use Rattle.std.proofs.Common.{◌≡◌, ℕ, ◌<◌, Bool, true, false, ◌==◌, cond, List, [], ◌∷◌, Option, Some, None, refl, sym, ◌∙◌, subst, arith}
 use Rattle.gb_ops.specs.declared.op.Register.{Register}
 use Rattle.gb_ops.specs.declared.op.Operand.{Operand}
 use Rattle.gb_ops.specs.declared.op.Operand.TheVariants as operand
@@ -12,6 +12,7 @@ use Rattle.gb_ops.specs.Registers.{get, set}
 use Rattle.gb_ops.specs.Arithmetic.{bit_tested}
 use Rattle.gb_ops.specs.Pairs.{pair_value}
 use Rattle.gb_ops.specs.Effects.{hl, operand_read, operand_value, store_operand, update_operand}
+use Rattle.gb_domain.specs.declared.low_bits.LowBits.{LowBits}
 use Rattle.gb_domain.specs.declared.pairs.Bounds.{Bounds}
 use Rattle.gb_domain.specs.declared.places.Place.{Place}
 use Rattle.gb_domain.specs.declared.places.Place.TheVariants as place
@@ -21,14 +22,16 @@ use Rattle.gb_pairs.specs.Meaning.{AreBytes}
 use Rattle.gb_pairs.specs.Sound.{Within}
 use Rattle.gb_pairs.proofs.RegisterLaws.{get_same}
 use Rattle.gb_copies.specs.Meaning.{HoldOneByte, held_at}
-use Rattle.gb_copies.specs.Places.{only_tested, tested}
+use Rattle.gb_copies.specs.Places.{without_addresses, only_tested, tested}
 use Rattle.gb_copies.proofs.PlaceLaws.{without_register_sound, without_addresses_sound, without_test_sound, only_tested_sound, tested_sound}
 use Rattle.gb_copies.proofs.CopyLaws.{copied_sound_register, copied_sound_address}
 use Rattle.gb_relations.specs.Places.{is_ram, stored_place, behind_echo, loaded_place}
+use Rattle.gb_relations.specs.PointedBits.{HasIf, WritesHas}
 use Rattle.gb_relations.specs.Bytes as bytes
 use Rattle.gb_relations.specs.Sound.{IsKeptBut, Writes, Reads}
 use Rattle.gb_relations.proofs.ResultLaws.{IsTested-zero}
 use Rattle.gb_relations.proofs.MachineLaws.{Overwrites, overwritten}
+use Rattle.gb_relations.proofs.PointedBitsLaws.{not_both, elsewhere}
 use Rattle.gb_relations.proofs.AddressLaws.{IsAt, free-ram, IsAt-stored_place, IsAt-loaded_place}
 
 -- ---- forgetting
@@ -78,11 +81,18 @@ HoldOneByte-registers rs b x y memory f over h =
 
 -- one of some addresses is written
 pub HoldOneByte-without_all :
-    (addresses : Bounds) (a : ℕ) (b : OneByte) (x : Registers ℕ) (memory after : ℕ → ℕ) (f : Flags)
-    → Within addresses a → IsKeptBut a memory after → HoldOneByte b x memory f
-    → HoldOneByte (bytes.without_all addresses b) x after f
-HoldOneByte-without_all addresses a b x memory after f in_it kept h =
-    (without_addresses_sound addresses.first addresses.last b _ refl).gives x memory after f a in_it.least in_it.most kept h
+    (bits : Option LowBits) (addresses : Bounds) (a : ℕ) (b : OneByte) (x : Registers ℕ) (memory after : ℕ → ℕ) (f : Flags)
+    → HasIf bits a → Within addresses a → IsKeptBut a memory after → HoldOneByte b x memory f
+    → HoldOneByte (bytes.without_all bits addresses b) x after f
+HoldOneByte-without_all bits addresses a b x memory after f has in_it kept h = choose (bytes.may_meet bits b.address) refl
+  where
+    other : (address : Option ℕ) → bytes.may_meet bits address ≡ false → (c : ℕ) → address ≡ Some c → c ≡ a → ⊥
+    other None none c e = absurd (not_both none)
+    other (Some d) none c e = elsewhere bits a c has (subst (λ n. bytes.may_meet bits n ≡ false) e none)
+
+    choose : (meets : Bool) → bytes.may_meet bits b.address ≡ meets → HoldOneByte (cond meets (without_addresses addresses.first addresses.last b) b) x after f
+    choose true e = (without_addresses_sound addresses.first addresses.last b _ refl).gives x memory after f a in_it.least in_it.most kept h
+    choose false e = HoldOneByte-elsewhere b x memory after f (λ c is. kept c (other b.address e c is)) h
 
 -- ---- copies
 
@@ -100,34 +110,34 @@ HoldOneByte-loaded to region a n (Some p) b x memory f at small reads h =
 
 -- a register is stored
 pub HoldOneByte-stored :
-    (from : Register) (region : Region) (addresses : Bounds) (a : ℕ) (to : Option Place) (b : OneByte) (x : Registers ℕ) (memory after : ℕ → ℕ) (f : Flags)
-    → IsAt region a to → Within addresses a → get from x < 256
+    (bits : Option LowBits) (from : Register) (region : Region) (addresses : Bounds) (a : ℕ) (to : Option Place) (b : OneByte) (x : Registers ℕ) (memory after : ℕ → ℕ) (f : Flags)
+    → HasIf bits a → IsAt region a to → Within addresses a → get from x < 256
     → (is_ram a ≡ true → after a ≡ get from x) → IsKeptBut a memory after → HoldOneByte b x memory f
-    → HoldOneByte (bytes.stored from addresses to b) x after f
-HoldOneByte-stored from region addresses a None b x memory after f at in_it small writes kept h =
-    HoldOneByte-without_all addresses a b x memory after f in_it kept h
-HoldOneByte-stored from region addresses a (Some p) b x memory after f at in_it small writes kept h =
-    subst (λ q. HoldOneByte (bytes.stored from addresses (Some q) b) x after f) (sym at.0)
+    → HoldOneByte (bytes.stored bits from addresses to b) x after f
+HoldOneByte-stored bits from region addresses a None b x memory after f has at in_it small writes kept h =
+    HoldOneByte-without_all bits addresses a b x memory after f has in_it kept h
+HoldOneByte-stored bits from region addresses a (Some p) b x memory after f has at in_it small writes kept h =
+    subst (λ q. HoldOneByte (bytes.stored bits from addresses (Some q) b) x after f) (sym at.0)
     ((copied_sound_address a from (place.Address a) (place.Register from) b _ refl refl refl).gives x memory after f small (writes (free-ram region a at.1)) kept h)
 
 -- LD of a byte
 pub HoldOneByte-moved :
-    (region : Region) (to from : Operand) (v : Values) (b : OneByte) (p : Processor) (memory after : ℕ → ℕ) (l : ℕ)
-    → Within (bytes.at_hl v) (hl p) → AreBytes p.registers → l < 256
+    (bits : Option LowBits) (region : Region) (to from : Operand) (v : Values) (b : OneByte) (p : Processor) (memory after : ℕ → ℕ) (l : ℕ)
+    → WritesHas bits (store_operand p to (operand_value p from l)).write → Within (bytes.at_hl v) (hl p) → AreBytes p.registers → l < 256
     → Reads (operand_read p from) memory l → Writes region (store_operand p to (operand_value p from l)).write memory after
     → HoldOneByte b p.registers memory p.flags
-    → HoldOneByte (bytes.moved region to from v b) (store_operand p to (operand_value p from l)).processor.registers after (store_operand p to (operand_value p from l)).processor.flags
+    → HoldOneByte (bytes.moved bits region to from v b) (store_operand p to (operand_value p from l)).processor.registers after (store_operand p to (operand_value p from l)).processor.flags
 unfolding store_operand operand_value operand_read
-HoldOneByte-moved region (operand.Register to) (operand.Register from) v b p memory after l in_it small byte reads w h =
+HoldOneByte-moved bits region (operand.Register to) (operand.Register from) v b p memory after l has in_it small byte reads w h =
     HoldOneByte-elsewhere _ _ memory after p.flags (λ a e. w a)
     ((copied_sound_register to (place.Register to) (place.Register from) b _ refl refl).gives p.registers memory p.flags (small.each from) h)
-HoldOneByte-moved region (operand.Register to) operand.AtHl v b p memory after l in_it small byte reads w h =
+HoldOneByte-moved bits region (operand.Register to) operand.AtHl v b p memory after l has in_it small byte reads w h =
     HoldOneByte-elsewhere _ _ memory after p.flags (λ a e. w a)
     (HoldOneByte-loaded to region (behind_echo (hl p)) l (loaded_place region (bytes.at_hl v)) b p.registers memory p.flags (IsAt-loaded_place region (bytes.at_hl v) (hl p) in_it.least in_it.most) byte reads h)
-HoldOneByte-moved region operand.AtHl (operand.Register from) v b p memory after l in_it small byte reads w h =
-    HoldOneByte-stored from region (bytes.at_hl v) (hl p) (stored_place region (bytes.at_hl v)) b p.registers memory after p.flags (IsAt-stored_place region (bytes.at_hl v) (hl p) in_it.least in_it.most) in_it (small.each from) w.0 w.1 h
-HoldOneByte-moved region operand.AtHl operand.AtHl v b p memory after l in_it small byte reads w h =
-    HoldOneByte-without_all (bytes.at_hl v) (hl p) b p.registers memory after p.flags in_it w.1 h
+HoldOneByte-moved bits region operand.AtHl (operand.Register from) v b p memory after l has in_it small byte reads w h =
+    HoldOneByte-stored bits from region (bytes.at_hl v) (hl p) (stored_place region (bytes.at_hl v)) b p.registers memory after p.flags has (IsAt-stored_place region (bytes.at_hl v) (hl p) in_it.least in_it.most) in_it (small.each from) w.0 w.1 h
+HoldOneByte-moved bits region operand.AtHl operand.AtHl v b p memory after l has in_it small byte reads w h =
+    HoldOneByte-without_all bits (bytes.at_hl v) (hl p) b p.registers memory after p.flags has in_it w.1 h
 
 -- ---- tests
 
@@ -147,29 +157,29 @@ HoldOneByte-zero_register r n x memory f small e =
     (subst (λ m. f.zero ≡ (m == 0)) (sym is) e)
 
 HoldOneByte-computed_at :
-    (region : Region) (addresses : Bounds) (a n : ℕ) (to : Option Place) (b : OneByte) (x : Registers ℕ) (memory after : ℕ → ℕ) (f g : Flags)
-    → IsAt region a to → Within addresses a → n < 256 → g.zero ≡ (n == 0)
+    (bits : Option LowBits) (region : Region) (addresses : Bounds) (a n : ℕ) (to : Option Place) (b : OneByte) (x : Registers ℕ) (memory after : ℕ → ℕ) (f g : Flags)
+    → HasIf bits a → IsAt region a to → Within addresses a → n < 256 → g.zero ≡ (n == 0)
     → (is_ram a ≡ true → after a ≡ n) → IsKeptBut a memory after → HoldOneByte b x memory f
-    → HoldOneByte (bytes.computed_at to addresses b) x after g
-HoldOneByte-computed_at region addresses a n None b x memory after f g at in_it small e writes kept h =
-    (without_test_sound (bytes.without_all addresses b) _ refl).gives x after f g (HoldOneByte-without_all addresses a b x memory after f in_it kept h)
-HoldOneByte-computed_at region addresses a n (Some p) b x memory after f g at in_it small e writes kept h =
+    → HoldOneByte (bytes.computed_at bits to addresses b) x after g
+HoldOneByte-computed_at bits region addresses a n None b x memory after f g has at in_it small e writes kept h =
+    (without_test_sound (bytes.without_all bits addresses b) _ refl).gives x after f g (HoldOneByte-without_all bits addresses a b x memory after f has in_it kept h)
+HoldOneByte-computed_at bits region addresses a n (Some p) b x memory after f g has at in_it small e writes kept h =
     let is : after a ≡ n = writes (free-ram region a at.1) in
     subst (λ q. HoldOneByte (only_tested q bytes.is_zero_test) x after g) (sym at.0)
     (HoldOneByte-zero (place.Address a) x after g (subst (λ m. m < 256) (sym is) small) (subst (λ m. g.zero ≡ (m == 0)) (sym is) e))
 
 -- an operand becomes what is computed, and Z says whether that is 0
 pub HoldOneByte-computed :
-    (region : Region) (which : Operand) (v : Values) (b : OneByte) (p : Processor) (c : Computed) (memory after : ℕ → ℕ)
-    → Within (bytes.at_hl v) (hl p) → c.value < 256 → c.flags.zero ≡ (c.value == 0)
+    (bits : Option LowBits) (region : Region) (which : Operand) (v : Values) (b : OneByte) (p : Processor) (c : Computed) (memory after : ℕ → ℕ)
+    → WritesHas bits (update_operand p which c).write → Within (bytes.at_hl v) (hl p) → c.value < 256 → c.flags.zero ≡ (c.value == 0)
     → Writes region (update_operand p which c).write memory after
     → HoldOneByte b p.registers memory p.flags
-    → HoldOneByte (bytes.computed region which v b) (update_operand p which c).processor.registers after (update_operand p which c).processor.flags
+    → HoldOneByte (bytes.computed bits region which v b) (update_operand p which c).processor.registers after (update_operand p which c).processor.flags
 unfolding update_operand store_operand pair_value
-HoldOneByte-computed region (operand.Register r) v b p c memory after in_it small e w h =
+HoldOneByte-computed bits region (operand.Register r) v b p c memory after has in_it small e w h =
     HoldOneByte-zero_register r c.value p.registers after c.flags small e
-HoldOneByte-computed region operand.AtHl v b p c memory after in_it small e w h =
-    HoldOneByte-computed_at region (bytes.at_hl v) (hl p) c.value (stored_place region (bytes.at_hl v)) b p.registers memory after p.flags c.flags (IsAt-stored_place region (bytes.at_hl v) (hl p) in_it.least in_it.most) in_it small e w.0 w.1 h
+HoldOneByte-computed bits region operand.AtHl v b p c memory after has in_it small e w h =
+    HoldOneByte-computed_at bits region (bytes.at_hl v) (hl p) c.value (stored_place region (bytes.at_hl v)) b p.registers memory after p.flags c.flags has (IsAt-stored_place region (bytes.at_hl v) (hl p) in_it.least in_it.most) in_it small e w.0 w.1 h
 
 HoldOneByte-bit_at :
     (region : Region) (a l n : ℕ) (from : Option Place) (b : OneByte) (x : Registers ℕ) (memory : ℕ → ℕ) (f : Flags)

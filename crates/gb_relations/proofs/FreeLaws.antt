@@ -10,6 +10,7 @@ use Rattle.gb_ops.specs.declared.op.Op.{Op}
 use Rattle.gb_ops.specs.declared.op.Op.TheVariants as op
 use Rattle.gb_ops.specs.declared.machine.Region.{Region}
 use Rattle.gb_ops.specs.Registers.{set}
+use Rattle.gb_domain.specs.declared.low_bits.LowBits.{LowBits}
 use Rattle.gb_domain.specs.declared.types.Val.{Val}
 use Rattle.gb_domain.specs.declared.pairs.Bounds.{Bounds}
 use Rattle.gb_domain.specs.declared.places.Place.{Place}
@@ -138,30 +139,34 @@ loaded-free :
 loaded-free region to None b f h = without_register-free region to b h
 loaded-free region to (Some p) b f h = copied-free region (place.Register to) p b tt f h
 
+without_all-free :
+    (region : Region) (bits : Option LowBits) (addresses : Bounds) (b : OneByte) → IsByteFree region b.address → IsByteFree region (bytes.without_all bits addresses b).address
+without_all-free region bits addresses b h = choose (bytes.may_meet bits b.address)
+  where
+    choose : (meets : Bool) → IsByteFree region (cond meets (places.without_addresses addresses.first addresses.last b) b).address
+    choose true = without_addresses-free region addresses.first addresses.last b h
+    choose false = h
+
 stored-free :
-    (region : Region) (from : Register) (addresses : Bounds) (to : Option Place) (b : OneByte)
-    → IsFreeIn region to → IsByteFree region b.address → IsByteFree region (bytes.stored from addresses to b).address
-stored-free region from addresses None b f h = without_addresses-free region addresses.first addresses.last b h
-stored-free region from addresses (Some p) b f h = copied-free region p (place.Register from) b f tt h
+    (region : Region) (bits : Option LowBits) (from : Register) (addresses : Bounds) (to : Option Place) (b : OneByte)
+    → IsFreeIn region to → IsByteFree region b.address → IsByteFree region (bytes.stored bits from addresses to b).address
+stored-free region bits from addresses None b f h = without_all-free region bits addresses b h
+stored-free region bits from addresses (Some p) b f h = copied-free region p (place.Register from) b f tt h
 
 loaded_a-free :
     (region : Region) (addresses : Bounds) (b : OneByte) → IsByteFree region b.address → IsByteFree region (bytes.loaded_a region addresses b).address
 loaded_a-free region addresses b h = loaded-free region A (loaded_place region addresses) b (loaded_place-free region addresses) h
 
 stored_a-free :
-    (region : Region) (addresses : Bounds) (b : OneByte) → IsByteFree region b.address → IsByteFree region (bytes.stored_a region addresses b).address
-stored_a-free region addresses b h = stored-free region A addresses (stored_place region addresses) b (stored_place-free region addresses) h
-
-without_all-free :
-    (region : Region) (addresses : Bounds) (b : OneByte) → IsByteFree region b.address → IsByteFree region (bytes.without_all addresses b).address
-without_all-free region addresses b h = without_addresses-free region addresses.first addresses.last b h
+    (region : Region) (bits : Option LowBits) (addresses : Bounds) (b : OneByte) → IsByteFree region b.address → IsByteFree region (bytes.stored_a bits region addresses b).address
+stored_a-free region bits addresses b h = stored-free region bits A addresses (stored_place region addresses) b (stored_place-free region addresses) h
 
 moved-free :
-    (region : Region) (to from : Operand) (v : Values) (b : OneByte) → IsByteFree region b.address → IsByteFree region (bytes.moved region to from v b).address
-moved-free region (operand.Register to) (operand.Register from) v b h = copied-free region (place.Register to) (place.Register from) b tt tt h
-moved-free region (operand.Register to) operand.AtHl v b h = loaded-free region to _ b (loaded_place-free region (bytes.at_hl v)) h
-moved-free region operand.AtHl (operand.Register from) v b h = stored-free region from (bytes.at_hl v) _ b (stored_place-free region (bytes.at_hl v)) h
-moved-free region operand.AtHl operand.AtHl v b h = without_all-free region (bytes.at_hl v) b h
+    (region : Region) (bits : Option LowBits) (to from : Operand) (v : Values) (b : OneByte) → IsByteFree region b.address → IsByteFree region (bytes.moved bits region to from v b).address
+moved-free region bits (operand.Register to) (operand.Register from) v b h = copied-free region (place.Register to) (place.Register from) b tt tt h
+moved-free region bits (operand.Register to) operand.AtHl v b h = loaded-free region to _ b (loaded_place-free region (bytes.at_hl v)) h
+moved-free region bits operand.AtHl (operand.Register from) v b h = stored-free region bits from (bytes.at_hl v) _ b (stored_place-free region (bytes.at_hl v)) h
+moved-free region bits operand.AtHl operand.AtHl v b h = without_all-free region bits (bytes.at_hl v) b h
 
 -- ---- tests
 
@@ -189,15 +194,15 @@ tested_before_a-free region t b h = choose (b.registers.a && nat_le 2 (places.co
     choose false = only_tested-free region (place.Register A) (test.Bits 255) tt
 
 computed_at-free :
-    (region : Region) (to : Option Place) (addresses : Bounds) (b : OneByte)
-    → IsFreeIn region to → IsByteFree region b.address → IsByteFree region (bytes.computed_at to addresses b).address
-computed_at-free region None addresses b f h = without_test-free region _ (without_all-free region addresses b h)
-computed_at-free region (Some p) addresses b f h = only_tested-free region p bytes.is_zero_test f
+    (region : Region) (bits : Option LowBits) (to : Option Place) (addresses : Bounds) (b : OneByte)
+    → IsFreeIn region to → IsByteFree region b.address → IsByteFree region (bytes.computed_at bits to addresses b).address
+computed_at-free region bits None addresses b f h = without_test-free region _ (without_all-free region bits addresses b h)
+computed_at-free region bits (Some p) addresses b f h = only_tested-free region p bytes.is_zero_test f
 
 computed-free :
-    (region : Region) (which : Operand) (v : Values) (b : OneByte) → IsByteFree region b.address → IsByteFree region (bytes.computed region which v b).address
-computed-free region (operand.Register r) v b h = only_tested-free region (place.Register r) bytes.is_zero_test tt
-computed-free region operand.AtHl v b h = computed_at-free region _ (bytes.at_hl v) b (stored_place-free region (bytes.at_hl v)) h
+    (region : Region) (bits : Option LowBits) (which : Operand) (v : Values) (b : OneByte) → IsByteFree region b.address → IsByteFree region (bytes.computed bits region which v b).address
+computed-free region bits (operand.Register r) v b h = only_tested-free region (place.Register r) bytes.is_zero_test tt
+computed-free region bits operand.AtHl v b h = computed_at-free region bits _ (bytes.at_hl v) b (stored_place-free region (bytes.at_hl v)) h
 
 bit_tested_at-free :
     (region : Region) (from : Option Place) (n : ℕ) (b : OneByte)
@@ -238,27 +243,27 @@ of_a_with-free region how operand.AtHl v low b h = of_a-free region how _ b h
 -- ---- instructions
 
 pub byte_after-free :
-    (region : Region) (o : Op) (v : Values) (low : Val) (b : OneByte)
-    → IsByteFree region b.address → IsByteFree region (bytes.byte_after region o v low b).address
+    (region : Region) (bits : Option LowBits) (o : Op) (v : Values) (low : Val) (b : OneByte)
+    → IsByteFree region b.address → IsByteFree region (bytes.byte_after bits region o v low b).address
 unfolding bytes.byte_after
-byte_after-free region (op.StoreA to) v low b h = without_registers-free region (counted to) _ (stored_a-free region (bytes.at_indirect to v) b h)
-byte_after-free region (op.LoadA from) v low b h = without_registers-free region (counted from) _ (loaded_a-free region (bytes.at_indirect from v) b h)
-byte_after-free region (op.Increment which) v low b h = computed-free region which v b h
-byte_after-free region (op.Decrement which) v low b h = computed-free region which v b h
-byte_after-free region (op.LoadImmediate operand.AtHl n) v low b h = without_all-free region (bytes.at_hl v) b h
-byte_after-free region (op.StoreSp w) v low b h = without_all-free region _ _ (without_all-free region (bytes.one w) b h)
-byte_after-free region (op.Load to from) v low b h = moved-free region to from v b h
-byte_after-free region (op.Alu how from) v low b h = of_a_with-free region how from v low b h
-byte_after-free region (op.AluImmediate how n) v low b h = of_a-free region how (Some n) b h
-byte_after-free region (op.StoreHigh n) v low b h = stored_a-free region _ b h
-byte_after-free region (op.LoadHigh n) v low b h = loaded_a-free region _ b h
-byte_after-free region op.StoreHighC v low b h = stored_a-free region _ b h
-byte_after-free region op.LoadHighC v low b h = loaded_a-free region _ b h
-byte_after-free region (op.StoreAbsolute w) v low b h = stored_a-free region _ b h
-byte_after-free region (op.LoadAbsolute w) v low b h = loaded_a-free region _ b h
-byte_after-free region (op.Shift how which) v low b h = computed-free region which v b h
-byte_after-free region (op.Bit n which) v low b h = bit_tested-free region n which v b h
-byte_after-free region (op.Reset n operand.AtHl) v low b h = without_all-free region (bytes.at_hl v) b h
-byte_after-free region (op.Set n operand.AtHl) v low b h = without_all-free region (bytes.at_hl v) b h
-byte_after-free region o v low b h =
+byte_after-free region bits (op.StoreA to) v low b h = without_registers-free region (counted to) _ (stored_a-free region bits (bytes.at_indirect to v) b h)
+byte_after-free region bits (op.LoadA from) v low b h = without_registers-free region (counted from) _ (loaded_a-free region (bytes.at_indirect from v) b h)
+byte_after-free region bits (op.Increment which) v low b h = computed-free region bits which v b h
+byte_after-free region bits (op.Decrement which) v low b h = computed-free region bits which v b h
+byte_after-free region bits (op.LoadImmediate operand.AtHl n) v low b h = without_all-free region bits (bytes.at_hl v) b h
+byte_after-free region bits (op.StoreSp w) v low b h = without_all-free region None _ _ (without_all-free region None (bytes.one w) b h)
+byte_after-free region bits (op.Load to from) v low b h = moved-free region bits to from v b h
+byte_after-free region bits (op.Alu how from) v low b h = of_a_with-free region how from v low b h
+byte_after-free region bits (op.AluImmediate how n) v low b h = of_a-free region how (Some n) b h
+byte_after-free region bits (op.StoreHigh n) v low b h = stored_a-free region None _ b h
+byte_after-free region bits (op.LoadHigh n) v low b h = loaded_a-free region _ b h
+byte_after-free region bits op.StoreHighC v low b h = stored_a-free region bits _ b h
+byte_after-free region bits op.LoadHighC v low b h = loaded_a-free region _ b h
+byte_after-free region bits (op.StoreAbsolute w) v low b h = stored_a-free region None _ b h
+byte_after-free region bits (op.LoadAbsolute w) v low b h = loaded_a-free region _ b h
+byte_after-free region bits (op.Shift how which) v low b h = computed-free region bits which v b h
+byte_after-free region bits (op.Bit n which) v low b h = bit_tested-free region n which v b h
+byte_after-free region bits (op.Reset n operand.AtHl) v low b h = without_all-free region bits (bytes.at_hl v) b h
+byte_after-free region bits (op.Set n operand.AtHl) v low b h = without_all-free region bits (bytes.at_hl v) b h
+byte_after-free region bits o v low b h =
     without_test_if-free region (writes_flags o) _ (without_registers-free region (written o) b h)

@@ -1,6 +1,7 @@
 pub mod ResultLaws
 pub mod MachineLaws
 pub mod AddressLaws
+pub mod PointedBitsLaws
 pub mod ByteLaws
 pub mod AluLaws
 pub mod ByteAfterLaws

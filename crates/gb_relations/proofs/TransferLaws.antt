@@ -1,5 +1,5 @@
 -- What an instruction leaves holds behind each of its effects.
-use Rattle.std.proofs.Common.{◌≡◌, Bool, ℕ, ◌<◌, sym, subst, arith}
+use Rattle.std.proofs.Common.{◌≡◌, Bool, ℕ, ◌<◌, refl, sym, subst, arith}
 use Rattle.gb_ops.specs.declared.op.Register.TheVariants.{B, C, D, E, H, L}
 use Rattle.gb_ops.specs.declared.op.Op.{Op}
 use Rattle.gb_ops.specs.declared.machine.Region.{Region}
@@ -16,6 +16,8 @@ use Rattle.gb_domain.specs.declared.rules.Rules.{Rules}
 use Rattle.gb_domain.specs.declared.rules.Rules.TheVariants.{Simple, Extended}
 use Rattle.gb_domain.specs.Pairs.{no_pairs, facts_of, IsPairFacts, ArePairs}
 use Rattle.gb_pairs.specs.Meaning.{AreBytes, HoldsPair, HoldPairs}
+use Rattle.gb_relations.specs.PointedBits.{known_bits}
+use Rattle.gb_relations.proofs.PointedBitsLaws.{known_bits_sound}
 use Rattle.gb_relations.specs.Meaning.{HoldRelations}
 use Rattle.gb_relations.specs.Transfer.{values_of, relations_after}
 use Rattle.gb_relations.specs.Sound.{HasBytes, Writes, IsByteFree, Begins, IsSoundTransfer}
@@ -56,7 +58,7 @@ relations_after-free : (rules : Rules) (is_whole : Bool) (region : Region) (o : 
     → IsByteFree region r.byte.address → IsByteFree region (relations_after rules is_whole region o sp vals low r).byte.address
 unfolding relations_after
 relations_after-free Simple is_whole region o sp vals low r h = compared_after-free region o r.byte
-relations_after-free Extended is_whole region o sp vals low r h = byte_after-free region o (values_of vals r.pairs) low r.byte h
+relations_after-free Extended is_whole region o sp vals low r h = byte_after-free region (known_bits Extended is_whole o vals) o (values_of vals r.pairs) low r.byte h
 
 HoldRelations-relations_after :
     (rules : Rules) (is_whole : Bool) (region : Region) (o : Op) (sp : Bounds) (vals : Registers Val) (low : Val) (r : Relations) (p : Processor) (memory after : ℕ → ℕ) (l h : ℕ)
@@ -72,7 +74,8 @@ HoldRelations-relations_after Simple is_whole region o sp vals low r p memory af
     }
 HoldRelations-relations_after Extended is_whole region o sp vals low r p memory after l h has small are b w =
     record {
-      byte = HoldOneByte-byte_after region o sp vals low r p memory after l h has b w;
+      byte = HoldOneByte-byte_after (known_bits Extended is_whole o vals) region o sp vals low r p memory after l h
+          ((known_bits_sound Extended is_whole o vals _ refl).writes p l h b.bytes b.registers) has b w;
       zero = IsZero-zero_after o r.byte r.zero p memory l h b.relations.byte b.relations.zero;
       pairs =
           HoldPairs-with_pair_copied is_whole o r.byte (values_of vals r.pairs) _ p memory l h b.relations.byte (Holds-begun b)

@@ -14,6 +14,7 @@ use Rattle.gb_ops.specs.declared.op.Op.TheVariants as op
 use Rattle.gb_ops.specs.declared.machine.Region.{Region}
 use Rattle.gb_ops.specs.Registers.{get}
 use Rattle.gb_ops.specs.Arithmetic.{mask_of}
+use Rattle.gb_domain.specs.declared.low_bits.LowBits.{LowBits}
 use Rattle.gb_domain.specs.declared.types.Val.{Val}
 use Rattle.gb_domain.specs.declared.pairs.WordPair.TheVariants as words
 use Rattle.gb_domain.specs.declared.places.Place.{Place}
@@ -28,6 +29,7 @@ use Rattle.gb_pairs.specs.Bounds.{bounds_of}
 use Rattle.gb_copies.specs.Places.{without_register, without_addresses, without_test, only_tested, tested, tested_before_a}
 use Rattle.gb_copies.specs.Copies.{copied}
 use Rattle.gb_relations.specs.Places.{stored_place, loaded_place}
+use Rattle.gb_relations.specs.PointedBits.{may_be_at}
 use Rattle.gb_relations.specs.Written.{written, writes_flags, counted}
 
 -- ---- addresses
@@ -56,8 +58,13 @@ abbrev pub without_registers : List Register → OneByte → OneByte
 without_registers [] b = b
 without_registers (r ∷ rest) b = without_registers rest (without_register r b)
 
-abbrev pub without_all : Bounds → OneByte → OneByte
-without_all addresses b = without_addresses addresses.first addresses.last b
+abbrev pub may_meet : Option LowBits → Option ℕ → Bool
+may_meet bits None = true
+may_meet bits (Some a) = may_be_at bits a
+
+-- one of the addresses was written, which has these low bits
+abbrev pub without_all : Option LowBits → Bounds → OneByte → OneByte
+without_all bits addresses b = if may_meet bits b.address then without_addresses addresses.first addresses.last b else b
 
 abbrev pub without_test_if : Bool → OneByte → OneByte
 without_test_if true b = without_test b
@@ -71,22 +78,22 @@ loaded to None b = without_register to b
 loaded to (Some from) b = copied (place.Register to) from b
 
 -- a register is stored at a place, or somewhere among addresses
-abbrev pub stored : Register → Bounds → Option Place → OneByte → OneByte
-stored from addresses None b = without_all addresses b
-stored from addresses (Some to) b = copied to (place.Register from) b
+abbrev pub stored : Option LowBits → Register → Bounds → Option Place → OneByte → OneByte
+stored bits from addresses None b = without_all bits addresses b
+stored bits from addresses (Some to) b = copied to (place.Register from) b
 
 abbrev pub loaded_a : Region → Bounds → OneByte → OneByte
 loaded_a region addresses b = loaded A (loaded_place region addresses) b
 
-abbrev pub stored_a : Region → Bounds → OneByte → OneByte
-stored_a region addresses b = stored A addresses (stored_place region addresses) b
+abbrev pub stored_a : Option LowBits → Region → Bounds → OneByte → OneByte
+stored_a bits region addresses b = stored bits A addresses (stored_place region addresses) b
 
 -- LD r,r; LD r,(HL); LD (HL),r
-abbrev pub moved : Region → Operand → Operand → Values → OneByte → OneByte
-moved region (operand.Register to) (operand.Register from) v b = copied (place.Register to) (place.Register from) b
-moved region (operand.Register to) operand.AtHl v b = loaded to (loaded_place region (at_hl v)) b
-moved region operand.AtHl (operand.Register from) v b = stored from (at_hl v) (stored_place region (at_hl v)) b
-moved region operand.AtHl operand.AtHl v b = without_all (at_hl v) b
+abbrev pub moved : Option LowBits → Region → Operand → Operand → Values → OneByte → OneByte
+moved bits region (operand.Register to) (operand.Register from) v b = copied (place.Register to) (place.Register from) b
+moved bits region (operand.Register to) operand.AtHl v b = loaded to (loaded_place region (at_hl v)) b
+moved bits region operand.AtHl (operand.Register from) v b = stored bits from (at_hl v) (stored_place region (at_hl v)) b
+moved bits region operand.AtHl operand.AtHl v b = without_all bits (at_hl v) b
 
 -- ---- tests
 
@@ -94,13 +101,13 @@ abbrev pub is_zero_test : Test
 is_zero_test = test.Bits 255
 
 -- Z says whether what was computed is 0
-abbrev pub computed_at : Option Place → Bounds → OneByte → OneByte
-computed_at None addresses b = without_test (without_all addresses b)
-computed_at (Some p) addresses b = only_tested p is_zero_test
+abbrev pub computed_at : Option LowBits → Option Place → Bounds → OneByte → OneByte
+computed_at bits None addresses b = without_test (without_all bits addresses b)
+computed_at bits (Some p) addresses b = only_tested p is_zero_test
 
-abbrev pub computed : Region → Operand → Values → OneByte → OneByte
-computed region (operand.Register r) v b = only_tested (place.Register r) is_zero_test
-computed region operand.AtHl v b = computed_at (stored_place region (at_hl v)) (at_hl v) b
+abbrev pub computed : Option LowBits → Region → Operand → Values → OneByte → OneByte
+computed bits region (operand.Register r) v b = only_tested (place.Register r) is_zero_test
+computed bits region operand.AtHl v b = computed_at bits (stored_place region (at_hl v)) (at_hl v) b
 
 abbrev pub bit_of : ℕ → Test
 bit_of n = test.Bits (mask_of n)
@@ -142,25 +149,26 @@ of_a_with how operand.AtHl v low b = of_a how (known low) b
 
 -- ---- instructions
 
--- the places behind a taken instruction; the values are those before it, and low is what it read at an address
-unfoldable pub byte_after : Region → Op → Values → Val → OneByte → OneByte
-byte_after region (op.StoreA to) v low b = without_registers (counted to) (stored_a region (at_indirect to v) b)
-byte_after region (op.LoadA from) v low b = without_registers (counted from) (loaded_a region (at_indirect from v) b)
-byte_after region (op.Increment which) v low b = computed region which v b
-byte_after region (op.Decrement which) v low b = computed region which v b
-byte_after region (op.LoadImmediate operand.AtHl n) v low b = without_all (at_hl v) b
-byte_after region (op.StoreSp w) v low b = without_all (one ((w + 1) % 65536)) (without_all (one w) b)
-byte_after region (op.Load to from) v low b = moved region to from v b
-byte_after region (op.Alu how from) v low b = of_a_with how from v low b
-byte_after region (op.AluImmediate how n) v low b = of_a how (Some n) b
-byte_after region (op.StoreHigh n) v low b = stored_a region (one (0xFF00 + n)) b
-byte_after region (op.LoadHigh n) v low b = loaded_a region (one (0xFF00 + n)) b
-byte_after region op.StoreHighC v low b = stored_a region (at_high v) b
-byte_after region op.LoadHighC v low b = loaded_a region (at_high v) b
-byte_after region (op.StoreAbsolute w) v low b = stored_a region (one w) b
-byte_after region (op.LoadAbsolute w) v low b = loaded_a region (one w) b
-byte_after region (op.Shift how which) v low b = computed region which v b
-byte_after region (op.Bit n which) v low b = bit_tested region n which v b
-byte_after region (op.Reset n operand.AtHl) v low b = without_all (at_hl v) b
-byte_after region (op.Set n operand.AtHl) v low b = without_all (at_hl v) b
-byte_after region o v low b = without_test_if (writes_flags o) (without_registers (written o) b)
+-- the places behind a taken instruction; the values are those before it, low is what it read at an address, and bits is what is known
+-- of the low bits of an address that it stores at by a pointer
+unfoldable pub byte_after : Option LowBits → Region → Op → Values → Val → OneByte → OneByte
+byte_after bits region (op.StoreA to) v low b = without_registers (counted to) (stored_a bits region (at_indirect to v) b)
+byte_after bits region (op.LoadA from) v low b = without_registers (counted from) (loaded_a region (at_indirect from v) b)
+byte_after bits region (op.Increment which) v low b = computed bits region which v b
+byte_after bits region (op.Decrement which) v low b = computed bits region which v b
+byte_after bits region (op.LoadImmediate operand.AtHl n) v low b = without_all bits (at_hl v) b
+byte_after bits region (op.StoreSp w) v low b = without_all None (one ((w + 1) % 65536)) (without_all None (one w) b)
+byte_after bits region (op.Load to from) v low b = moved bits region to from v b
+byte_after bits region (op.Alu how from) v low b = of_a_with how from v low b
+byte_after bits region (op.AluImmediate how n) v low b = of_a how (Some n) b
+byte_after bits region (op.StoreHigh n) v low b = stored_a None region (one (0xFF00 + n)) b
+byte_after bits region (op.LoadHigh n) v low b = loaded_a region (one (0xFF00 + n)) b
+byte_after bits region op.StoreHighC v low b = stored_a bits region (at_high v) b
+byte_after bits region op.LoadHighC v low b = loaded_a region (at_high v) b
+byte_after bits region (op.StoreAbsolute w) v low b = stored_a None region (one w) b
+byte_after bits region (op.LoadAbsolute w) v low b = loaded_a region (one w) b
+byte_after bits region (op.Shift how which) v low b = computed bits region which v b
+byte_after bits region (op.Bit n which) v low b = bit_tested region n which v b
+byte_after bits region (op.Reset n operand.AtHl) v low b = without_all bits (at_hl v) b
+byte_after bits region (op.Set n operand.AtHl) v low b = without_all bits (at_hl v) b
+byte_after bits region o v low b = without_test_if (writes_flags o) (without_registers (written o) b)

@@ -2,6 +2,7 @@ pub mod Meaning
 pub mod Written
 pub mod Places
 pub mod Pairs
+pub mod PointedBits
 pub mod PairCopies
 pub mod Bytes
 pub mod Compared

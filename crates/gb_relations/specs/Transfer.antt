@@ -18,6 +18,7 @@ use Rattle.gb_domain.specs.declared.rules.Rules.TheVariants.{Simple, Extended}
 use Rattle.gb_domain.specs.Relations.{no_relations}
 pub use Rattle.gb_pairs.specs.Reduced.{values_of}
 use Rattle.gb_pairs.specs.Written.{is_half}
+use Rattle.gb_relations.specs.PointedBits.{known_bits}
 use Rattle.gb_relations.specs.Written.{written, writes_flags}
 use Rattle.gb_relations.specs.Pairs.{other_half, pairs_after}
 use Rattle.gb_relations.specs.PairCopies.{with_pair_copied}
@@ -47,13 +48,13 @@ zero_after o b zero = if writes_flags o then None else zero_without_registers (w
 
 -- what is known together behind a taken instruction; registers and relations are those before it, sp has SP's bounds, and low is
 -- what was read at an address; by the rules of versions 1 and 2 a comparison of A alone; by those of version 4, is_whole, pairs that
--- become equal share their bounds
+-- become equal share their bounds, and a store by a pointer whose low bits are known spares places with others
 unfoldable pub relations_after : Rules → Bool → Region → Op → Bounds → Registers Val → Val → Relations → Relations
 relations_after Simple is_whole region o sp registers low r = record no_relations { byte = compared_after o r.byte }
 relations_after Extended is_whole region o sp registers low r =
     let v = values_of registers r.pairs in
     record {
-      byte = byte_after region o v low r.byte;
+      byte = byte_after (known_bits Extended is_whole o registers) region o v low r.byte;
       zero = zero_after o r.byte r.zero;
       pairs = with_pair_copied is_whole o r.byte v (pairs_after o sp v);
     }

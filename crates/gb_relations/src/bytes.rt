@@ -5,11 +5,13 @@ ghost use Rattle.gb_relations.specs.Written.{list_of};
 ghost use Rattle.gb_relations.specs.Bytes as Bytes;
 
 use crate::places::{loaded_place, stored_place};
+use crate::pointed_bits::may_be_at;
 use crate::written::{Written, counted, writes_flags, written_by};
 use gb_copies::copies::copied;
 use gb_copies::places::{
     only_tested, tested, tested_before_a, without_addresses, without_register, without_test,
 };
+use gb_domain::LowBits;
 use gb_domain::pairs::{Bounds, WordPair};
 use gb_domain::places::{OneByte, Place, Test};
 use gb_domain::types::Val;
@@ -86,10 +88,24 @@ fn without_registers(written: Written, byte: &OneByte) -> OneByte
     }
 }
 
-fn without_all(addresses: Bounds, byte: &OneByte) -> OneByte
-    ensures { result ≡ Bytes.without_all addresses byte.now }
+fn may_meet(bits: Option<LowBits>, address: Option<u16>) -> bool
+    ensures { result ≡ Bytes.may_meet bits address }
 {
-    without_addresses(addresses.first, addresses.last, byte)
+    match address {
+        None => true,
+        Some(address) => may_be_at(bits, address),
+    }
+}
+
+/// One of the addresses is written, which has these low bits.
+fn without_all(bits: Option<LowBits>, addresses: Bounds, byte: &OneByte) -> OneByte
+    ensures { result ≡ Bytes.without_all bits addresses byte.now }
+{
+    if may_meet(bits, byte.address) {
+        without_addresses(addresses.first, addresses.last, byte)
+    } else {
+        *byte
+    }
 }
 
 fn without_test_if(is_written: bool, byte: OneByte) -> OneByte
@@ -115,11 +131,17 @@ fn loaded(to: Register, from: Option<Place>, byte: &OneByte) -> OneByte
 }
 
 /// A register is stored at a place, or somewhere among addresses.
-fn stored(from: Register, addresses: Bounds, to: Option<Place>, byte: &OneByte) -> OneByte
-    ensures { result ≡ Bytes.stored from addresses to byte.now }
+fn stored(
+    bits: Option<LowBits>,
+    from: Register,
+    addresses: Bounds,
+    to: Option<Place>,
+    byte: &OneByte,
+) -> OneByte
+    ensures { result ≡ Bytes.stored bits from addresses to byte.now }
 {
     match to {
-        None => without_all(addresses, byte),
+        None => without_all(bits, addresses, byte),
         Some(to) => copied(to, Place::Register(from), byte),
     }
 }
@@ -130,10 +152,11 @@ fn loaded_a(region: Region, addresses: Bounds, byte: &OneByte) -> OneByte
     loaded(Register::A, loaded_place(region, addresses), byte)
 }
 
-fn stored_a(region: Region, addresses: Bounds, byte: &OneByte) -> OneByte
-    ensures { result ≡ Bytes.stored_a region addresses byte.now }
+fn stored_a(bits: Option<LowBits>, region: Region, addresses: Bounds, byte: &OneByte) -> OneByte
+    ensures { result ≡ Bytes.stored_a bits region addresses byte.now }
 {
     stored(
+        bits,
         Register::A,
         addresses,
         stored_place(region, addresses),
@@ -142,8 +165,15 @@ fn stored_a(region: Region, addresses: Bounds, byte: &OneByte) -> OneByte
 }
 
 /// LD of a byte.
-fn moved(region: Region, to: Operand, from: Operand, values: &Values, byte: &OneByte) -> OneByte
-    ensures { result ≡ Bytes.moved region to from values.now byte.now }
+fn moved(
+    bits: Option<LowBits>,
+    region: Region,
+    to: Operand,
+    from: Operand,
+    values: &Values,
+    byte: &OneByte,
+) -> OneByte
+    ensures { result ≡ Bytes.moved bits region to from values.now byte.now }
 {
     match (to, from) {
         (Operand::Register(to), Operand::Register(from)) => copied(
@@ -158,32 +188,43 @@ fn moved(region: Region, to: Operand, from: Operand, values: &Values, byte: &One
         ),
         (Operand::AtHl, Operand::Register(from)) => {
             let addresses = at_hl(values);
-            stored(from, addresses, stored_place(region, addresses), byte)
+            stored(bits, from, addresses, stored_place(region, addresses), byte)
         }
-        (Operand::AtHl, Operand::AtHl) => without_all(at_hl(values), byte),
+        (Operand::AtHl, Operand::AtHl) => without_all(bits, at_hl(values), byte),
     }
 }
 
 // ---- tests
 
-fn computed_at(to: Option<Place>, addresses: Bounds, byte: &OneByte) -> OneByte
-    ensures { result ≡ Bytes.computed_at to addresses byte.now }
+fn computed_at(
+    bits: Option<LowBits>,
+    to: Option<Place>,
+    addresses: Bounds,
+    byte: &OneByte,
+) -> OneByte
+    ensures { result ≡ Bytes.computed_at bits to addresses byte.now }
 {
     match to {
-        None => without_test(&without_all(addresses, byte)),
+        None => without_test(&without_all(bits, addresses, byte)),
         Some(place) => only_tested(place, IS_ZERO),
     }
 }
 
 /// Z says whether what was computed is 0.
-fn computed(region: Region, operand: Operand, values: &Values, byte: &OneByte) -> OneByte
-    ensures { result ≡ Bytes.computed region operand values.now byte.now }
+fn computed(
+    bits: Option<LowBits>,
+    region: Region,
+    operand: Operand,
+    values: &Values,
+    byte: &OneByte,
+) -> OneByte
+    ensures { result ≡ Bytes.computed bits region operand values.now byte.now }
 {
     match operand {
         Operand::Register(register) => only_tested(Place::Register(register), IS_ZERO),
         Operand::AtHl => {
             let addresses = at_hl(values);
-            computed_at(stored_place(region, addresses), addresses, byte)
+            computed_at(bits, stored_place(region, addresses), addresses, byte)
         }
     }
 }
@@ -255,20 +296,22 @@ fn of_a_with(how: AluOp, operand: Operand, values: &Values, low: Val, byte: &One
 
 // ---- instructions
 
-/// The places behind a taken instruction; the values are those before it, and `low` is what it read at an address.
+/// The places behind a taken instruction; the values are those before it, `low` is what it read at an address, and `bits` is what
+/// is known of the low bits of an address that it stores at by a pointer.
 #[tactic(auto, unfolding(crate::specs::Bytes::byte_after))]
 pub(crate) fn byte_after(
+    bits: Option<LowBits>,
     region: Region,
     op: Op,
     values: &Values,
     low: Val,
     byte: &OneByte,
 ) -> OneByte
-    ensures { result ≡ Bytes.byte_after region op values.now low byte.now }
+    ensures { result ≡ Bytes.byte_after bits region op values.now low byte.now }
 {
     match op {
         Op::StoreA(to) => {
-            let left = stored_a(region, at_indirect(to, values), byte);
+            let left = stored_a(bits, region, at_indirect(to, values), byte);
             without_registers(counted(to), &left)
         }
         Op::LoadA(from) => {
@@ -276,23 +319,23 @@ pub(crate) fn byte_after(
             without_registers(counted(from), &left)
         }
         Op::Increment(operand) | Op::Decrement(operand) | Op::Shift(_, operand) => {
-            computed(region, operand, values, byte)
+            computed(bits, region, operand, values, byte)
         }
         Op::LoadImmediate(Operand::AtHl, _)
         | Op::Reset(_, Operand::AtHl)
-        | Op::Set(_, Operand::AtHl) => without_all(at_hl(values), byte),
+        | Op::Set(_, Operand::AtHl) => without_all(bits, at_hl(values), byte),
         Op::StoreSp(address) => {
-            let left = without_all(one(address), byte);
-            without_all(one(address.wrapping_add(1)), &left)
+            let left = without_all(None, one(address), byte);
+            without_all(None, one(address.wrapping_add(1)), &left)
         }
-        Op::Load(to, from) => moved(region, to, from, values, byte),
+        Op::Load(to, from) => moved(bits, region, to, from, values, byte),
         Op::Alu(how, operand) => of_a_with(how, operand, values, low, byte),
         Op::AluImmediate(how, n) => of_a(how, Some(n), byte),
-        Op::StoreHigh(n) => stored_a(region, one(high(n)), byte),
+        Op::StoreHigh(n) => stored_a(None, region, one(high(n)), byte),
         Op::LoadHigh(n) => loaded_a(region, one(high(n)), byte),
-        Op::StoreHighC => stored_a(region, at_high(values), byte),
+        Op::StoreHighC => stored_a(bits, region, at_high(values), byte),
         Op::LoadHighC => loaded_a(region, at_high(values), byte),
-        Op::StoreAbsolute(address) => stored_a(region, one(address), byte),
+        Op::StoreAbsolute(address) => stored_a(None, region, one(address), byte),
         Op::LoadAbsolute(address) => loaded_a(region, one(address), byte),
         Op::Bit(n, operand) => bit_tested(region, n, operand, values, byte),
         _ => without_test_if(writes_flags(op), without_registers(written_by(op), byte)),

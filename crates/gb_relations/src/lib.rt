@@ -4,7 +4,8 @@
 //!
 //! Read `transfer`, whose `relations_after` is what its definition says and holds behind every effect of the instruction. It
 //! stands on `compared` (by the rules of versions 1 and 2), and on `written`, the registers that are overwritten, on `places`, where a byte is stored or read, and on `bytes` and
-//! `pairs`, what is left of each part. `pair_copies` are the copies by which two pairs become equal. `pointers` says where an instruction reads or writes by a pair, and the carry of ADD HL.
+//! `pairs`, what is left of each part. `pair_copies` are the copies by which two pairs become equal. `pointers` says where an instruction reads or writes by a pair, and the carry of ADD HL;
+//! `pointed_bits` what low bits such an address has.
 #![tactic(auto)]
 
 pub mod bytes;
@@ -12,6 +13,7 @@ pub mod compared;
 pub mod pair_copies;
 pub mod pairs;
 pub mod places;
+pub mod pointed_bits;
 pub mod pointers;
 pub mod returned;
 pub mod transfer;

@@ -12,6 +12,7 @@ use crate::bytes::byte_after;
 use crate::compared::compared_after;
 use crate::pair_copies::copy_pair;
 use crate::pairs::{other_half, pairs_after};
+use crate::pointed_bits::known_bits;
 use crate::written::{Written, writes_flags, written_by};
 use gb_domain::pairs::{Bounds, Pairs, WordPair};
 use gb_domain::places::OneByte;
@@ -99,8 +100,9 @@ fn related_after(
         pairs: relations.pairs,
     };
     let byte = &relations.byte;
+    let bits = known_bits(Rules::Extended, is_whole, op, registers);
     Relations {
-        byte: byte_after(region, op, &values, low, byte),
+        byte: byte_after(bits, region, op, &values, low, byte),
         zero: zero_after(op, byte, relations.zero),
         pairs: copy_pair(is_whole, op, byte, &values, pairs_after(op, sp, &values)),
     }

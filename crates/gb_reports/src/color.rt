@@ -1,6 +1,6 @@
 //! A cartridge for the Game Boy Color, which is analysed as if it ran on a DMG.
 
-use gb_fixpoint::Rom;
+use gb_findings::gb_fixpoint::Rom;
 
 /// The header's byte that says whether the cartridge is for the Color (Pan Docs: 0143, CGB flag).
 const COLOR_FLAG: usize = 0x0143;

@@ -1,20 +1,20 @@
 //! Findings as JSON: one object for each, on a line of its own.
 
 use crate::Symbols;
-use crate::chain::{CallChain, EnteredRoutine, Root};
-use crate::finding::{Finding, InstructionFinding};
-use crate::lost_bank::{BankLoser, LostBank};
 use crate::object::{JsonObject, pair};
-use crate::path::{Path, Segment, Start};
 use crate::problem::Problem;
 use crate::shown::ShownOther;
 use crate::state::ime_text;
-use crate::steps_back::MappedBanks;
 use crate::topic::{advice_on, instruction_advice, remedy_of};
 use gb_facts::{Advice, interrupt_at};
-use gb_fixpoint::{Abs, Cell, May, Val};
-use gb_ops::registers::Registers;
-use gb_symbols::SourceLine;
+use gb_findings::chain::{CallChain, EnteredRoutine, Root};
+use gb_findings::finding::{Finding, InstructionFinding};
+use gb_findings::gb_fixpoint::{Abs, Cell, May, Val};
+use gb_findings::gb_ops::registers::Registers;
+use gb_findings::gb_symbols::SourceLine;
+use gb_findings::lost_bank::{BankLoser, LostBank};
+use gb_findings::path::{Path, Segment, Start};
+use gb_findings::steps_back::MappedBanks;
 use serde_json::Value;
 use std::alloc::{AllocError, Global};
 

@@ -1,12 +1,12 @@
 //! What is known at an instruction: what matters to the finding first, and then the rest in short.
 
-use crate::finding::InstructionFinding;
 use crate::state::{gate_text, ime_text};
 use gb_facts::{INTERRUPT_COUNT, interrupt_name};
-use gb_fixpoint::cause::{Cause, TransferMisuse};
-use gb_fixpoint::{Abs, Cell, Val, cell_at};
-use gb_ops::op::Register;
-use gb_symbols::{ShownAddress, Symbols};
+use gb_findings::finding::InstructionFinding;
+use gb_findings::gb_fixpoint::cause::{Cause, TransferMisuse};
+use gb_findings::gb_fixpoint::{Abs, Cell, Val, cell_at};
+use gb_findings::gb_ops::op::Register;
+use gb_findings::gb_symbols::{ShownAddress, Symbols};
 use std::fmt;
 
 /// The most other bytes of RAM that are named.

@@ -3,10 +3,10 @@
 
 use crate::Symbols;
 use crate::state::{ShownCell, ShownFlags, ShownRegisters, fmt_core};
-use gb_facts::{Code, KnownPart, ShownFact, ShownSummary};
-use gb_fixpoint::{Abs, Cell, Cert, NodeRef, Range, Rom};
-use gb_ops::machine::Kind;
-use gb_symbols::{ListedAddress, ShownAddress};
+use gb_facts::{KnownPart, ShownFact, ShownSummary};
+use gb_findings::gb_ops::machine::Kind;
+use gb_findings::gb_symbols::{ListedAddress, ShownAddress};
+use gb_findings::{Abs, Cell, Cert, NodeRef, Range, Rom, code_at, program_of};
 use std::fmt;
 
 /// A certificate with its cartridge, and symbols.
@@ -155,7 +155,12 @@ fn fmt_at<W: fmt::Write>(
     f: &mut fmt::Formatter<W>,
 ) -> fmt::Result {
     let address = node.address();
-    let code = Code::at(listing.rom, state, address);
+    let code = code_at(
+        &program_of(listing.rom, listing.cert),
+        listing.rom,
+        state,
+        address,
+    );
     let bank = if address < 0x8000 {
         Some(node.bank())
     } else {

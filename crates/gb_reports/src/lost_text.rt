@@ -1,27 +1,10 @@
 //! What is said of a bank that was left mapped.
 
-use crate::lost_bank::{BankLoser, LostBank, Mapping};
-use crate::steps_back::MappedBanks;
 use gb_facts::interrupt_at;
-use gb_fixpoint::code_point::CodePoint;
-use gb_symbols::{ShownAddress, Symbols};
+use gb_findings::gb_fixpoint::code_point::CodePoint;
+use gb_findings::gb_symbols::{ShownAddress, Symbols};
+use gb_findings::lost_bank::{BankLoser, LostBank, Mapping};
 use std::fmt;
-
-/// From this one on the last bank says that any may be mapped.
-const ANY: u16 = 127;
-
-impl fmt::Display for MappedBanks {
-    fn fmt<W: fmt::Write>(&self, f: &mut fmt::Formatter<W>) -> fmt::Result {
-        let MappedBanks { first, last } = *self;
-        if first == last {
-            write!(f, "bank {first}")
-        } else if first == 0 && last >= ANY {
-            write!(f, "any bank")
-        } else {
-            write!(f, "one of banks {first} to {last}")
-        }
-    }
-}
 
 /// A bank that was left mapped, in some sentences.
 #[derive(Clone, Copy)]

@@ -1,6 +1,6 @@
 //! A JSON object that is built member by member.
 
-use gb_fixpoint::Val;
+use gb_findings::gb_fixpoint::Val;
 use serde_json::{Map, Value, json};
 use std::alloc::{AllocError, Global};
 use std::fmt;

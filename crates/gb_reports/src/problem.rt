@@ -1,14 +1,14 @@
 //! What can go wrong at an instruction, in a sentence.
 
-use crate::finding::{InstructionFinding, PointerLoad};
 use crate::lost_text::ShownLoss;
-use crate::pushed_return::PushedReturn;
 use gb_facts::{PADDING, interrupt_at, interrupt_name};
-use gb_fixpoint::Span;
-use gb_fixpoint::cause::{Cause, StackMisuse, TransferMisuse};
-use gb_fixpoint::code_point::CodePoint;
-use gb_ops::machine::Region;
-use gb_symbols::{ShownAddress, Symbols};
+use gb_findings::finding::{InstructionFinding, PointerLoad};
+use gb_findings::gb_fixpoint::Span;
+use gb_findings::gb_fixpoint::cause::{Cause, StackMisuse, TransferMisuse};
+use gb_findings::gb_fixpoint::code_point::CodePoint;
+use gb_findings::gb_ops::machine::Region;
+use gb_findings::gb_symbols::{ShownAddress, Symbols};
+use gb_findings::pushed_return::PushedReturn;
 use std::fmt;
 
 /// Some addresses.

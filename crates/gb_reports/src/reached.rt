@@ -1,10 +1,10 @@
 //! How the code gets to an instruction: by which calls, and through which labels.
 
-use crate::chain::{CallChain, EnteredRoutine, Root};
-use crate::finding::InstructionFinding;
-use crate::path::Segment;
 use gb_facts::interrupt_at;
-use gb_symbols::{BankAddress, ShownLabel, SourceLine, Symbols};
+use gb_findings::chain::{CallChain, EnteredRoutine, Root};
+use gb_findings::finding::InstructionFinding;
+use gb_findings::gb_symbols::{BankAddress, ShownLabel, SourceLine, Symbols};
+use gb_findings::path::Segment;
 use std::fmt;
 
 /// The calls to an instruction: `main -> step -> draw_cell (called at step+$12)`.

@@ -1,18 +1,18 @@
 //! A finding as lines for a person.
 
 use crate::Symbols;
-use crate::crowd::{Count, Crowd, Multiplied, Multiplier, ReachedLimit};
-use crate::finding::{Finding, InstructionFinding, Spent};
 use crate::known::{ShownKnown, lower_name};
 use crate::problem::{Problem, fmt_recursion};
 use crate::reached::{ShownPassed, ShownReached};
 use crate::state::ShownState;
 use crate::topic::{advice_on, instruction_advice, remedy_of};
 use gb_facts::interrupt_at;
-use gb_fixpoint::code_point::CodePoint;
-use gb_ops::machine::Region;
-use gb_ops::op::Register;
-use gb_symbols::{ShownAddress, SymbolOffset};
+use gb_findings::crowd::{Count, Crowd, Multiplied, Multiplier, ReachedLimit};
+use gb_findings::finding::{Finding, InstructionFinding, Spent};
+use gb_findings::gb_fixpoint::code_point::CodePoint;
+use gb_findings::gb_ops::machine::Region;
+use gb_findings::gb_ops::op::Register;
+use gb_findings::gb_symbols::{ShownAddress, SymbolOffset};
 use std::fmt;
 
 /// A finding as lines for a person, the last without its end.

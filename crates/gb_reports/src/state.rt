@@ -1,7 +1,7 @@
 //! A state as a person reads it: registers, flags, banks, the stack and cells.
 
 use gb_facts::step_text;
-use gb_fixpoint::{Abs, Cell, Core, Ctl, Flg, ImeSet, May, Val};
+use gb_findings::gb_fixpoint::{Abs, Cell, Core, Ctl, Flg, ImeSet, May, Val};
 use std::fmt;
 
 /// A value, or an interval of values.

@@ -1,16 +1,16 @@
 //! Which texts a finding gets, and which fix fits its code.
 
-use crate::chain::{CallChain, Root};
-use crate::crowd::{Crowd, Multiplied, Multiplier, ReachedLimit};
-use crate::finding::{Finding, InstructionFinding, Spent};
-use crate::lost_bank::{BankLoser, LostBank};
 use crate::problem::{is_echo, meets_stack};
 use gb_facts::advice::{self, Advice};
 use gb_facts::{PADDING, interrupt_at};
-use gb_fixpoint::Span;
-use gb_fixpoint::cause::{Cause, StackMisuse, TransferMisuse};
-use gb_ops::op::{Indirect, Op, Pair};
-use gb_symbols::Symbols;
+use gb_findings::chain::{CallChain, Root};
+use gb_findings::crowd::{Crowd, Multiplied, Multiplier, ReachedLimit};
+use gb_findings::finding::{Finding, InstructionFinding, Spent};
+use gb_findings::gb_fixpoint::Span;
+use gb_findings::gb_fixpoint::cause::{Cause, StackMisuse, TransferMisuse};
+use gb_findings::gb_ops::op::{Indirect, Op, Pair};
+use gb_findings::gb_symbols::Symbols;
+use gb_findings::lost_bank::{BankLoser, LostBank};
 
 /// LD SP,n16 outside main: of the stack's own address, or of another one.
 fn set_advice(finding: &InstructionFinding) -> Advice {

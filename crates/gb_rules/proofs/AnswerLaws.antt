@@ -4,7 +4,7 @@ use Rattle.std.specs.Result.{MatchResult, OnOk}
 use Rattle.gb_successors.specs.Below.gb_domain.Certificate.{Certificate}
 use Rattle.gb_calls.specs.Below.gb_states.WholeRules.{IsCertificate}
 use Rattle.gb_successors.specs.Below.gb_abs.declared.reason.Reason.{Reason}
-use Rattle.gb_successors.specs.Below.gb_code.Below.gb_abs_memory.Sound.{IsRom}
+use Rattle.gb_successors.specs.Below.gb_abs_memory.Sound.{IsRom}
 use Rattle.gb_rules.specs.Rules.{reason_at}
 use Rattle.gb_rules.specs.Safety.{IsSafeAt}
 use Rattle.gb_rules.proofs.EventLaws.{IsSafeNode-at}

@@ -13,7 +13,7 @@ use Rattle.gb_successors.specs.Below.gb_domain.Areas.{IsRegion}
 use Rattle.gb_successors.proofs.Below.gb_product_laws.SummaryLaws.{IsSummarized-quiet}
 use Rattle.gb_successors.specs.Below.gb_domain.Summaries.{no_summary}
 use Rattle.gb_successors.specs.Below.gb_product.Meaning.{Means}
-use Rattle.gb_successors.specs.Below.gb_abs.Meaning.{Activation, Holds, MeansCore, AreItems, MeansParts}
+use Rattle.gb_successors.specs.Below.gb_abs.Meaning.{Activation, Holds, MeansCore, AreItems, MeansParts, is_located}
 use Rattle.gb_successors.specs.Below.gb_abs.Stack.{pushed}
 use Rattle.gb_successors.specs.Below.gb_abs.Storage.{peek}
 use Rattle.gb_calls.specs.Sound.{without_word}
@@ -50,7 +50,7 @@ last_word_is [] w entry sp top t e h =
 last_word_is (v ∷ items) w entry sp top t e h = last_word_is items w entry sp (top - 1) t (omega arith) h.1
 
 -- where SP stands behind a word more
-pub sp_pushed : (w : Halves) (s : AbsState) (entry : Activation) (base : ℕ) (x : MState) → MeansParts (pushed w s) entry base x → s.core.stack_set ≡ true
+pub sp_pushed : (w : Halves) (s : AbsState) (entry : Activation) (base : ℕ) (x : MState) → MeansParts (pushed w s) entry base x → is_located s ≡ true
     → x.processor.sp + (length s.items + 2) ≡ base
 unfolding pushed
 sp_pushed w s entry base x m set =
@@ -59,7 +59,7 @@ sp_pushed w s entry base x m set =
     ap (λ k. x.processor.sp + k) (sym n) ∙ stack
 
 -- without the word that was pushed last
-pub Means-without_word : (w : Halves) (s : AbsState) (entry : Activation) (base : ℕ) (x : MState) → Means (pushed w s) entry base x → s.summary ≡ no_summary → s.core.stack_set ≡ true → x.processor.sp + 2 < 65536
+pub Means-without_word : (w : Halves) (s : AbsState) (entry : Activation) (base : ℕ) (x : MState) → Means (pushed w s) entry base x → s.summary ≡ no_summary → is_located s ≡ true → x.processor.sp + 2 < 65536
     → Means s entry base (without_word x)
 unfolding pushed
 Means-without_word w s entry base x m quiet set small =
@@ -81,7 +81,7 @@ Means-without_word w s entry base x m quiet set small =
     less n e = omega arith
 
 -- the word that was pushed last is found again
-pub pushed_word : (w : ℕ) (s : AbsState) (entry : Activation) (base : ℕ) (x : MState) → MeansParts (pushed (known_word w) s) entry base x → s.core.stack_set ≡ true
+pub pushed_word : (w : ℕ) (s : AbsState) (entry : Activation) (base : ℕ) (x : MState) → MeansParts (pushed (known_word w) s) entry base x → is_located s ≡ true
     → word (peek x.storage (x.processor.sp + 1)) (peek x.storage x.processor.sp) ≡ w
 unfolding pushed
 pushed_word w s entry base x m set =

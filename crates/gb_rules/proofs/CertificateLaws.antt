@@ -1,8 +1,8 @@
 -- What certificates of any version have in common: the parts of their states, nodes and procedures.
-use Rattle.std.proofs.Common.{◌≡◌, ℕ, ◌-◌, ◌%◌, ◌<◌, ◌==◌, Bool, true, false, not, ◌&&◌, ◌||◌, nat_le, nat_lt, List, [], ◌∷◌, length, Option, Some, None, refl, sym, ◌∙◌, subst, arith}
+use Rattle.std.proofs.Common.{◌≡◌, ℕ, ◌-◌, ◌%◌, ◌<◌, ◌==◌, Bool, true, false, not, ◌&&◌, ◌||◌, nat_le, nat_lt, List, [], ◌∷◌, length, Option, Some, None, refl, sym, ◌∙◌, subst, arith, ap}
 use Rattle.std.proofs.lemmas.Bool.{and_parts, not-true, eqb-true}
 use Rattle.std.proofs.lemmas.Bool.Decides.{nat_tests}
-use Rattle.std.specs.Prelude.{IfSome}
+use Rattle.std.specs.Prelude.{IfSome, is_some}
 use Rattle.std.specs.List.{AllByRecursion, list_all}
 use Rattle.gb_ops.specs.declared.machine.Region.{Region}
 use Rattle.gb_successors.specs.Below.gb_domain.declared.rules.Rules.{Rules}
@@ -17,15 +17,16 @@ use Rattle.gb_successors.specs.Below.gb_domain.Certificate.{Certificate}
 use Rattle.gb_successors.specs.Below.gb_domain.Limits.{rules_of}
 use Rattle.gb_successors.specs.Below.gb_domain.RelationRules.{IsRelations}
 use Rattle.gb_successors.specs.Below.gb_domain.Rules.{IsVal, IsCell, IsChain, IsCore, after_cell}
+use Rattle.gb_successors.specs.Below.gb_domain.declared.pairs.Bounds.{Bounds}
 use Rattle.gb_successors.specs.Below.gb_domain.Summaries.{SummaryParts, no_summary}
 use Rattle.gb_successors.specs.Below.gb_domain.Types.{AbsState, ProcedureParts, Node}
 use Rattle.gb_calls.specs.Below.gb_states.declared.role.Role.{Role}
 use Rattle.gb_calls.specs.Below.gb_states.declared.role.Role.TheVariants as role
 use Rattle.gb_calls.specs.Below.gb_states.Rules.{fits, is_base_of, is_silent, is_sayable, is_core_sayable, is_cell_sayable, is_state_sayable, needs_stack, may_be_pushed, role_of, IsRange, after_range, is_after, IsState}
-use Rattle.gb_calls.specs.Below.gb_states.WholeRules.{IsValIn, IsStretch, IsFact, IsFill, IsSummary, AreFactsBy, IsCoreIn, IsCellIn, IsStateIn, IsProcedureBy, IsNodeBy, IsCertificate}
+use Rattle.gb_calls.specs.Below.gb_states.WholeRules.{IsValIn, IsStretch, IsFact, IsFill, IsSummary, AreFactsBy, IsCoreIn, IsCellIn, IsStateIn, IsProcedureBy, IsNodeBy, IsCertificate, IsWithin, may_be_aside}
 use Rattle.gb_calls.proofs.Below.gb_states_laws.SummaryLaws.{silent-is}
 use Rattle.gb_successors.specs.Below.gb_abs.Cells.{ArePlaced}
-use Rattle.gb_successors.specs.Below.gb_code.Below.gb_abs_memory.Sound.{AreVals}
+use Rattle.gb_successors.specs.Below.gb_abs_memory.Sound.{AreVals}
 use Rattle.gb_successors.specs.Below.gb_product.Below.gb_summaries.Below.gb_ram_bounds.Facts.{has_address}
 use Rattle.gb_successors.specs.Below.gb_product.Below.gb_summaries.Elsewhere.{IsFreeFact, IsFreeFill, AreFreeFacts, IsFree}
 use Rattle.gb_successors.specs.Below.gb_relations.Places.{is_free}
@@ -118,16 +119,34 @@ free_quiet : (region : Region) (s : SummaryParts) → s ≡ no_summary → IsFre
 free_quiet region s e = subst (IsFree region) (sym e) (record { fills = tt; first = tt; second = tt })
 
 -- what a state has, by the rules that it is taken on by
-pub record HasStateParts (rules : Rules) (role : Role) (region : Region) (s : AbsState) : Type 0 where
+pub record HasStateParts (rules : Rules) (of : Role) (region : Region) (s : AbsState) : Type 0 where
   pub core : IsCore s.core
-  pub stack : (s.core.stack_set || not (needs_stack role)) ≡ true
-  pub pushed : may_be_pushed rules role s.core.stack_set (length s.items) ≡ true
+  pub stack : (s.core.stack_set || not (needs_stack of)) ≡ true
+  pub pushed : may_be_pushed rules of s.core.stack_set (length s.items) ≡ true
   pub items : AllByRecursion IsVal s.items
   pub placed : ArePlaced region s.cells
   pub vals : AreVals s.cells
   pub relations : IsRelations region s.relations
   pub quiet : rules ≡ Simple → s.summary ≡ no_summary
   pub apart : IsFree region s.summary
+  pub aside : IfSome s.summary.aside (λ b. b.last < 65536)
+  pub left : of ≡ role.Exit → s.summary.aside ≡ None
+
+not_aside : (s : SummaryParts) → s ≡ no_summary → s.aside ≡ None
+not_aside s e = ap (λ (m : SummaryParts). m.aside) e
+
+small_none : (o : Option Bounds) → o ≡ None → IfSome o (λ b. b.last < 65536)
+small_none o e = subst (λ (q : Option Bounds). IfSome q (λ b. b.last < 65536)) (sym e) tt
+
+small_within : (o : Option Bounds) → IfSome o IsWithin → IfSome o (λ b. b.last < 65536)
+small_within None h = tt
+small_within (Some b) h = h.last
+
+none_left : (r : Role) (core : Core) (o : Option Bounds) → r ≡ role.Exit → (may_be_aside r core || not (is_some o)) ≡ true → o ≡ None
+none_left role.Exit core None e h = refl
+none_left role.Exit core (Some b) e h = cc
+none_left role.Main core o e h = absurd (let bad : role.Main ≡ role.Exit = e in cc)
+none_left role.Other core o e h = absurd (let bad : role.Other ≡ role.Exit = e in cc)
 
 placed_from : (region : Region) (least : ℕ) (cells : List Cell) → IsChain (IsCell region) after_cell least cells → ArePlaced region cells
 placed_from region least [] h = tt
@@ -149,6 +168,8 @@ has_parts rules role region s h = record {
   relations = h.relations;
   quiet = λ simple. nothing_said rules s h.sayable;
   apart = free_quiet region s.summary (nothing_said rules s h.sayable);
+  aside = small_none s.summary.aside (not_aside s.summary (nothing_said rules s h.sayable));
+  left = λ exit. not_aside s.summary (nothing_said rules s h.sayable);
 }
 
 core_in : (kept : ℕ) (c : Core) → IsCoreIn kept c → IsCore c
@@ -180,6 +201,8 @@ has_parts_in facts kept role region s h = record {
   relations = h.relations;
   quiet = λ simple. unlike simple;
   apart = free_summary facts region _ s.summary h.summary;
+  aside = small_within s.summary.aside h.summary.aside;
+  left = λ exit. none_left role s.core s.summary.aside exit h.summary.may;
 }
 
 -- ---- nodes

@@ -34,6 +34,7 @@ use Rattle.gb_successors.specs.Below.gb_relations.Sound.{IsByteFree}
 use Rattle.gb_successors.specs.Below.gb_product.Below.gb_summaries.Elsewhere.{AreFreeFacts, IsFree, IsLeft}
 use Rattle.gb_successors.specs.Below.gb_product.Below.gb_summaries.Meaning.{IsAside, HoldSummary}
 use Rattle.gb_successors.proofs.Below.gb_product_laws.Below.gb_summaries_laws.ElsewhereLaws.{stays_elsewhere}
+use Rattle.gb_successors.proofs.Below.gb_abs_laws.LocationLaws.{is_located-of}
 use Rattle.gb_rules.proofs.ProgramLaws.{is_program}
 use Rattle.gb_successors.specs.Below.gb_domain.Types.{AbsState, Node}
 use Rattle.gb_successors.specs.Below.gb_domain.Certificate.{Certificate}
@@ -45,19 +46,19 @@ use Rattle.gb_successors.specs.Below.gb_abs.Mark.{IsMarkHarmless}
 use Rattle.gb_successors.proofs.RelatedLaws.{MeansParts-related}
 use Rattle.gb_successors.specs.Below.gb_domain.Summaries.{SummaryParts, Program, no_summary}
 use Rattle.gb_successors.specs.Below.gb_product.Meaning.{AreRelated, IsSummarized, Means}
-use Rattle.gb_successors.specs.Below.gb_abs.Meaning.{Activation, MeansCore, MeansParts, ime_may_be}
+use Rattle.gb_successors.specs.Below.gb_abs.Meaning.{Activation, MeansCore, MeansParts, ime_may_be, is_located}
 use Rattle.gb_successors.specs.Below.gb_abs.Operations.{core_end, with_core}
 use Rattle.gb_successors.specs.Below.gb_abs.Stack.{pushed}
 use Rattle.gb_successors.specs.Below.gb_abs.Storage.{peek}
 use Rattle.gb_successors.proofs.Below.gb_abs_laws.OperationLaws.{Holds-single}
 use Rattle.gb_successors.proofs.Below.gb_abs_laws.StackLaws.{IsRegionOpen-bound, MeansParts-pushed, MeansParts-with_core}
-use Rattle.gb_successors.specs.Below.gb_code.Below.gb_abs_memory.Kept.{IsKept}
-use Rattle.gb_successors.specs.Below.gb_code.Below.gb_abs_memory.Sound.{view}
+use Rattle.gb_successors.specs.Below.gb_abs_memory.Kept.{IsKept}
+use Rattle.gb_successors.specs.Below.gb_abs_memory.Sound.{view}
 use Rattle.gb_calls.specs.Calls.{entered_by, callee_of, are_ranges_inside}
 use Rattle.gb_calls.specs.Resuming.{resumed}
 use Rattle.gb_calls.specs.Interrupts.{only_off, dispatched, left_by_dispatch, may_come, handler_of}
 use Rattle.gb_calls.proofs.CalleeLaws.{IsCallee-found, IsEntryNode-entry}
-use Rattle.gb_successors.specs.Below.gb_code.Places.{IsCertified}
+use Rattle.gb_successors.specs.Places.{IsCertified}
 use Rattle.gb_successors.specs.Behind.{ended, with_relations}
 use Rattle.gb_successors.specs.Below.gb_abs_effects.Pairs.{known_word}
 use Rattle.gb_successors.proofs.StackWayLaws.{not_pushed}
@@ -220,9 +221,18 @@ free_at : (region : Region) (o : Option ℕ) (a : ℕ) → IsByteFree region o �
 free_at region o a free e = subst (λ w. IsByteFree region w) e free
 
 pub record IsDispatched (rom : List ℕ) (cert : Certificate) (n : Node) (entry : Activation) (base : ℕ) (x : MState) (i : ℕ) : Type 0 where
+  pub located : is_located n.state ≡ true
   pub means : Means (pushed (known_word n.address) (dispatched n.state)) entry base (left_by rom x i n.address)
   pub faults : store_faults cert.region (view rom x false) (write.Push x.processor.sp n.address) ≡ no_faults
   pub kept : (b : ℕ) → IsKept (setting_of cert n.procedure) cert.region (ranges_of cert n.procedure) base b → peek (left_by rom x i n.address).storage b ≡ peek x.storage b
+
+-- interrupts are on, so the stack isn't put aside
+dispatched_located : (s : AbsState) (p : Processor) → p.ime ≡ ime.On → IsAside s.summary.aside p → s.core.stack_set ≡ true → is_located s ≡ true
+dispatched_located s p on aside set = is_located-of s.summary.aside s.core.stack_set (by s.summary.aside aside) set
+  where
+    by : (o : Option Bounds) → IsAside o p → o ≡ None
+    by None h = refl
+    by (Some b) h = absurd (let bad : ime.On ≡ ime.Off = sym on ∙ h.off in cc)
 
 pushed_ended :
     (s : AbsState) (a : ℕ)
@@ -235,12 +245,13 @@ pub is_dispatched : (rom : List ℕ) (cert : Certificate) (n : Node) (entry : Ac
 is_dispatched rom cert n entry base x i at is_node certificate on set unlimited held =
     let s = IsNodeState-node cert n certificate is_node in
     let room = fewer_bytes cert.region base (need_of cert n.procedure) (length n.state.items + 2) at.room held in
-    let top = at.means.parts.stack set in
+    let located = dispatched_located n.state x.processor on at.means.summary.aside set in
+    let top = at.means.parts.stack located in
     let y : MState = record { processor = in_handler x.processor i; storage = x.storage } in
     let core = MeansCore-masked n.state.core entry x i at.means.parts.core in
     let means : MeansParts (with_core n.state (masked n.state.core)) entry base y = MeansParts-with_core n.state (masked n.state.core) entry base x y at.means.parts core refl refl refl (λ on. on) in
     let done =
-    MeansParts-pushed cert.region (with_core n.state (masked n.state.core)) entry base y (view rom x false) (known_word n.address) n.address means refl set room s.is_region s.placed
+    MeansParts-pushed cert.region (with_core n.state (masked n.state.core)) entry base y (view rom x false) (known_word n.address) n.address means refl located room s.is_region s.placed
     (IsRegionOpen-bound n.state.core entry x cert.region at.means.parts.core unlimited) (Holds-single (n.address / 256) entry) (Holds-single (n.address % 256) entry) s.address in
     let facts = subst (λ p. AreFreeFacts cert.region p.facts) (sym at.program) (is_program rom cert certificate).facts in
     let left : IsLeft cert.region (peek x.storage) (peek (left_by rom x i n.address).storage) =
@@ -250,6 +261,7 @@ is_dispatched rom cert n entry base x i at is_node certificate on set unlimited 
     ∙ done.others b p.0 (not_pushed cert.region base x.processor.sp (length n.state.items) (x.processor.sp - 1) b room top (inl refl) (λ m. not_so (sym m ∙ not-true _ p.1)))
     (not_pushed cert.region base x.processor.sp (length n.state.items) (x.processor.sp - 2) b room top (inr refl) (λ m. not_so (sym m ∙ not-true _ p.1))) in
     record {
+      located = located;
       means = dispatched_means n.state n.address entry base (left_by rom x i n.address) (subst (λ z. MeansParts z entry base (left_by rom x i n.address)) (pushed_ended n.state n.address)
           (MeansParts-related n.state.relations (ended false 5 (pushed (known_word n.address) (with_core n.state (masked n.state.core)))) entry base (left_by rom x i n.address)
           (MeansParts-ended rom (pushed (known_word n.address) (with_core n.state (masked n.state.core))) entry base (left_by rom x i n.address).processor (stored (view rom x false) (write.Push x.processor.sp n.address)) false 5 done.starting done.means)))

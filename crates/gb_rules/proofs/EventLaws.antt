@@ -25,6 +25,7 @@ use Rattle.gb_ops.specs.Machine as Machine
 use Rattle.gb_ops.specs.Machine.{BusState, fetched, length_of, mark_of, run, executed, happened, is_possible, only, has_halt, is_ime, is_running, is_bytes, halt_stay, halt_bug}
 use Rattle.gb_ops.specs.Faults.{no_faults, either_faults, fetch_faults, all_fetch_faults, fetch_addresses, row_faults, run_faults, event_faults, event_places, code_place}
 use Rattle.gb_ops.specs.Play.{MState, within, outside, next, faults, places, faults_where, places_where}
+use Rattle.gb_successors.specs.Below.gb_domain.Summaries.{Program}
 use Rattle.gb_successors.specs.Below.gb_domain.Types.{AbsState, Node}
 use Rattle.gb_successors.specs.Below.gb_domain.Certificate.{Certificate}
 use Rattle.gb_calls.specs.Below.gb_states.WholeRules.{IsCertificate}
@@ -40,12 +41,12 @@ use Rattle.gb_successors.proofs.RelatedLaws.{HoldRelations-same}
 use Rattle.gb_successors.specs.Below.gb_abs.Storage.{peek}
 use Rattle.gb_successors.proofs.Below.gb_abs_laws.OperationLaws.{counted}
 use Rattle.gb_successors.proofs.Below.gb_abs_laws.StackLaws.{MeansParts-with_core}
-use Rattle.gb_successors.specs.Below.gb_code.Below.gb_abs_memory.Sound.{IsRom}
-use Rattle.gb_successors.specs.Below.gb_code.Places.{IsCertified, IsCertifiedBy}
-use Rattle.gb_successors.specs.Below.gb_code.Code.{area_end, known_byte}
-use Rattle.gb_successors.proofs.Below.gb_code_laws.ByteLaws.{Reads-known}
-use Rattle.gb_successors.proofs.Below.gb_code_laws.CodeLaws.{IsInside, clear_byte, area_small, FetchesFirst-known, FetchesAll-known}
-use Rattle.gb_successors.specs.Below.gb_code.Below.gb_abs_memory.Kept.{IsKept}
+use Rattle.gb_successors.specs.Below.gb_abs_memory.Sound.{IsRom}
+use Rattle.gb_successors.specs.Places.{IsCertified, IsCertifiedBy}
+use Rattle.gb_successors.specs.Code.{area_end, known_byte}
+use Rattle.gb_successors.proofs.ByteLaws.{Reads-known}
+use Rattle.gb_successors.proofs.CodeLaws.{IsInside, clear_byte, area_small, FetchesFirst-known, FetchesAll-known}
+use Rattle.gb_successors.specs.Below.gb_abs_memory.Kept.{IsKept}
 use Rattle.gb_successors.specs.Way.{Successor}
 use Rattle.gb_successors.specs.Sound.{IsHalt}
 use Rattle.gb_rules.specs.Rules.{ways_of, is_halt, is_nop, is_nop_behind, may_read_twice, reason_of, reason_at}
@@ -65,7 +66,7 @@ pub record IsSafeHappening (rom : List ℕ) (cert : Certificate) (procedure : �
   pub leads : Leads rom cert procedure entry base s (outside (happened (within rom s) e))
   pub kept : (b : ℕ) → IsKept (setting_of cert procedure) cert.region (ranges_of cert procedure) base b → peek (outside (happened (within rom s) e)).storage b ≡ peek s.storage b
 
-certified_by : (rom : List ℕ) (cert : Certificate) (n : Node) (xs : List CodePlace) → Contains cert.nodes n → All (IsCertifiedBy rom n) xs → All (IsCertified rom cert) xs
+certified_by : (rom : List ℕ) (cert : Certificate) (n : Node) (xs : List CodePlace) → Contains cert.nodes n → All (IsCertifiedBy (program_of rom cert) rom n) xs → All (IsCertified rom cert) xs
 certified_by rom cert n xs is h = λ i d lt. (n, is, h i d lt)
 
 -- ---- an instruction that is executed
@@ -97,6 +98,11 @@ first_byte : (reads : List ℕ) → list_all (λ b. nat_lt b 256) reads ≡ true
 first_byte [] h = omega arith
 first_byte (b ∷ rest) h = small_byte b (and_parts _ _ h).0
 
+second_byte : (reads : List ℕ) → list_all (λ b. nat_lt b 256) reads ≡ true → slice_index reads 1 ≤ 255
+second_byte [] h = omega arith
+second_byte (a ∷ []) h = omega arith
+second_byte (a ∷ b ∷ rest) h = small_byte b (and_parts _ _ (and_parts _ _ h).1).0
+
 last_true : (a b c d : Bool) → (a && b && (c && d)) ≡ true → d ≡ true
 last_true true true true d h = h
 last_true true true false d h = cc
@@ -104,22 +110,23 @@ last_true true false c d h = cc
 last_true false b c d h = cc
 
 -- the bytes of an event
-reads_byte : (rom : List ℕ) (x : MState) (fetch reads : List ℕ) → is_possible (within rom x) (event.Run fetch reads) ≡ true → slice_index reads 0 ≤ 255
+reads_byte : (rom : List ℕ) (x : MState) (fetch reads : List ℕ) → is_possible (within rom x) (event.Run fetch reads) ≡ true → (slice_index reads 0 ≤ 255) × (slice_index reads 1 ≤ 255)
 unfolding is_possible
 reads_byte rom x fetch reads h =
-    first_byte reads (last_true (is_running (within rom x)) (is_bytes 3 fetch) (length reads == 2) (list_all (λ b. nat_lt b 256) reads) h)
+    let all = last_true (is_running (within rom x)) (is_bytes 3 fetch) (length reads == 2) (list_all (λ b. nat_lt b 256) reads) h in
+    (first_byte reads all, second_byte reads all)
 
 run_unmarked : (rom : List ℕ) (cert : Certificate) (n : Node) (entry : Activation) (base : ℕ) (x : MState) (k : OnNode rom cert n entry base x) (fetch reads : List ℕ)
-    → x.processor.halt_mark ≡ false → slice_index reads 0 ≤ 255 → IsSafeHappening rom cert n.procedure entry base x (event.Run fetch reads)
+    → x.processor.halt_mark ≡ false → (slice_index reads 0 ≤ 255) × (slice_index reads 1 ≤ 255) → IsSafeHappening rom cert n.procedure entry base x (event.Run fetch reads)
 run_unmarked rom cert n entry base x k fetch reads mark byte =
     let p = k.passes in
     let done = (sound_ways rom cert n entry base x k).executes (ranges_of cert n.procedure) entry base x reads k.program (stands rom cert n entry base x k)
-    (is_ruled rom cert n entry base x k) mark byte in
+    (is_ruled rom cert n entry base x k) mark byte.0 byte.1 in
     let t = done.successor in
     let may = allowed rom cert n p base t done.is_one k.state k.return_word k.room in
     let leads = done.leads may in
     let known = known_by rom cert n p t done.is_one in
-    let all = FetchesAll-known rom n entry base x p.bytes known (on_code rom cert n entry base x k) (inl mark) in
+    let all = FetchesAll-known (program_of rom cert) rom n entry base x p.bytes known (on_code rom cert n entry base x k) (inl mark) in
     let is : fetched (within rom x).memory (within rom x).processor fetch ≡ p.bytes = ap (λ q. fetched (within rom x).memory q fetch) (processor_is rom x) ∙ all.gives fetch in
     let after : outside (happened (within rom x) (event.Run fetch reads)) ≡ outside (executed (within rom x) p.row reads) =
     ap outside (happens_by_row (within rom x) fetch reads p.bytes p.row is p.is_row) in
@@ -225,10 +232,10 @@ run_marked rom cert n entry base x k fetch reads mark off nop =
     let p = k.passes in
     let known = is_known rom cert n entry base x k in
     let code = on_code rom cert n entry base x k in
-    let first = FetchesFirst-known rom n entry base x p.bytes known code in
+    let first = FetchesFirst-known (program_of rom cert) rom n entry base x p.bytes known code in
     let opcode : known.known.opcode ≡ 0 = sym first.byte ∙ nop in
     let short : length_of known.known.opcode ≡ 1 = ap length_of opcode ∙ nop_length in
-    let all = FetchesAll-known rom n entry base x p.bytes known code (inr short) in
+    let all = FetchesAll-known (program_of rom cert) rom n entry base x p.bytes known code (inr short) in
     let row : p.row ≡ record { op = op.Nop; length = 1; cycles = 1; cycles_not_taken = 1 } =
     decoded_nop p.bytes p.row known.known.second known.known.third (known.known.bytes_are ∙ ap (λ b. b ∷ known.known.second ∷ known.known.third ∷ []) opcode) p.is_row in
     let is : fetched (within rom x).memory (within rom x).processor fetch ≡ p.bytes = ap (λ q. fetched (within rom x).memory q fetch) (processor_is rom x) ∙ all.gives fetch in
@@ -264,7 +271,7 @@ IsHalt-decoded bytes row opcode second third e h is =
 at_halt : (rom : List ℕ) (cert : Certificate) (n : Node) (entry : Activation) (base : ℕ) (x : MState) (k : OnNode rom cert n entry base x) → has_halt (within rom x) ≡ true → IsHalt k.passes.row
 at_halt rom cert n entry base x k h =
     let known = is_known rom cert n entry base x k in
-    let first = FetchesFirst-known rom n entry base x k.passes.bytes known (on_code rom cert n entry base x k) in
+    let first = FetchesFirst-known (program_of rom cert) rom n entry base x k.passes.bytes known (on_code rom cert n entry base x k) in
     let seen : (is_free (within rom x).memory x.processor.pc || (byte_at (within rom x).memory x.processor.pc == 0x76)) ≡ true =
     sym (ap (λ q. is_free (within rom x).memory q.pc || (byte_at (within rom x).memory q.pc == 0x76)) (processor_is rom x)) ∙ h in
     let halts : (known.known.opcode == 0x76) ≡ true = opcode_seen _ _ _ first.fixed first.byte seen in
@@ -329,7 +336,7 @@ unfolding is_possible happened
 stay_safe rom cert n entry base x k mark possible =
     let parts = halt_parts _ _ _ _ possible in
     let known = is_known rom cert n entry base x k in
-    let first = FetchesFirst-known rom n entry base x k.passes.bytes known (on_code rom cert n entry base x k) in
+    let first = FetchesFirst-known (program_of rom cert) rom n entry base x k.passes.bytes known (on_code rom cert n entry base x k) in
     let pending : x.processor.ime ≡ ime.Pending = is_pending x.processor.ime (ap (λ (q : Processor). is_ime q.ime ime.Pending) (sym (processor_is rom x)) ∙ parts.1) in
     let clear = unmarked_at_halt rom cert n entry base x k mark parts.0 in
     let way = (sound_ways rom cert n entry base x k).stays (ranges_of cert n.procedure) entry base x k.program (stands rom cert n entry base x k) (at_halt rom cert n entry base x k parts.0) pending parts.2 in
@@ -344,13 +351,13 @@ stay_safe rom cert n entry base x k mark possible =
 -- ---- the halt bug
 
 -- behind a HALT that may be reached with interrupts off there is a NOP, which is read in any case
-nop_behind : (rom : List ℕ) (s : AbsState) (a end : ℕ) (o : Option ℕ) → o ≡ Some end → is_nop_behind rom s a o ≡ true → (a + 1 < end) × (known_byte rom s (a + 1) ≡ Some 0)
-nop_behind rom s a end None e h = cc
-nop_behind rom s a end (Some f) e h =
+nop_behind : (program : Program) (rom : List ℕ) (s : AbsState) (a end : ℕ) (o : Option ℕ) → o ≡ Some end → is_nop_behind program rom s a o ≡ true → (a + 1 < end) × (known_byte program rom s (a + 1) ≡ Some 0)
+nop_behind program rom s a end None e h = cc
+nop_behind program rom s a end (Some f) e h =
     let p = and_parts _ _ h in
     let same : f ≡ end = same_Some f end e in
     let less : a + 1 < f = below _ _ p.0 in
-    (subst (λ g. a + 1 < g) same less, nop_known (known_byte rom s (a + 1)) p.1)
+    (subst (λ g. a + 1 < g) same less, nop_known (known_byte program rom s (a + 1)) p.1)
   where
     below : (b c : ℕ) → nat_lt b c ≡ true → b < c
     below b c h = grind (arith, nat_tests)
@@ -392,18 +399,18 @@ bug_safe rom cert n entry base x k mark possible =
     let p = k.passes in
     let parts = halt_parts _ _ _ _ possible in
     let known = is_known rom cert n entry base x k in
-    let first = FetchesFirst-known rom n entry base x p.bytes known (on_code rom cert n entry base x k) in
+    let first = FetchesFirst-known (program_of rom cert) rom n entry base x p.bytes known (on_code rom cert n entry base x k) in
     let off : x.processor.ime ≡ ime.Off = is_off x.processor.ime (ap (λ (q : Processor). is_ime q.ime ime.Off) (sym (processor_is rom x)) ∙ parts.1) in
     let clear = unmarked_at_halt rom cert n entry base x k mark parts.0 in
     let halt = at_halt rom cert n entry base x k parts.0 in
     let way = (sound_ways rom cert n entry base x k).repeats (ranges_of cert n.procedure) entry base x k.program (stands rom cert n entry base x k) halt off clear in
-    let nop = nop_behind rom n.state n.address p.end (area_end n.address) p.is_end
+    let nop = nop_behind (program_of rom cert) rom n.state n.address p.end (area_end n.address) p.is_end
     (halt_guarded (is_halt p.row.op) n.state.core.ime.off _ (ap is_halt halt.op_is) (off_known n.state x.processor.ime off k.means.parts.core.ime) p.halt) in
     let small = area_small n.address p.end p.is_end in
     let inside : IsInside n.address p.end (n.address + 1) = record { least = omega arith; most = nop.0 } in
     let waited = counted (x.storage.count - 1) x in
     let means : Means n.state entry base waited = same_means n.state entry base x waited k.means refl (omega arith) refl refl refl refl refl refl in
-    let reads = Reads-known rom n.state entry base waited (n.address + 1) 0 k.cartridge means.parts k.state.core.ie
+    let reads = Reads-known (program_of rom cert) rom n.state entry base waited (n.address + 1) 0 k.cartridge k.program means k.state.core.ie
     (clear_byte n.state.core n.address (length_of known.known.opcode) p.end (n.address + 1) known.clear small.1 inside) nop.1 in
     let none : mark_of x.processor ≡ 0 = ap (λ b. cond b 1 0) clear in
     let pc : (outside (halt_bug (within rom x))).processor.pc ≡ n.address + 1 =
@@ -456,7 +463,7 @@ mark_waited rom cert n entry base x k count m (inl clear) = inl clear
 mark_waited rom cert n entry base x k count m (inr nop) =
     let later : OnNode rom cert n entry base (counted count x) =
     record { cartridge = k.cartridge; certificate = k.certificate; is_node = k.is_node; state = k.state; passes = k.passes; address = k.address; program = k.program; names = k.names; means = m; main = k.main; return_word = k.return_word; room = k.room; based = k.based; held = k.held } in
-    let first = FetchesFirst-known rom n entry base (counted count x) k.passes.bytes (is_known rom cert n entry base x k) (on_code rom cert n entry base (counted count x) later) in
+    let first = FetchesFirst-known (program_of rom cert) rom n entry base (counted count x) k.passes.bytes (is_known rom cert n entry base x k) (on_code rom cert n entry base (counted count x) later) in
     inr (nop.0, first.fixed, same_bytes rom x count x.processor.pc ∙ nop.2)
 
 wait_safe : (rom : List ℕ) (cert : Certificate) (n : Node) (entry : Activation) (base : ℕ) (x : MState) (k : OnNode rom cert n entry base x) (cycles : ℕ) → IsMarkHarmless rom x

@@ -2,7 +2,7 @@
 use Rattle.std.proofs.Common.{◌≡◌, ℕ, ◌+◌, ◌≤◌, ◌<◌, true, inl, List, ◌∷◌, length, Some, refl, sym, ◌∙◌, ap, subst, arith}
 use Rattle.gb_ops.specs.Pairs.{word}
 use Rattle.gb_ops.specs.Play.{MState}
-use Rattle.gb_successors.specs.Below.gb_domain.Summaries.{Program}
+use Rattle.gb_successors.specs.Below.gb_domain.Summaries.{Program, SummaryParts}
 use Rattle.gb_successors.specs.Below.gb_domain.Types.{AbsState, Node}
 use Rattle.gb_successors.specs.Below.gb_domain.Certificate.{Certificate}
 use Rattle.gb_calls.specs.Below.gb_states.declared.role.Role.TheVariants as role
@@ -10,14 +10,14 @@ use Rattle.gb_successors.specs.Below.gb_domain.Limits.{rules_of}
 use Rattle.gb_successors.specs.Below.gb_domain.declared.rules.Rules.{Rules}
 use Rattle.gb_successors.specs.Below.gb_domain.declared.rules.Rules.TheVariants.{Simple}
 use Rattle.gb_calls.specs.Below.gb_states.WholeRules.{IsCertificate}
-use Rattle.gb_successors.specs.Below.gb_abs.Meaning.{Activation}
+use Rattle.gb_successors.specs.Below.gb_abs.Meaning.{Activation, is_located}
 use Rattle.gb_successors.specs.Below.gb_product.Covering.{covers}
 use Rattle.gb_successors.specs.Below.gb_product.Meaning.{Means}
 use Rattle.gb_successors.specs.Below.gb_abs.Stack.{AreInRegion}
 use Rattle.gb_successors.specs.Below.gb_abs.Storage.{peek}
 use Rattle.gb_successors.proofs.Below.gb_product_laws.CoveringLaws.{Means-covered}
 use Rattle.gb_successors.proofs.Below.gb_abs_laws.StorageLaws.{region_in_ram}
-use Rattle.gb_successors.specs.Below.gb_code.Below.gb_abs_memory.Kept.{keeps, keeps_by, IsKept}
+use Rattle.gb_successors.specs.Below.gb_abs_memory.Kept.{keeps, keeps_by, IsKept}
 use Rattle.gb_calls.specs.Calls.{entered_by, are_ranges_inside}
 use Rattle.gb_calls.specs.Resuming.{resumed_alone, resumed}
 use Rattle.std.specs.Prelude.{◌==◌}
@@ -27,6 +27,7 @@ use Rattle.gb_calls.proofs.RangeLaws.{IsKept-inside}
 use Rattle.gb_calls.proofs.ResumingLaws.{Means-resumed_alone}
 use Rattle.gb_successors.specs.Below.gb_abs_effects.Pairs.{known_word}
 use Rattle.gb_ops.specs.declared.machine.Kind.TheVariants as kind
+use Rattle.gb_successors.proofs.Below.gb_abs_laws.LocationLaws.{is_located-of}
 use Rattle.gb_rules.proofs.CertificateLaws.{HasStateParts}
 use Rattle.gb_rules.proofs.ProgramLaws.{no_controller}
 use Rattle.gb_rules.specs.Covered.{covered_at}
@@ -34,7 +35,7 @@ use Rattle.gb_rules.specs.Procedures.{ranges_of, kept_of, need_of, setting_of, p
 use Rattle.gb_rules.specs.Safety.{begun, IsAt, IsMeant, Calls, Returns}
 use Rattle.gb_rules.specs.Frames.{Keeps, Frame, IsWaiting, AreWaiting, Stands}
 use Rattle.gb_rules.proofs.CoveringLaws.{IsFoundAt, covered_items, found_at}
-use Rattle.gb_rules.proofs.ProcedureLaws.{based_setting, HasReturnWord-simply, return_word_of, ranges_apart, apart_outside, exit_state, exit_set, exit_items}
+use Rattle.gb_rules.proofs.ProcedureLaws.{based_setting, HasReturnWord-simply, return_word_of, ranges_apart, apart_outside, exit_state, exit_located, exit_items}
 use Rattle.gb_rules.proofs.CallLaws.{sp_pushed, Means-without_word, pushed_word, region_end}
 
 -- ---- what is kept
@@ -63,11 +64,14 @@ record IsPlacedCall (cert : Certificate) (procedure : ℕ) (entry : Activation) 
   room : AreInRegion cert.region base (length c.state.items + 2)
   callee_room : AreInRegion cert.region t.processor.sp (need_of cert c.node.procedure)
 
+call_located : {cert : Certificate} {procedure : ℕ} {entry : Activation} {base : ℕ} {t : MState} (c : Calls cert procedure entry base t) → is_located c.state ≡ true
+call_located c = is_located-of c.state.summary.aside c.state.core.stack_set (ap (λ (m : SummaryParts). m.aside) c.quiet) c.stack_set
+
 placed_call : (cert : Certificate) (procedure : ℕ) (entry : Activation) (base : ℕ) (t : MState) → IsCertificate cert → AreInRegion cert.region base (need_of cert procedure)
     → (c : Calls cert procedure entry base t) → IsPlacedCall cert procedure entry base t c
 placed_call cert procedure entry base t certificate room c =
     let end : cert.region.last < 0xFFFF = region_end cert.region certificate.region in
-    let sp : t.processor.sp + (length c.state.items + 2) ≡ base = sp_pushed (known_word c.back) c.state entry base t c.means.parts c.stack_set in
+    let sp : t.processor.sp + (length c.state.items + 2) ≡ base = sp_pushed (known_word c.back) c.state entry base t c.means.parts (call_located c) in
     let first : cert.region.first + need_of cert procedure ≤ base = room.first in
     let last : base ≤ cert.region.last + 1 = room.last in
     let depth : length c.state.items + 2 + need_of cert c.node.procedure ≤ need_of cert procedure = c.depth in
@@ -82,7 +86,7 @@ placed_call cert procedure entry base t certificate room c =
 -- the state that waits is meant, without the return word
 caller_means : (cert : Certificate) (procedure : ℕ) (entry : Activation) (base : ℕ) (t : MState) (c : Calls cert procedure entry base t) → IsPlacedCall cert procedure entry base t c
     → Means c.state entry base (without_word t)
-caller_means cert procedure entry base t c p = Means-without_word (known_word c.back) c.state entry base t c.means c.quiet c.stack_set p.small
+caller_means cert procedure entry base t c p = Means-without_word (known_word c.back) c.state entry base t c.means c.quiet (call_located c) p.small
 
 -- ---- a frame is put on
 
@@ -191,7 +195,7 @@ back_is cert f procedure entry base s certificate simple w keeps =
     let last : base + 2 ≤ cert.region.last + 1 = (let h = p.return_word in omega arith) in
     let low = keeps.byte base (word_kept cert procedure base base certificate simple first last (omega arith) (omega arith)) in
     let high = keeps.byte (base + 1) (word_kept cert procedure base (base + 1) certificate simple first last (omega arith) (omega arith)) in
-    let found = pushed_word c.back c.state f.entry f.base entry.entered c.means.parts c.stack_set in
+    let found = pushed_word c.back c.state f.entry f.base entry.entered c.means.parts (call_located c) in
     ap (λ n. word n (peek s.storage base)) high ∙ (ap (λ n. word (peek entry.entered.storage (base + 1)) n) low ∙ (ap (λ n. word (peek entry.entered.storage (n + 1)) (peek entry.entered.storage n)) e ∙ found))
 
 -- the callee has come back
@@ -210,9 +214,9 @@ comes_back rom cert f procedure entry base s t certificate simple program w befo
       apart = ranges_apart cert procedure certificate;
       placed = c.placed;
       room = p.room;
-      stack_set = c.stack_set;
+      located = call_located c;
       caller = caller_means cert f.procedure f.entry f.base entry.entered c p;
-      exit_set = exit_set (rules_of cert.version) cert.region r.exit exit;
+      exit_located = exit_located (rules_of cert.version) cert.region r.exit exit;
       exit_items = exit_items cert.region r.exit (subst (λ q. HasStateParts q role.Exit cert.region r.exit) simple exit);
       exit_core = exit.core;
       exits = subst (λ n. Means r.exit entry (n + 2) t) w.base_is r.means;

@@ -8,7 +8,7 @@ use Rattle.gb_ops.specs.Play.{MState, next, play}
 use Rattle.gb_successors.specs.Below.gb_abs.Meaning.{Activation}
 use Rattle.gb_successors.specs.Below.gb_domain.Certificate.{Certificate}
 use Rattle.gb_calls.specs.Below.gb_states.WholeRules.{IsCertificate}
-use Rattle.gb_successors.specs.Below.gb_code.Places.{IsCertified}
+use Rattle.gb_successors.specs.Places.{IsCertified}
 use Rattle.gb_rules.specs.Safety.{IsMeant, IsSafeEvent}
 use Rattle.gb_rules.specs.Frames.{IsStanding}
 use Rattle.gb_rules.proofs.StandingLaws.{IsStanding-event}

@@ -19,7 +19,7 @@ use Rattle.gb_successors.specs.Below.gb_product.Covering.{covers}
 use Rattle.gb_successors.specs.Below.gb_product.Meaning.{Means}
 use Rattle.gb_successors.proofs.Below.gb_product_laws.CoveringLaws.{Means-covered}
 use Rattle.gb_successors.proofs.Below.gb_product_laws.MeaningLaws.{AreBytes-core}
-use Rattle.gb_successors.specs.Below.gb_code.Below.gb_abs_memory.Kept.{keeps, keeps_by, IsKept}
+use Rattle.gb_successors.specs.Below.gb_abs_memory.Kept.{keeps, keeps_by, IsKept}
 use Rattle.gb_calls.specs.Calls.{entered_by, are_ranges_inside}
 use Rattle.gb_calls.specs.Resuming.{resumed}
 use Rattle.gb_calls.specs.Sound.{IsCalled, HandsBack, MeansIf}
@@ -33,7 +33,7 @@ use Rattle.gb_rules.specs.Procedures.{ranges_of, kept_of, need_of, setting_of, p
 use Rattle.gb_rules.specs.Safety.{begun, IsAt, IsMeant, HandsOver, GoesBack}
 use Rattle.gb_rules.specs.Frames.{Keeps, Frame, IsWaitingAbove, Stands}
 use Rattle.gb_rules.proofs.CoveringLaws.{IsFoundAt, covered_items, found_by}
-use Rattle.gb_rules.proofs.ProcedureLaws.{HasReturnWord-widely, ranges_apart, exit_state, exit_set}
+use Rattle.gb_rules.proofs.ProcedureLaws.{HasReturnWord-widely, ranges_apart, exit_state, exit_located}
 use Rattle.gb_rules.proofs.ResumedLaws.{IsGivenBack, IsGivenBack-resumed}
 use Rattle.gb_rules.proofs.FrameLaws.{Keeps-none, Keeps-then, waiting_by, waiting_in}
 use Rattle.gb_successors.specs.Below.gb_product.Below.gb_summaries.Elsewhere.{AreFreeFacts}
@@ -88,7 +88,7 @@ placed_above cert procedure entry base t room h =
     record { room = record { first = p.0; last = p.1.1 }; held = record { first = p.1.0; last = p.1.1 } }
 
 is_called : (cert : Certificate) (procedure : ℕ) (entry : Activation) (base : ℕ) (t : MState) (h : HandsOver cert procedure entry base t) → IsCalled (taken_by cert h.node.procedure) h.state entry base t
-is_called cert procedure entry base t h = record { few = h.few; stack_set = h.stack_set; caller = h.means }
+is_called cert procedure entry base t h = record { few = h.few; located = h.located; caller = h.means }
 
 -- the callee stands at its entry, and was entered just now
 IsAt-handed : (rom : List ℕ) (cert : Certificate) (procedure : ℕ) (entry : Activation) (base : ℕ) (t : MState) → rules_of cert.version ≡ Extended → entry.program ≡ program_of rom cert
@@ -173,7 +173,7 @@ hands_back rom cert f procedure entry base s t certificate extended program name
       callee = setting_of cert procedure;
       keeps = others_keep cert procedure extended r.not_main;
       callee_base = subst (λ n. IsBase (setting_of cert n) (base_below (taken_by cert n) c.state.items f.base)) w.callee c.based;
-      exit_set = exit_set (rules_of cert.version) cert.region r.exit exit;
+      exit_located = exit_located (rules_of cert.version) cert.region r.exit exit;
       exit_core = exit.core;
       exits = subst (λ n. Means r.exit entry n t) w.base_is r.means;
       caller_program = refl;
@@ -220,7 +220,7 @@ given_back_room cert f procedure entry base t certificate w r =
     let c = w.calls in
     let k = taken_by cert procedure in
     let few : k ≤ length c.state.items = subst (λ n. taken_by cert n ≤ length c.state.items) w.callee c.few in
-    let set = exit_set (rules_of cert.version) cert.region r.exit (exit_state cert procedure r.exit certificate r.is_exit) in
+    let set = exit_located (rules_of cert.version) cert.region r.exit (exit_state cert procedure r.exit certificate r.is_exit) in
     let first = c.held.first in
     let low = r.held.first in
     let left : t.processor.sp + length r.exit.items ≡ base = r.means.parts.stack set in

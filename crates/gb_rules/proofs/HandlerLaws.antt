@@ -6,7 +6,7 @@ use Rattle.std.specs.List.{Contains}
 use Rattle.gb_ops.specs.declared.machine.Event.TheVariants as event
 use Rattle.gb_ops.specs.Machine.{is_possible, happened, vector}
 use Rattle.gb_ops.specs.Play.{MState, within, outside}
-use Rattle.gb_successors.specs.Below.gb_abs.Meaning.{Activation}
+use Rattle.gb_successors.specs.Below.gb_abs.Meaning.{Activation, is_located, located_by}
 use Rattle.gb_successors.specs.Below.gb_domain.declared.rules.Rules.{Rules}
 use Rattle.gb_successors.specs.Below.gb_domain.declared.rules.Rules.TheVariants.{Extended}
 use Rattle.gb_successors.specs.Below.gb_domain.declared.setting.Setting.{Setting}
@@ -78,9 +78,13 @@ unfolding pushed
 left_count n =
     length-append (dispatched n.state).items ((known_word n.address).high ∷ (known_word n.address).low ∷ []) ∙ ap (λ (items : List _). length items + 2) (dispatched_items n.state)
 
-left_set : (n : Node) → (left_at n).core.stack_set ≡ n.state.core.stack_set
-unfolding pushed
-left_set n = dispatched_set n.state
+left_set : (n : Node) → is_located (left_at n) ≡ is_located n.state
+unfolding pushed dispatched
+left_set n = ap (λ (set : Bool). located_by n.state.summary.aside set) (dispatched_set n.state)
+
+same_located : (s : AbsState) → is_located (dispatched s) ≡ is_located s
+unfolding dispatched
+same_located s = ap (λ (set : Bool). located_by s.summary.aside set) (dispatched_set s)
 
 left_cells : (n : Node) → (left_at n).cells ≡ n.state.cells
 unfolding pushed
@@ -153,14 +157,14 @@ is_calling rom cert n entry base x i o at s ready d mark =
         based = at.based;
         room = at.room;
       };
-      stack_set = left_set n ∙ ready.stack_set;
+      located = left_set n ∙ d.located;
       placed = record {
         cells = subst (λ cells. ArePlaced cert.region cells) (sym (left_cells n)) s.placed;
         byte = subst (λ r. IsByteFree cert.region r.byte.address) related s.free;
         summary = left_apart cert.region n s.apart;
       };
       back_small = s.address;
-      return_word = pushed_word n.address (dispatched n.state) entry base (left_by rom x i n.address) d.means.parts (dispatched_set n.state ∙ ready.stack_set);
+      return_word = pushed_word n.address (dispatched n.state) entry base (left_by rom x i n.address) d.means.parts (same_located n.state ∙ d.located);
       mark = mark;
     }
 

@@ -16,7 +16,7 @@ use Rattle.gb_successors.specs.Below.gb_domain.Certificate.{Certificate}
 use Rattle.gb_calls.specs.Below.gb_states.WholeRules.{IsCertificate}
 use Rattle.gb_successors.specs.Below.gb_abs.declared.reason.Reason.{Reason}
 use Rattle.gb_successors.specs.Below.gb_abs.declared.reason.Reason.TheVariants as reasons
-use Rattle.gb_successors.specs.Below.gb_code.Below.gb_abs_memory.Sound.{IsRom}
+use Rattle.gb_successors.specs.Below.gb_abs_memory.Sound.{IsRom}
 use Rattle.gb_successors.proofs.AccessLaws.{clear_stack}
 use Rattle.gb_rules.specs.Procedures.{program_of}
 use Rattle.gb_rules.specs.Rules.{reason_of, reason_at, lacks_handler, lacks_in, lacks_handler_at}

@@ -20,8 +20,9 @@ use Rattle.gb_successors.specs.Below.gb_domain.declared.rules.Rules.TheVariants.
 use Rattle.gb_successors.specs.Below.gb_domain.declared.setting.Setting.{Setting}
 use Rattle.gb_successors.specs.Below.gb_domain.Areas.{is_free_byte}
 use Rattle.gb_successors.specs.Below.gb_domain.Limits.{rules_of, item_room}
-use Rattle.gb_successors.specs.Below.gb_domain.Summaries.{Program, no_summary}
+use Rattle.gb_successors.specs.Below.gb_domain.Summaries.{Program, no_summary, SummaryParts}
 use Rattle.gb_successors.specs.Below.gb_product.Below.gb_summaries.Elsewhere.{IsFree}
+use Rattle.gb_successors.proofs.Below.gb_abs_laws.LocationLaws.{is_located-of}
 use Rattle.gb_rules.proofs.CertificateLaws.{free_from, HasStateParts, node_parts}
 use Rattle.gb_successors.specs.Below.gb_domain.Types.{AbsState, Node}
 use Rattle.gb_successors.specs.Below.gb_domain.Certificate.{Certificate}
@@ -36,13 +37,16 @@ use Rattle.gb_successors.specs.Below.gb_abs.Stack.{AreInRegion}
 use Rattle.gb_successors.specs.Below.gb_abs_effects.declared.targets.Target.{Target}
 use Rattle.gb_successors.specs.Below.gb_abs_effects.declared.targets.Target.TheVariants as target
 use Rattle.gb_successors.proofs.Below.gb_abs_effects_laws.DecodingLaws.{HasBytes-decoded, length-decoded}
-use Rattle.gb_successors.specs.Below.gb_code.Below.gb_abs_memory.Access.{val_at}
-use Rattle.gb_successors.specs.Below.gb_code.Below.gb_abs_memory.Shown.{known_bank}
-use Rattle.gb_successors.specs.Below.gb_code.Below.gb_abs_memory.Sound.{IsRom, AreVals}
-use Rattle.gb_successors.proofs.Below.gb_code_laws.Below.gb_abs_memory_laws.LoadLaws.{IsVal-val_at}
-use Rattle.gb_successors.specs.Below.gb_code.Code.{area_end, known_byte, known_where, single_of}
-use Rattle.gb_successors.proofs.Below.gb_code_laws.ByteLaws.{chosen}
-use Rattle.gb_successors.proofs.Below.gb_code_laws.CodeLaws.{KnownBytes, KnownBytes-known_bytes, IsKnown, end_of, bank_of, clear_of}
+use Rattle.gb_successors.specs.Below.gb_abs_memory.Access.{val_at}
+use Rattle.gb_successors.specs.Below.gb_abs_memory.Shown.{known_bank}
+use Rattle.gb_successors.specs.Below.gb_abs_memory.Sound.{IsRom, AreVals}
+use Rattle.gb_successors.proofs.Below.gb_abs_memory_laws.LoadLaws.{IsVal-val_at, IsVal-cell}
+use Rattle.gb_successors.proofs.Below.gb_product_laws.ByteLaws.{IsVal-byte_in}
+use Rattle.gb_successors.specs.Below.gb_product.Covering.{byte_in, values_in}
+use Rattle.gb_successors.specs.Below.gb_abs.Storage.{is_ram}
+use Rattle.gb_successors.specs.Code.{area_end, code_val, known_byte, known_where, single_of}
+use Rattle.gb_successors.proofs.ByteLaws.{chosen}
+use Rattle.gb_successors.proofs.CodeLaws.{KnownBytes, KnownBytes-known_bytes, IsKnown, end_of, bank_of, clear_of}
 use Rattle.gb_successors.specs.Way.{Successor}
 use Rattle.gb_successors.specs.declared.successors.Successors.{Successors}
 use Rattle.gb_successors.specs.Successors.{has, any_successor, product_before}
@@ -88,6 +92,7 @@ pub record IsNodeState (cert : Certificate) (n : Node) : Type 0 where
   pub apart : IsFree cert.region n.state.summary
   pub stack : 0 < n.procedure → n.state.core.stack_set ≡ true
   pub unset : n.state.core.stack_set ≡ false → n.state.items ≡ []
+  pub aside : IfSome n.state.summary.aside (λ b. b.last < 65536)
 
 needs_other : (procedure : ℕ) (set : Bool) → 0 < procedure → (set || not (needs_stack (role_of procedure))) ≡ true → set ≡ true
 needs_other procedure set lt h = by (procedure == 0) refl set h
@@ -129,6 +134,7 @@ IsNodeState-node cert n c is =
       apart = state.apart;
       stack = λ other. needs_other n.procedure n.state.core.stack_set other state.stack;
       unset = none_unset _ n.state.core.stack_set n.state.items state.pushed;
+      aside = state.aside;
     }
 
 -- ---- no reason applies
@@ -144,7 +150,7 @@ none_found {X} test (x ∷ xs) h = let p = not_chosen (test x) x (find test xs) 
 -- a node that passes has a known instruction, inside its area and in its bank, and nothing is against it or its successors
 pub record Passes (rom : List ℕ) (cert : Certificate) (n : Node) : Type 0 where
   pub bytes : List ℕ
-  pub known : KnownBytes rom n.state n.address bytes
+  pub known : KnownBytes (program_of rom cert) rom n.state n.address bytes
   pub row : Row
   pub is_row : decoded bytes ≡ Some row
   pub end : ℕ
@@ -152,7 +158,7 @@ pub record Passes (rom : List ℕ) (cert : Certificate) (n : Node) : Type 0 wher
   pub inside : n.address + length_of known.opcode ≤ end
   pub bank : known_bank rom n.state.core.ctl n.address ≡ Some n.bank
   pub stop : is_stop row.op ≡ false
-  pub halt : may_read_twice rom n row.op ≡ false
+  pub halt : may_read_twice (program_of rom cert) rom n row.op ≡ false
   pub stack : breaks_stack (stack_of cert n.procedure) n row.op ≡ false
   pub depth : grows_too_deep rom cert n row ≡ false
   pub stores : stores_outside rom cert n row ≡ false
@@ -178,7 +184,7 @@ unfolding reason_of applies applies_to_row node_bytes
 Passes-from rom cert n h =
     let none = none_found (applies rom cert n) reasons h in
     let bytes = some_from _ none.1.1.0 in
-    let known = KnownBytes-known_bytes rom n.state n.address bytes.0 bytes.1 in
+    let known = KnownBytes-known_bytes (program_of rom cert) rom n.state n.address bytes.0 bytes.1 in
     let row = some_from _ (undefined_use _ bytes.0 bytes.1 none.1.1.1.0) in
     let end = end_of _ _ _ _ known.is_opcode none.0 in
     record {
@@ -216,16 +222,24 @@ single_small v b is h = elim (chosen (v.lo == v.hi) (Some v.lo) None (Some b) h)
   | inr p ↦ cc
 ]
 
-byte_small : (rom : List ℕ) (s : AbsState) (a b : ℕ) → IsRom rom → IsCore s.core → AreVals s.cells → known_byte rom s a ≡ Some b → b < 256
+code_is : (program : Program) (rom : List ℕ) (s : AbsState) (a : ℕ) → IsRom rom → IsCore s.core → AreVals s.cells → IsVal (code_val program rom s a)
+unfolding code_val
+code_is program rom s a r c vals = by (is_ram a)
+  where
+    by : (b : Bool) → IsVal (cond b (byte_in program (values_in s) s.cells s.summary a) (val_at rom s a))
+    by true = IsVal-byte_in program (values_in s) s.cells s.summary a (IsVal-cell s.cells a vals)
+    by false = IsVal-val_at rom s a c.ie vals r.bytes
+
+byte_small : (program : Program) (rom : List ℕ) (s : AbsState) (a b : ℕ) → IsRom rom → IsCore s.core → AreVals s.cells → known_byte program rom s a ≡ Some b → b < 256
 unfolding known_byte
-byte_small rom s a b r c vals h = elim (chosen _ (single_of (val_at rom s a)) None (Some b) h) [
-  | inl p ↦ single_small (val_at rom s a) b (IsVal-val_at rom s a c.ie vals r.bytes) p.1
+byte_small program rom s a b r c vals h = elim (chosen _ (single_of (code_val program rom s a)) None (Some b) h) [
+  | inl p ↦ single_small (code_val program rom s a) b (code_is program rom s a r c vals) p.1
   | inr p ↦ cc
 ]
 
-where_small : (wanted : Bool) (rom : List ℕ) (s : AbsState) (a b : ℕ) → IsRom rom → IsCore s.core → AreVals s.cells → known_where wanted rom s a ≡ Some b → b < 256
-where_small true rom s a b r c vals h = byte_small rom s a b r c vals h
-where_small false rom s a b r c vals h = let zero_is : 0 ≡ b = same_Some 0 b h in omega arith
+where_small : (wanted : Bool) (program : Program) (rom : List ℕ) (s : AbsState) (a b : ℕ) → IsRom rom → IsCore s.core → AreVals s.cells → known_where wanted program rom s a ≡ Some b → b < 256
+where_small true program rom s a b r c vals h = byte_small program rom s a b r c vals h
+where_small false program rom s a b r c vals h = let zero_is : 0 ≡ b = same_Some 0 b h in omega arith
 
 -- ---- its instruction has rules
 
@@ -253,9 +267,9 @@ simple_room : (n : ℕ) → nat_lt 32 n ≡ false → nat_lt (item_room Simple) 
 unfolding item_room
 simple_room n h = h
 
-pushable : (z : Setting) (region : Region) (need base : ℕ) (s : AbsState) → AreInRegion region base need → not s.core.stack_set ≡ false → (nat_lt need (length s.items + 2) || nat_lt 32 (length s.items + 2)) ≡ false → z.rules ≡ Simple → IsPushable z region s base
-pushable z region need base s room set h simple = record {
-  stack_set = not-false _ set;
+pushable : (z : Setting) (region : Region) (need base : ℕ) (s : AbsState) → AreInRegion region base need → not s.core.stack_set ≡ false → (nat_lt need (length s.items + 2) || nat_lt 32 (length s.items + 2)) ≡ false → z.rules ≡ Simple → s.summary.aside ≡ None → IsPushable z region s base
+pushable z region need base s room set h simple none = record {
+  located = is_located-of s.summary.aside s.core.stack_set none (not-false _ set);
   held = subst (λ q. nat_lt (item_room q) (length s.items + 2) ≡ false) (sym simple) (few (or_parts _ _ h).1);
   room = fewer_bytes region base need (length s.items + 2) room (fits (length s.items) h);
 }
@@ -266,26 +280,26 @@ pushable z region need base s room set h simple = record {
     few : nat_lt 32 (length s.items + 2) ≡ false → nat_lt (item_room Simple) (length s.items + 2) ≡ false
     few h = simple_room (length s.items + 2) h
 
-poppable : (s : AbsState) → (not s.core.stack_set || nat_lt (length s.items) 2) ≡ false → IsPoppable s
-poppable s h =
+poppable : (s : AbsState) → (not s.core.stack_set || nat_lt (length s.items) 2) ≡ false → s.summary.aside ≡ None → IsPoppable s
+poppable s h none =
     let p = or_parts _ _ h in
-    record { stack_set = not-false _ p.0; held = enough (length s.items) p.1 }
+    record { located = is_located-of s.summary.aside s.core.stack_set none (not-false _ p.0); held = enough (length s.items) p.1 }
   where
     enough : (n : ℕ) → nat_lt n 2 ≡ false → 2 ≤ n
     enough n h = grind (arith, nat_tests)
 
-stack_known : (z : Setting) (region : Region) (need base : ℕ) (n : Node) (o : Op) → (n.procedure ≡ 0 → base ≡ region.last + 1) → AreInRegion region base need → breaks_simple_stack region n o ≡ false → pushes_too_deep need n o ≡ false → z.rules ≡ Simple → IsStackKnown z region o n.state base
+stack_known : (z : Setting) (region : Region) (need base : ℕ) (n : Node) (o : Op) → (n.procedure ≡ 0 → base ≡ region.last + 1) → AreInRegion region base need → breaks_simple_stack region n o ≡ false → pushes_too_deep need n o ≡ false → z.rules ≡ Simple → n.state.summary.aside ≡ None → IsStackKnown z region o n.state base
 unfolding breaks_simple_stack pushes_too_deep item_room
-stack_known z region need base n (op.LoadPair which w) main room h deep simple = loaded_pair z region n base w which main h
-stack_known z region need base n (op.Push from) main room h deep simple = inr (inr (inl (refl, pushable z region need base n.state room h deep simple)))
-stack_known z region need base n (op.Pop to) main room h deep simple = inr (inr (inr (inl (refl, poppable n.state h))))
-stack_known z region need base n (op.CallIf k w) main room h deep simple = inr (inr (inr (inr (inl (refl, not-false _ h)))))
-stack_known z region need base n (op.Call w) main room h deep simple = inr (inr (inr (inr (inl (refl, not-false _ h)))))
-stack_known z region need base n (op.Restart w) main room h deep simple = inr (inr (inr (inr (inl (refl, not-false _ h)))))
-stack_known z region need base n (op.ReturnIf k) main room h deep simple = inr (inr (inr (inr (inr refl))))
-stack_known z region need base n op.Return main room h deep simple = inr (inr (inr (inr (inr refl))))
-stack_known z region need base n op.ReturnFromInterrupt main room h deep simple = inr (inr (inr (inr (inr refl))))
-stack_known z region need base n o main room h deep simple = inl h
+stack_known z region need base n (op.LoadPair which w) main room h deep simple none = loaded_pair z region n base w which main h
+stack_known z region need base n (op.Push from) main room h deep simple none = inr (inr (inl (refl, pushable z region need base n.state room h deep simple none)))
+stack_known z region need base n (op.Pop to) main room h deep simple none = inr (inr (inr (inl (refl, poppable n.state h none))))
+stack_known z region need base n (op.CallIf k w) main room h deep simple none = inr (inr (inr (inr (inl (refl, is_located-of n.state.summary.aside n.state.core.stack_set none (not-false _ h))))))
+stack_known z region need base n (op.Call w) main room h deep simple none = inr (inr (inr (inr (inl (refl, is_located-of n.state.summary.aside n.state.core.stack_set none (not-false _ h))))))
+stack_known z region need base n (op.Restart w) main room h deep simple none = inr (inr (inr (inr (inl (refl, is_located-of n.state.summary.aside n.state.core.stack_set none (not-false _ h))))))
+stack_known z region need base n (op.ReturnIf k) main room h deep simple none = inr (inr (inr (inr (inr refl))))
+stack_known z region need base n op.Return main room h deep simple none = inr (inr (inr (inr (inr refl))))
+stack_known z region need base n op.ReturnFromInterrupt main room h deep simple none = inr (inr (inr (inr (inr refl))))
+stack_known z region need base n o main room h deep simple none = inl h
 
 -- its states stand by the certificate's rules
 pub rules_at : (cert : Certificate) (procedure : ℕ) → rules_of cert.version ≡ (stack_of cert procedure).setting.rules
@@ -326,15 +340,19 @@ pub record IsHoused (cert : Certificate) (procedure base : ℕ) : Type 0 where
   pub based : IsBase (setting_of cert procedure) base
   pub room : AreInRegion cert.region base (need_of cert procedure)
 
-stack_ruled : (rom : List ℕ) (cert : Certificate) (n : Node) (base : ℕ) (row : Row) → IsCertificate cert → IsHoused cert n.procedure base → breaks_stack (stack_of cert n.procedure) n row.op ≡ false
+-- by the rules of versions 1 and 2 no stack is put aside
+none_simply : (cert : Certificate) (n : Node) → IsNodeState cert n → rules_of cert.version ≡ Simple → n.state.summary.aside ≡ None
+none_simply cert n state simple = ap (λ (m : SummaryParts). m.aside) (state.quiet simple)
+
+stack_ruled : (rom : List ℕ) (cert : Certificate) (n : Node) (base : ℕ) (row : Row) → IsCertificate cert → IsNodeState cert n → IsHoused cert n.procedure base → breaks_stack (stack_of cert n.procedure) n row.op ≡ false
     → moves_too_deep (rules_of cert.version) (need_of cert n.procedure) n row.op (ways_of rom cert n row).taken ≡ false → (r : Rules) → rules_of cert.version ≡ r
     → IsStackRuled r (stack_of cert n.procedure) (program_of rom cert) rom row n.address n.state base
 unfolding stack_of setting_of ways_of
-stack_ruled rom cert n base row certificate h stack depth Simple is =
+stack_ruled rom cert n base row certificate state h stack depth Simple is =
     stack_known (setting_of cert n.procedure) cert.region (need_of cert n.procedure) base n row.op h.main h.room
     (subst (λ (q : Rules). breaks_stack_by q (stack_of cert n.procedure) n row.op ≡ false) is stack)
-    (subst (λ (q : Rules). moves_too_deep q (need_of cert n.procedure) n row.op (ways_of rom cert n row).taken ≡ false) is depth) is
-stack_ruled rom cert n base row certificate h stack depth Extended is =
+    (subst (λ (q : Rules). moves_too_deep q (need_of cert n.procedure) n row.op (ways_of rom cert n row).taken ≡ false) is depth) is (none_simply cert n state is)
+stack_ruled rom cert n base row certificate state h stack depth Extended is =
     IsStackRuled-ready (stack_of cert n.procedure) (program_of rom cert) rom row n base
     (record { extended = is; based = h.based; room = h.room; main = main_room cert certificate })
     (subst (λ (q : Rules). breaks_stack_by q (stack_of cert n.procedure) n row.op ≡ false) is stack)
@@ -343,14 +361,14 @@ stack_ruled rom cert n base row certificate h stack depth Extended is =
 pub ruled : (rom : List ℕ) (cert : Certificate) (n : Node) (base : ℕ) (p : Passes rom cert n) → IsRom rom → IsCertificate cert → IsNodeState cert n → IsHoused cert n.procedure base
     → IsRuled (stack_of cert n.procedure) (program_of rom cert) rom p.row n.address n.state base
 ruled rom cert n base p r certificate s housed =
-    let second : p.known.second < 256 = where_small _ rom n.state _ _ r s.core s.vals p.known.is_second in
-    let third : p.known.third < 256 = where_small _ rom n.state _ _ r s.core s.vals p.known.is_third in
+    let second : p.known.second < 256 = where_small _ (program_of rom cert) rom n.state _ _ r s.core s.vals p.known.is_second in
+    let third : p.known.third < 256 = where_small _ (program_of rom cert) rom n.state _ _ r s.core s.vals p.known.is_third in
     let at_second : slice_index p.bytes 1 ≡ p.known.second = ap (λ bytes. slice_index bytes 1) p.known.bytes_are in
     let at_third : slice_index p.bytes 2 ≡ p.known.third = ap (λ bytes. slice_index bytes 2) p.known.bytes_are in
     record {
       operands = HasBytes-decoded p.bytes p.row (subst (λ k. k < 256) (sym at_second) second) (subst (λ k. k < 256) (sym at_third) third) p.is_row;
       runs = not_stop p.row.op p.stop;
-      stack = ruled_by rom cert n base p.row (stack_ruled rom cert n base p.row certificate housed p.stack (shallow rom cert n p).moves (rules_of cert.version) refl);
+      stack = ruled_by rom cert n base p.row (stack_ruled rom cert n base p.row certificate s housed p.stack (shallow rom cert n p).moves (rules_of cert.version) refl);
     }
   where
     ruled_by : (rom : List ℕ) (cert : Certificate) (n : Node) (base : ℕ) (row : Row) → IsStackRuled (rules_of cert.version) (stack_of cert n.procedure) (program_of rom cert) rom row n.address n.state base
@@ -394,14 +412,14 @@ callable cert n t base a (Some q) outside over room = fewer_bytes cert.region ba
     fits need held more h = grind (arith, nat_tests)
 
 -- what a return asks for: an exit, with nothing held
-returnable : (program : Program) (cert : Certificate) (n : Node) (t : Successor) (base : ℕ) (o : Option AbsState) → IsNodeState cert n → (n.procedure == 0 || is_exit_missed program Simple t.state o) ≡ false
+returnable : (program : Program) (cert : Certificate) (n : Node) (t : Successor) (base : ℕ) (o : Option AbsState) → IsNodeState cert n → n.state.summary.aside ≡ None → (n.procedure == 0 || is_exit_missed program Simple t.state o) ≡ false
     → (0 < n.procedure → base + 2 ≤ cert.region.last + 1) → AreInRegion cert.region base (need_of cert n.procedure) → IsReturnable cert.region n.state t base
-returnable program cert n t base o state h word room =
+returnable program cert n t base o state none h word room =
     let p = or_parts _ _ h in
     let other : 0 < n.procedure = not_zero n.procedure p.0 in
     let last = word other in
     let first = room.first in
-    record { stack_set = state.stack other; held = no_items o t.state p.1; return_word = record { first = omega arith; last = last } }
+    record { located = is_located-of n.state.summary.aside n.state.core.stack_set none (state.stack other); held = no_items o t.state p.1; return_word = record { first = omega arith; last = last } }
   where
     not_zero : (m : ℕ) → (m == 0) ≡ false → 0 < m
     not_zero m h = grind (arith, nat_tests)
@@ -455,17 +473,17 @@ found program cert n t u = by t.target u.found u.returnable
     by target.Lost known returns = absurd (unlike returns)
 
 -- the stack has what it asks for
-fit_simply : (program : Program) (rom : List ℕ) (cert : Certificate) (n : Node) (base : ℕ) (t : Successor) → is_followed Simple t.target ≡ true → IsUnopposed program Simple cert n t → IsNodeState cert n
+fit_simply : (program : Program) (rom : List ℕ) (cert : Certificate) (n : Node) (base : ℕ) (t : Successor) → is_followed Simple t.target ≡ true → IsUnopposed program Simple cert n t → IsNodeState cert n → n.state.summary.aside ≡ None
     → (0 < n.procedure → base + 2 ≤ cert.region.last + 1) → AreInRegion cert.region base (need_of cert n.procedure) → IsStackFree cert.region t.target n.state t base
 unfolding is_uncallable is_unreturnable calls_too_deep callee_at
-fit_simply program rom cert n base t known u state word room = by t.target known u.callable u.shallow u.returnable
+fit_simply program rom cert n base t known u state none word room = by t.target known u.callable u.shallow u.returnable
   where
     by : (w : Target) → is_followed Simple w ≡ true → is_uncallable_at program (simple_at cert n) cert n.procedure w t.state ≡ false
         → is_over Simple cert (need_of cert n.procedure) (length t.state.items) (callee_by program cert (simple_at cert n) w t.state) ≡ false
         → is_unreturnable_at program Simple cert n.procedure w t.state ≡ false → IsStackFree cert.region w n.state t base
     by (target.At a) known calls deep returns = tt
     by (target.Call a) known calls deep returns = callable cert n t base a (callee_of program cert (simple_at cert n) a t.state) calls deep room
-    by target.Return known calls deep returns = returnable program cert n t base (exit_of cert n.procedure) state returns word room
+    by target.Return known calls deep returns = returnable program cert n t base (exit_of cert n.procedure) state none returns word room
     by (target.Main a) known calls deep returns = cc
     by target.Unknown known calls deep returns = cc
     by target.Lost known calls deep returns = cc
@@ -474,7 +492,7 @@ fit : (rom : List ℕ) (cert : Certificate) (n : Node) (p : Passes rom cert n) (
     → HasReturnWord (rules_of cert.version) cert.region n.procedure base → AreInRegion cert.region base (need_of cert n.procedure) → (r : Rules) → rules_of cert.version ≡ r
     → IsStackFit r cert.region t.target n.state t base
 fit rom cert n p base t is state word room Simple simple =
-    fit_simply (program_of rom cert) rom cert n base t (followed rom cert n p t simple is) (unopposed Simple rom cert n p t simple is) state (return_word_of (rules_of cert.version) cert.region n.procedure base simple word) room
+    fit_simply (program_of rom cert) rom cert n base t (followed rom cert n p t simple is) (unopposed Simple rom cert n p t simple is) state (none_simply cert n state simple) (return_word_of (rules_of cert.version) cert.region n.procedure base simple word) room
 fit rom cert n p base t is state word room Extended extended = found (program_of rom cert) cert n t (unopposed Extended rom cert n p t extended is)
 
 pub allowed : (rom : List ℕ) (cert : Certificate) (n : Node) (p : Passes rom cert n) (base : ℕ) (t : Successor) → IsOneOf (ways_of rom cert n p.row) t → IsNodeState cert n
@@ -494,7 +512,7 @@ first_is : (bytes : List ℕ) (a b c : ℕ) → bytes ≡ a ∷ b ∷ c ∷ [] �
 first_is bytes a b c h = rw h refl
 
 -- where there is a successor, no OAM transfer closes the instruction's bytes
-pub known_by : (rom : List ℕ) (cert : Certificate) (n : Node) (p : Passes rom cert n) (t : Successor) → IsOneOf (ways_of rom cert n p.row) t → IsKnown rom n p.bytes
+pub known_by : (rom : List ℕ) (cert : Certificate) (n : Node) (p : Passes rom cert n) (t : Successor) → IsOneOf (ways_of rom cert n p.row) t → IsKnown (program_of rom cert) rom n p.bytes
 unfolding any_of is_code_limited
 known_by rom cert n p t is =
     let length : p.row.length ≡ length_of p.known.opcode = length-decoded p.bytes p.row p.is_row ∙ ap length_of (first_is p.bytes _ _ _ p.known.bytes_are) in

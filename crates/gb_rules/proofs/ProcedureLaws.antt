@@ -21,7 +21,9 @@ use Rattle.gb_calls.specs.Below.gb_states.Rules.{is_base_of, IsRange, after_rang
 use Rattle.gb_calls.specs.Below.gb_states.WholeRules.{IsCertificate}
 use Rattle.gb_successors.specs.Below.gb_abs.Span.{one}
 use Rattle.gb_successors.specs.Below.gb_abs.Stack.{AreInRegion}
-use Rattle.gb_successors.specs.Below.gb_code.Below.gb_abs_memory.Access.{is_range}
+use Rattle.gb_successors.specs.Below.gb_abs_memory.Access.{is_range}
+use Rattle.gb_successors.proofs.Below.gb_abs_laws.LocationLaws.{is_located-of}
+use Rattle.gb_successors.specs.Below.gb_abs.Meaning.{is_located}
 use Rattle.gb_rules.proofs.CertificateLaws.{HasStateParts, HasProcedureParts, procedures_have}
 use Rattle.gb_rules.specs.Safety.{HasReturnWord}
 use Rattle.gb_rules.specs.Procedures.{ranges_in, kept_in, need_in, base_in, exit_in, ranges_of, kept_of, need_of, setting_of, exit_of}
@@ -174,6 +176,10 @@ exit_set rules region exit k = by exit.core.stack_set k.stack
     by : (b : Bool) → (b || false) ≡ true → b ≡ true
     by true h = refl
     by false h = h
+
+-- and not put aside
+pub exit_located : (rules : Rules) (region : Region) (exit : AbsState) → HasStateParts rules role.Exit region exit → is_located exit ≡ true
+exit_located rules region exit k = is_located-of exit.summary.aside exit.core.stack_set (k.left refl) (exit_set rules region exit k)
 
 -- and with nothing pushed
 pub exit_items : (region : Region) (exit : AbsState) → HasStateParts Simple role.Exit region exit → exit.items ≡ []

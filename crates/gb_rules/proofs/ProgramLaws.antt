@@ -8,7 +8,7 @@ use Rattle.gb_successors.specs.Below.gb_domain.Certificate.{Certificate}
 use Rattle.gb_successors.specs.Below.gb_domain.Limits.{rules_of}
 use Rattle.gb_calls.specs.Below.gb_states.WholeRules.{IsCertificate}
 use Rattle.gb_successors.specs.Sound.{IsProgram}
-use Rattle.gb_successors.specs.Below.gb_code.Below.gb_abs_memory.Windows.{known_kind}
+use Rattle.gb_successors.specs.Below.gb_abs_memory.Windows.{known_kind}
 use Rattle.gb_rules.specs.Procedures.{is_fourth, program_of}
 use Rattle.gb_rules.proofs.CertificateLaws.{not_fourth, facts_free}
 

@@ -17,7 +17,7 @@ use Rattle.gb_successors.specs.Below.gb_domain.Certificate.{Certificate}
 use Rattle.gb_successors.specs.Below.gb_domain.Limits.{rules_of}
 use Rattle.gb_calls.specs.Below.gb_states.WholeRules.{IsCertificate}
 use Rattle.gb_successors.specs.Below.gb_abs.Mark.{IsMarkHarmless}
-use Rattle.gb_successors.specs.Below.gb_abs.Meaning.{Activation, origin_value}
+use Rattle.gb_successors.specs.Below.gb_abs.Meaning.{Activation, origin_value, is_located}
 use Rattle.gb_successors.specs.Below.gb_abs.Stack.{AreInRegion}
 use Rattle.gb_successors.specs.Below.gb_abs.Storage.{peek}
 use Rattle.gb_successors.specs.Below.gb_pairs.Meaning.{AreBytes}
@@ -132,7 +132,7 @@ covered_if program cert procedure a (Some s) h = not-false _ (or_parts _ _ h).1
 -- the address where the procedure will go on is on top of its stack, and its callee is at its first instruction
 pub record IsCalling (cert : Certificate) (procedure a back : ℕ) (state : AbsState) (entry : Activation) (base : ℕ) (y : MState) : Type 0 where
   pub reached : IsReached cert procedure a state entry base y
-  pub stack_set : state.core.stack_set ≡ true
+  pub located : is_located state ≡ true
   pub placed : IsApart cert.region state
   pub back_small : back < 65536
   pub return_word : word (peek y.storage (y.processor.sp + 1)) (peek y.storage y.processor.sp) ≡ back
@@ -164,7 +164,7 @@ HandsOver-called cert procedure a back state entry base y q extended certificate
       back_small = k.back_small;
       means = k.reached.means;
       return_word = k.return_word;
-      stack_set = k.stack_set;
+      located = k.located;
       placed = k.placed;
       pairs = k.reached.pairs;
       held = k.reached.held;

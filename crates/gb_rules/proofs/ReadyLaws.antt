@@ -11,7 +11,7 @@ use Rattle.gb_ops.specs.declared.op.Op.TheVariants as op
 use Rattle.gb_ops.specs.declared.op.Row.{Row}
 use Rattle.gb_successors.specs.Below.gb_domain.declared.pairs.Bounds.{Bounds}
 use Rattle.gb_successors.specs.Below.gb_domain.declared.rules.Rules.{Rules}
-use Rattle.gb_successors.specs.Below.gb_domain.declared.rules.Rules.TheVariants.{Extended}
+use Rattle.gb_successors.specs.Below.gb_domain.declared.rules.Rules.TheVariants.{Extended, Simple}
 use Rattle.gb_successors.specs.Below.gb_domain.Limits.{item_room}
 use Rattle.gb_successors.specs.Below.gb_domain.Settings.{known_base, IsBase}
 use Rattle.gb_successors.specs.Below.gb_domain.Types.{AbsState, Node}
@@ -23,9 +23,12 @@ use Rattle.gb_successors.specs.declared.stacks.Stack.{Stack}
 use Rattle.gb_successors.specs.declared.stacks.StackMove.{StackMove}
 use Rattle.gb_successors.specs.declared.stacks.StackMove.TheVariants as move
 use Rattle.gb_successors.specs.Sound.{HasRoomFor, HoldsBytes, IsReady, IsStackRuled}
-use Rattle.gb_successors.specs.Stacks.{bytes_to, bytes_to_if, own_bytes, main_bytes, set_by, set_to, set_within, extended, displaced_by, push_of, stack_move}
+use Rattle.gb_successors.specs.Stacks.{bytes_to, bytes_to_if, own_bytes, main_bytes, set_by, set_to, set_within, extended, displaced_by, push_of, stack_move, around_of, aside_if, aside_within, popped_by}
 use Rattle.gb_successors.specs.Successors.{pointer_in, taken_move, product_before, successors_of}
-use Rattle.gb_rules.specs.Rules.{is_lost_move, sets_lost, sets_lost_from, lacks_bytes, breaks_extended_stack, is_deep, bytes_after, is_deep_if, grows_over}
+use Rattle.gb_successors.specs.Below.gb_abs.Meaning.{is_located}
+use Rattle.gb_successors.specs.Summaries.{enables_interrupts}
+use Rattle.gb_successors.proofs.Below.gb_abs_laws.LocationLaws.{located-none}
+use Rattle.gb_rules.specs.Rules.{is_lost_move, sets_lost, sets_lost_from, lacks_bytes, breaks_extended_stack, is_deep, bytes_after, is_deep_if, grows_over, lacks_word}
 use Rattle.gb_rules.proofs.RegionLaws.{fewer_bytes}
 use Rattle.gb_successors.specs.Below.gb_domain.Summaries.{Program}
 
@@ -74,9 +77,9 @@ ready_set_to : (k : Stack) (o : Op) (a : ℕ) (s : AbsState) (base : ℕ) → Is
 ready_set_to k o a s base r h =
     subst (λ (q : Rules). IsReady k o (set_to q k a) s base) (sym r.extended) (ready_set k o a s base r (subst (λ (q : Rules). is_lost_move (set_to q k a) ≡ false) r.extended h))
 
-ready_within : (k : Stack) (o : Op) (b : Option Bounds) (s : AbsState) (base : ℕ) → IsRoomy k base → is_lost_move (set_within k b) ≡ false → IsReady k o (set_within k b) s base
-ready_within k o None s base r h = tt
-ready_within k o (Some b) s base r h = by (nat_lt b.first b.last) h
+ready_within : (k : Stack) (o : Op) (b : Option Bounds) (s : AbsState) (base : ℕ) → (enables_interrupts o ≡ true → s.summary.aside ≡ None) → IsRoomy k base → is_lost_move (set_within k b) ≡ false → IsReady k o (set_within k b) s base
+ready_within k o None s base quiet r h = quiet
+ready_within k o (Some b) s base quiet r h = by (nat_lt b.first b.last) h
   where
     by : (c : Bool) → is_lost_move (if c then move.Lost else set_to k.setting.rules k b.first) ≡ false → IsReady k o (if c then move.Lost else set_to k.setting.rules k b.first) s base
     by true h = lost h
@@ -84,19 +87,26 @@ ready_within k o (Some b) s base r h = by (nat_lt b.first b.last) h
 
 -- ---- bytes are put on, or taken off
 
+-- bytes that are held are taken off
+taken_ready : (k : Stack) (o : Op) (n : ℕ) (s : AbsState) (base : ℕ) → HoldsBytes n s → IsReady k o (move.Take n) s base
+taken_ready k o n s base h = (λ e. h, λ e. located-none s.summary.aside s.core.stack_set h.located)
+
+quiet_op : {X : Type 0} → false ≡ true → X
+quiet_op h = cc
+
 holds : (count : ℕ) (s : AbsState) → lacks_bytes count s ≡ false → HoldsBytes count s
 holds count s h =
     let p = or_parts _ _ h in
-    record { stack_set = not-false _ p.0; held = enough (length s.items) p.1 }
+    record { located = not-false _ p.0; held = enough (length s.items) p.1 }
   where
     enough : (n : ℕ) → nat_lt n count ≡ false → count ≤ n
     enough n h = grind (arith, nat_tests)
 
-has_room : (k : Stack) (count : ℕ) (s : AbsState) (base : ℕ) → IsRoomy k base → s.core.stack_set ≡ true → is_deep Extended k.need (length s.items + count) ≡ false → HasRoomFor count k.setting k.region s base
+has_room : (k : Stack) (count : ℕ) (s : AbsState) (base : ℕ) → IsRoomy k base → is_located s ≡ true → is_deep Extended k.need (length s.items + count) ≡ false → HasRoomFor count k.setting k.region s base
 has_room k count s base r set h =
     let p = or_parts _ _ h in
     record {
-      stack_set = set;
+      located = set;
       held = subst (λ (q : Rules). nat_lt (item_room q) (length s.items + count) ≡ false) (sym r.extended) p.1;
       room = fewer_bytes k.region base k.need (length s.items + count) r.room (not_over (length s.items + count) p.0);
     }
@@ -107,15 +117,15 @@ has_room k count s base r set h =
 ready_widely : (k : Stack) (o : Op) (m : StackMove) (s : AbsState) (base : ℕ) → IsRoomy k base → IsReady k o m s base → IsReady k o (extended k.setting.rules m) s base
 ready_widely k o m s base r h = subst (λ (q : Rules). IsReady k o (extended q m) s base) (sym r.extended) h
 
-ready_push : (k : Stack) (o : Op) (what : AbsWrite) (s : AbsState) (base : ℕ) → HasRoomFor 2 k.setting k.region s base → IsReady k o (push_of what) s base
-ready_push k o (write.Push high low) s base h = h
-ready_push k o write.Nothing s base h = tt
-ready_push k o (write.Byte span v) s base h = tt
-ready_push k o (write.Word a low high) s base h = tt
+ready_push : (k : Stack) (o : Op) (what : AbsWrite) (s : AbsState) (base : ℕ) → HasRoomFor 2 k.setting k.region s base → (enables_interrupts o ≡ true → s.summary.aside ≡ None) → IsReady k o (push_of what) s base
+ready_push k o (write.Push high low) s base h quiet = h
+ready_push k o write.Nothing s base h quiet = λ e. quiet e
+ready_push k o (write.Byte span v) s base h quiet = λ e. quiet e
+ready_push k o (write.Word a low high) s base h quiet = λ e. quiet e
 
 -- a word is put on
 puts_word : (k : Stack) (o : Op) (what : AbsWrite) (s : AbsState) (base : ℕ) → IsRoomy k base → lacks_bytes 0 s ≡ false → is_deep Extended k.need (length s.items + 2) ≡ false → IsReady k o (push_of what) s base
-puts_word k o what s base r lacks deep = ready_push k o what s base (has_room k 2 s base r (holds 0 s lacks).stack_set deep)
+puts_word k o what s base r lacks deep = ready_push k o what s base (has_room k 2 s base r (holds 0 s lacks).located deep) (λ e. located-none s.summary.aside s.core.stack_set (holds 0 s lacks).located)
 
 ready_displaced : (k : Stack) (o : Op) (e8 : ℕ) (s : AbsState) (base : ℕ) → IsRoomy k base → lacks_bytes (if nat_lt e8 128 then e8 else 0) s ≡ false
     → is_deep Extended k.need (if nat_lt e8 128 then length s.items - e8 else length s.items + (256 - e8)) ≡ false → IsReady k o (displaced_by e8) s base
@@ -123,57 +133,82 @@ ready_displaced k o e8 s base r lacks deep = by (nat_lt e8 128) lacks deep
   where
     by : (b : Bool) → lacks_bytes (if b then e8 else 0) s ≡ false → is_deep Extended k.need (if b then length s.items - e8 else length s.items + (256 - e8)) ≡ false
         → IsReady k o (if b then move.Take e8 else move.Append (256 - e8)) s base
-    by true l d = λ e. holds e8 s l
-    by false l d = has_room k (256 - e8) s base r (holds 0 s l).stack_set d
+    by true l d = taken_ready k o e8 s base (holds e8 s l)
+    by false l d = has_room k (256 - e8) s base r (holds 0 s l).located d
+
+-- ---- SP is put aside
+
+none_some : (o : Option Bounds) → is_some o ≡ false → o ≡ None
+none_some None h = refl
+none_some (Some b) h = cc
+
+ready_aside : (k : Stack) (o : Op) (m : StackMove) (may : Bool) (b : Bounds) (s : AbsState) (base : ℕ) → is_lost_move (aside_if m may b) ≡ false → (is_lost_move m ≡ false → IsReady k o m s base) → IsReady k o (aside_if m may b) s base
+ready_aside k o move.Lost true b s base h g = tt
+ready_aside k o move.Lost false b s base h g = g h
+ready_aside k o m may b s base h g = g h
+
+ready_aside_within :
+    (k : Stack) (o : Op) (m : StackMove) (may : Bool) (b : Option Bounds) (s : AbsState) (base : ℕ) → is_lost_move (aside_within m may b) ≡ false → (is_lost_move m ≡ false → IsReady k o m s base)
+    → IsReady k o (aside_within m may b) s base
+ready_aside_within k o m may None s base h g = g h
+ready_aside_within k o m may (Some b) s base h g = ready_aside k o m may b s base h g
+
+ready_pop : (k : Stack) (o : Op) (s : AbsState) (base : ℕ) (q : Rules) → q ≡ Extended → (a : Option Bounds) → s.summary.aside ≡ a → lacks_word a s ≡ false → IsReady k o (popped_by q a) s base
+ready_pop k o s base Simple e a same h = absurd (let bad : Simple ≡ Extended = e in cc)
+ready_pop k o s base Extended e None same h = taken_ready k o 2 s base (holds 2 s h)
+ready_pop k o s base Extended e (Some b) same h = tt
 
 -- ---- each instruction
 
 loaded : (k : Stack) (n : Node) (which : Pair) (w base : ℕ) (what : AbsWrite) (b : Option Bounds) → IsRoomy k base → breaks_extended_stack k n (op.LoadPair which w) ≡ false
-    → IsReady k (op.LoadPair which w) (stack_move k (op.LoadPair which w) what b) n.state base
+    → IsReady k (op.LoadPair which w) (stack_move k (around_of k.setting n.state) (op.LoadPair which w) what b) n.state base
 unfolding breaks_extended_stack stack_move
-loaded k n pair.Sp w base what b r h = ready_set_to k (op.LoadPair pair.Sp w) w n.state base r h
-loaded k n pair.Bc w base what b r h = tt
-loaded k n pair.De w base what b r h = tt
-loaded k n pair.Hl w base what b r h = tt
+loaded k n pair.Sp w base what b r h =
+    ready_aside k (op.LoadPair pair.Sp w) (set_to k.setting.rules k w) (around_of k.setting n.state).may_leave _ n.state base h (λ some. ready_set_to k (op.LoadPair pair.Sp w) w n.state base r some)
+loaded k n pair.Bc w base what b r h = λ e. quiet_op e
+loaded k n pair.De w base what b r h = λ e. quiet_op e
+loaded k n pair.Hl w base what b r h = λ e. quiet_op e
 
 increased : (k : Stack) (n : Node) (which : Pair) (base : ℕ) (what : AbsWrite) (b : Option Bounds) → IsRoomy k base → breaks_extended_stack k n (op.IncrementPair which) ≡ false
-    → IsReady k (op.IncrementPair which) (stack_move k (op.IncrementPair which) what b) n.state base
+    → IsReady k (op.IncrementPair which) (stack_move k (around_of k.setting n.state) (op.IncrementPair which) what b) n.state base
 unfolding breaks_extended_stack stack_move
-increased k n pair.Sp base what b r h = ready_widely k (op.IncrementPair pair.Sp) (move.Take 1) n.state base r (λ e. holds 1 n.state h)
-increased k n pair.Bc base what b r h = tt
-increased k n pair.De base what b r h = tt
-increased k n pair.Hl base what b r h = tt
+increased k n pair.Sp base what b r h = ready_widely k (op.IncrementPair pair.Sp) (move.Take 1) n.state base r (taken_ready k (op.IncrementPair pair.Sp) 1 n.state base (holds 1 n.state h))
+increased k n pair.Bc base what b r h = λ e. quiet_op e
+increased k n pair.De base what b r h = λ e. quiet_op e
+increased k n pair.Hl base what b r h = λ e. quiet_op e
 
 decreased : (k : Stack) (n : Node) (which : Pair) (base : ℕ) (what : AbsWrite) (b : Option Bounds) → IsRoomy k base → breaks_extended_stack k n (op.DecrementPair which) ≡ false
-    → is_deep_if k.need (bytes_after (op.DecrementPair which) (length n.state.items)) ≡ false → IsReady k (op.DecrementPair which) (stack_move k (op.DecrementPair which) what b) n.state base
+    → is_deep_if k.need (bytes_after (op.DecrementPair which) (length n.state.items)) ≡ false → IsReady k (op.DecrementPair which) (stack_move k (around_of k.setting n.state) (op.DecrementPair which) what b) n.state base
 unfolding breaks_extended_stack stack_move bytes_after
-decreased k n pair.Sp base what b r h deep = ready_widely k (op.DecrementPair pair.Sp) (move.Append 1) n.state base r (has_room k 1 n.state base r (holds 0 n.state h).stack_set deep)
-decreased k n pair.Bc base what b r h deep = tt
-decreased k n pair.De base what b r h deep = tt
-decreased k n pair.Hl base what b r h deep = tt
+decreased k n pair.Sp base what b r h deep = ready_widely k (op.DecrementPair pair.Sp) (move.Append 1) n.state base r (has_room k 1 n.state base r (holds 0 n.state h).located deep)
+decreased k n pair.Bc base what b r h deep = λ e. quiet_op e
+decreased k n pair.De base what b r h deep = λ e. quiet_op e
+decreased k n pair.Hl base what b r h deep = λ e. quiet_op e
 
 -- LD SP,HL takes what is known of HL
-no_address : (k : Stack) (rules : Rules) (s : AbsState) (p : Product) → product_before rules s ≡ Some p → sets_lost_from k (product_before rules s) ≡ false → sets_lost k op.LoadSpHl (pointer_in k op.LoadSpHl p) ≡ false
-no_address k rules s p is h = subst (λ o. sets_lost_from k o ≡ false) is h
+no_address : (k : Stack) (rules : Rules) (s : AbsState) (p : Product) → product_before rules s ≡ Some p → sets_lost_from k (around_of k.setting s) (product_before rules s) ≡ false → sets_lost k (around_of k.setting s) op.LoadSpHl (pointer_in k op.LoadSpHl p) ≡ false
+no_address k rules s p is h = subst (λ o. sets_lost_from k (around_of k.setting s) o ≡ false) is h
 
 ready : (k : Stack) (n : Node) (o : Op) (base : ℕ) (what : AbsWrite) (p : Product) → IsRoomy k base → product_before k.setting.rules n.state ≡ Some p → breaks_extended_stack k n o ≡ false
-    → is_deep_if k.need (bytes_after o (length n.state.items)) ≡ false → IsReady k o (stack_move k o what (pointer_in k o p)) n.state base
-unfolding breaks_extended_stack stack_move bytes_after
+    → is_deep_if k.need (bytes_after o (length n.state.items)) ≡ false → IsReady k o (stack_move k (around_of k.setting n.state) o what (pointer_in k o p)) n.state base
+unfolding breaks_extended_stack stack_move bytes_after around_of
 ready k n (op.LoadPair which w) base what p r is h deep = loaded k n which w base what (pointer_in k (op.LoadPair which w) p) r h
 ready k n op.LoadSpHl base what p r is h deep =
-    ready_within k op.LoadSpHl (pointer_in k op.LoadSpHl p) n.state base r (no_address k k.setting.rules n.state p is h)
+    ready_aside_within k op.LoadSpHl (set_within k (pointer_in k op.LoadSpHl p)) (around_of k.setting n.state).may_leave (pointer_in k op.LoadSpHl p) n.state base (no_address k k.setting.rules n.state p is h)
+    (λ some. ready_within k op.LoadSpHl (pointer_in k op.LoadSpHl p) n.state base (λ e. quiet_op e) r some)
 ready k n (op.Push from) base what p r is h deep = puts_word k (op.Push from) what n.state base r h deep
-ready k n (op.Pop to) base what p r is h deep = λ e. holds 2 n.state h
+ready k n (op.Pop to) base what p r is h deep = ready_pop k (op.Pop to) n.state base k.setting.rules r.extended n.state.summary.aside refl h
 ready k n (op.IncrementPair which) base what p r is h deep = increased k n which base what (pointer_in k (op.IncrementPair which) p) r h
 ready k n (op.DecrementPair which) base what p r is h deep = decreased k n which base what (pointer_in k (op.DecrementPair which) p) r h deep
 ready k n (op.AddSp e8) base what p r is h deep = ready_widely k (op.AddSp e8) (displaced_by e8) n.state base r (ready_displaced k (op.AddSp e8) e8 n.state base r h deep)
 ready k n (op.CallIf condition w) base what p r is h deep = ready_widely k (op.CallIf condition w) (push_of what) n.state base r (puts_word k (op.CallIf condition w) what n.state base r h deep)
 ready k n (op.Call w) base what p r is h deep = ready_widely k (op.Call w) (push_of what) n.state base r (puts_word k (op.Call w) what n.state base r h deep)
 ready k n (op.Restart w) base what p r is h deep = ready_widely k (op.Restart w) (push_of what) n.state base r (puts_word k (op.Restart w) what n.state base r h deep)
-ready k n (op.ReturnIf condition) base what p r is h deep = ready_widely k (op.ReturnIf condition) (move.Take 2) n.state base r (λ e. lost e)
-ready k n op.Return base what p r is h deep = ready_widely k op.Return (move.Take 2) n.state base r (λ e. lost e)
-ready k n op.ReturnFromInterrupt base what p r is h deep = ready_widely k op.ReturnFromInterrupt (move.Take 2) n.state base r (λ e. lost e)
-ready k n o base what p r is h deep = tt
+ready k n (op.ReturnIf condition) base what p r is h deep = ready_widely k (op.ReturnIf condition) (move.Take 2) n.state base r (λ e. lost e, λ e. none_some n.state.summary.aside h)
+ready k n op.Return base what p r is h deep = ready_widely k op.Return (move.Take 2) n.state base r (λ e. lost e, λ e. none_some n.state.summary.aside h)
+ready k n op.ReturnFromInterrupt base what p r is h deep = ready_widely k op.ReturnFromInterrupt (move.Take 2) n.state base r (λ e. lost e, λ e. none_some n.state.summary.aside h)
+ready k n op.EnableInterrupts base what p r is h deep = λ e. none_some n.state.summary.aside h
+ready k n o base what p r is h deep = λ e. quiet_op e
 
 not_deep : (some : Bool) (need : ℕ) (o : Option ℕ) → some ≡ true → (some && is_deep_if need o) ≡ false → is_deep_if need o ≡ false
 not_deep true need o e h = h

@@ -1,22 +1,23 @@
 -- Where the machine stands at a node that passes: its successors are sound, one of them is there, and what it leads to is meant.
-use Rattle.std.proofs.Common.{◌≡◌, ℕ, ◌+◌, false, List, [], length, refl, arith, ap, ◌∙◌, subst, sym}
+use Rattle.std.proofs.Common.{◌≡◌, ℕ, ◌+◌, false, List, [], length, refl, arith, ap, ◌∙◌, subst, sym, Bool, true, cond, ◌||◌, ◌==◌}
 use Rattle.std.specs.List.{Contains}
 use Rattle.gb_ops.specs.Play.{MState}
 use Rattle.gb_successors.specs.Below.gb_abs.Meaning.{Activation}
 use Rattle.gb_successors.specs.Below.gb_domain.Types.{Node}
 use Rattle.gb_successors.specs.Below.gb_domain.Certificate.{Certificate}
-use Rattle.gb_successors.specs.Below.gb_domain.declared.rules.Rules.TheVariants.{Simple}
+use Rattle.gb_successors.specs.Below.gb_domain.declared.rules.Rules.TheVariants.{Simple, Extended}
 use Rattle.gb_successors.specs.Below.gb_domain.Limits.{rules_of}
 use Rattle.gb_successors.specs.Below.gb_domain.Settings.{IsBase}
 use Rattle.gb_successors.proofs.Below.gb_product_laws.SummaryLaws.{HoldSummary-same}
-use Rattle.gb_successors.specs.Below.gb_domain.Summaries.{no_summary}
+use Rattle.gb_successors.specs.Below.gb_domain.Summaries.{no_summary, SummaryParts}
 use Rattle.gb_successors.proofs.QuietLaws.{quiet_successor}
+use Rattle.gb_successors.specs.Below.gb_domain.declared.rules.Rules.{Rules}
 use Rattle.gb_rules.proofs.ProgramLaws.{no_controller, is_program}
 use Rattle.gb_successors.specs.Below.gb_abs.Storage.{peek}
 use Rattle.gb_successors.specs.Below.gb_product.Meaning.{Means}
 use Rattle.gb_successors.specs.Below.gb_abs.Stack.{AreInRegion}
-use Rattle.gb_successors.specs.Below.gb_code.Below.gb_abs_memory.Sound.{IsRom}
-use Rattle.gb_successors.proofs.Below.gb_code_laws.CodeLaws.{IsKnown, IsAt as IsAtCode}
+use Rattle.gb_successors.specs.Below.gb_abs_memory.Sound.{IsRom}
+use Rattle.gb_successors.proofs.CodeLaws.{IsKnown, IsAt as IsAtCode}
 use Rattle.gb_successors.specs.Way.{Successor}
 use Rattle.gb_successors.specs.declared.stacks.Stack.{Stack}
 use Rattle.gb_successors.specs.Sound.{IsOneOf, Stands, IsRuled, AreSoundSuccessors, IsProgram}
@@ -24,7 +25,7 @@ use Rattle.gb_successors.proofs.FormedLaws.{IsFormed, IsFormed-successor}
 use Rattle.gb_successors.proofs.WayLaws.{successors_of_sound}
 use Rattle.gb_calls.specs.Below.gb_states.WholeRules.{IsCertificate}
 use Rattle.gb_ops.specs.Cartridge.{kind_of}
-use Rattle.gb_successors.specs.Below.gb_code.Below.gb_abs_memory.Windows.{known_kind}
+use Rattle.gb_successors.specs.Below.gb_abs_memory.Windows.{known_kind}
 use Rattle.gb_rules.specs.Procedures.{ranges_of, kept_of, need_of, setting_of, stack_of, program_of}
 use Rattle.gb_rules.specs.Rules.{ways_of}
 use Rattle.gb_rules.specs.Safety.{HasReturnWord}
@@ -53,6 +54,7 @@ unfolding setting_of program_of
 controller_known rom cert procedure = refl
 
 pub stands : (rom : List ℕ) (cert : Certificate) (n : Node) (entry : Activation) (base : ℕ) (x : MState) (k : OnNode rom cert n entry base x) → Stands (setting_of cert n.procedure) rom cert.region k.passes.row n.address n.state entry base x
+unfolding setting_of
 stands rom cert n entry base x k = record {
   cartridge = k.cartridge;
   is_region = k.state.is_region;
@@ -63,6 +65,8 @@ stands rom cert n entry base x k = record {
   vals = k.state.vals;
   items = k.state.items;
   unset = k.state.unset;
+  quiet = λ simple. ap (λ (m : SummaryParts). m.aside) (k.state.quiet simple);
+  aside = k.state.aside;
   room = k.held;
   program = subst (λ p. IsProgram rom cert.region p) (sym k.program) (is_program rom cert k.certificate);
   controlled = ap (λ p. p.kind) k.program ∙ controller_known rom cert n.procedure;
@@ -97,13 +101,23 @@ unfolding ways_of stack_of
 formed rom cert n entry base x k t is =
     IsFormed-successor (whole_stack cert n.procedure) (program_of rom cert) rom k.passes.row n.address n.state t entry base x (stands rom cert n entry base x k) (is_ruled rom cert n entry base x k).operands is
 
+-- these aren't version 4's
+older_simply : (cert : Certificate) → rules_of cert.version ≡ Simple → (cert.version == 4) ≡ false
+unfolding rules_of
+older_simply cert h = by (cert.version == 3) (cert.version == 4) h
+  where
+    by : (b c : Bool) → cond {A = Rules} (b || c) Extended Simple ≡ Simple → c ≡ false
+    by true c e = cc
+    by false true e = cc
+    by false false e = refl
+
 -- by the rules of versions 1 and 2 they say nothing of the whole program
 pub quiet :
     (rom : List ℕ) (cert : Certificate) (n : Node) (entry : Activation) (base : ℕ) (x : MState) (k : OnNode rom cert n entry base x) (t : Successor)
     → rules_of cert.version ≡ Simple → IsOneOf (ways_of rom cert n k.passes.row) t → t.state.summary ≡ no_summary
-unfolding ways_of stack_of
+unfolding ways_of stack_of setting_of
 quiet rom cert n entry base x k t simple is =
-    quiet_successor (whole_stack cert n.procedure) (program_of rom cert) rom k.passes.row n.address n.state t (no_controller rom cert simple) (k.state.quiet simple) is
+    quiet_successor (whole_stack cert n.procedure) (program_of rom cert) rom k.passes.row n.address n.state t (older_simply cert simple) (no_controller rom cert simple) (k.state.quiet simple) is
 
 -- the same machine without the HALT mark
 abbrev pub unmarked : MState → MState
@@ -153,11 +167,11 @@ unfolding on_unmarked
 some_way rom cert n entry base x k =
     let u = on_unmarked rom cert n entry base x k in
     let done = (sound_ways rom cert n entry base (unmarked x) u).executes (ranges_of cert n.procedure) entry base (unmarked x) [] u.program (stands rom cert n entry base (unmarked x) u)
-    (is_ruled rom cert n entry base x k) refl (omega arith) in
+    (is_ruled rom cert n entry base x k) refl (omega arith) (omega arith) in
     (done.successor, done.is_one)
 
-pub is_known : (rom : List ℕ) (cert : Certificate) (n : Node) (entry : Activation) (base : ℕ) (x : MState) (k : OnNode rom cert n entry base x) → IsKnown rom n k.passes.bytes
+pub is_known : (rom : List ℕ) (cert : Certificate) (n : Node) (entry : Activation) (base : ℕ) (x : MState) (k : OnNode rom cert n entry base x) → IsKnown (program_of rom cert) rom n k.passes.bytes
 is_known rom cert n entry base x k = let w = some_way rom cert n entry base x k in known_by rom cert n k.passes w.0 w.1
 
-pub on_code : (rom : List ℕ) (cert : Certificate) (n : Node) (entry : Activation) (base : ℕ) (x : MState) → OnNode rom cert n entry base x → IsAtCode rom n entry base x
-on_code rom cert n entry base x k = record { cartridge = k.cartridge; means = k.means.parts; ie = k.state.core.ie; at = k.address }
+pub on_code : (rom : List ℕ) (cert : Certificate) (n : Node) (entry : Activation) (base : ℕ) (x : MState) → OnNode rom cert n entry base x → IsAtCode (program_of rom cert) rom n entry base x
+on_code rom cert n entry base x k = record { cartridge = k.cartridge; program_is = k.program; means = k.means; ie = k.state.core.ie; at = k.address }

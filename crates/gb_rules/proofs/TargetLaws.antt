@@ -6,6 +6,8 @@ use Rattle.gb_ops.specs.declared.op.Pair.TheVariants as pair
 use Rattle.gb_ops.specs.declared.op.Op.{Op}
 use Rattle.gb_ops.specs.declared.op.Op.TheVariants as op
 use Rattle.gb_ops.specs.declared.op.Row.{Row}
+use Rattle.gb_successors.specs.declared.stacks.Around.{Around}
+use Rattle.gb_successors.specs.Stacks.{around_of}
 use Rattle.gb_successors.specs.Below.gb_domain.declared.pairs.Bounds.{Bounds}
 use Rattle.gb_successors.specs.Below.gb_domain.declared.rules.Rules.{Rules}
 use Rattle.gb_successors.specs.Below.gb_domain.declared.rules.Rules.TheVariants.{Simple, Extended}
@@ -43,17 +45,18 @@ reduced_target rules u t h = by (reduced rules u.state.core u.state.relations) h
 
 -- where a successor goes on that is taken, as its row, its pairs and its stack say it
 record IsTakenTo (k : Stack) (o : Op) (next : ℕ) (t : Successor) : Type 0 where
+  around : Around
   core : Core
   word : Halves
   pointer : Option Bounds
   write : AbsWrite
-  is : t.target ≡ refined_target k.setting.rules k.setting o next word core pointer (stack_move k o write pointer) (target_of o next core)
+  is : t.target ≡ refined_target k.setting.rules k.setting o next word core pointer (stack_move k around o write pointer) (target_of o next core)
 
 goes : (k : Stack) (program : Program) (rom : List ℕ) (row : Row) (next : ℕ) (s : AbsState) (b : Branch) → IsTakenTo k row.op next (taken_successor k program rom row next s b)
 unfolding taken_successor taken_parts
 goes k program rom row next s b =
     let p = product_of b.core b.relations in
-    record { core = b.core; word = word_in k program rom row.op s p; pointer = pointer_in k row.op p; write = (effect_in k program rom row.op next s p).write; is = refl }
+    record { around = around_of k.setting s; core = b.core; word = word_in k program rom row.op s p; pointer = pointer_in k row.op p; write = (effect_in k program rom row.op next s p).write; is = refl }
 
 is_taken_to : (k : Stack) (program : Program) (rom : List ℕ) (row : Row) (a : ℕ) (s : AbsState) (t : Successor) → (successors_of k program rom row a s).taken ≡ Some t → IsTakenTo k row.op ((a + row.length) % 65536) t
 unfolding successors_of
@@ -63,7 +66,7 @@ is_taken_to k program rom row a s t h = from (product_before k.setting.rules s) 
     at_side None e = cc
     at_side (Some b) e =
         let g = goes k program rom row ((a + row.length) % 65536) s b in
-        record { core = g.core; word = g.word; pointer = g.pointer; write = g.write; is = reduced_target k.setting.rules (taken_successor k program rom row ((a + row.length) % 65536) s b) t e ∙ g.is }
+        record { around = g.around; core = g.core; word = g.word; pointer = g.pointer; write = g.write; is = reduced_target k.setting.rules (taken_successor k program rom row ((a + row.length) % 65536) s b) t e ∙ g.is }
 
     from : (o : Option Product) → option_and_then (taken_from k program rom row ((a + row.length) % 65536) s) o ≡ Some t → IsTakenTo k row.op ((a + row.length) % 65536) t
     from None e = cc
@@ -82,17 +85,17 @@ taken_target k program rom row a s t simple h =
     (g.core, g.is ∙ by_row k.setting.rules k.setting row.op _ g.word g.core g.pointer _ simple)
 
 -- HALT goes on behind itself
-halts_behind : (rules : Rules) (k : Stack) (z : Setting) (next : ℕ) (w : Halves) (core : Core) (hl : Option Bounds) (what : AbsWrite)
-    → refined_target rules z op.Halt next w core hl (stack_move k op.Halt what hl) (target_of op.Halt next core) ≡ target.At next
+halts_behind : (rules : Rules) (k : Stack) (g : Around) (z : Setting) (next : ℕ) (w : Halves) (core : Core) (hl : Option Bounds) (what : AbsWrite)
+    → refined_target rules z op.Halt next w core hl (stack_move k g op.Halt what hl) (target_of op.Halt next core) ≡ target.At next
 unfolding refined_target stack_move target_of
-halts_behind Simple k z next w core hl what = refl
-halts_behind Extended k z next w core hl what = refl
+halts_behind Simple k g z next w core hl what = refl
+halts_behind Extended k g z next w core hl what = refl
 
 pub halt_target : (k : Stack) (program : Program) (rom : List ℕ) (row : Row) (a : ℕ) (s : AbsState) (t : Successor) → row.op ≡ op.Halt → (successors_of k program rom row a s).taken ≡ Some t → t.target ≡ target.At ((a + row.length) % 65536)
 halt_target k program rom row a s t halt h =
     let g = is_taken_to k program rom row a s t h in
     let next = (a + row.length) % 65536 in
-    g.is ∙ (ap (λ (o : Op). refined_target k.setting.rules k.setting o next g.word g.core g.pointer (stack_move k o g.write g.pointer) (target_of o next g.core)) halt ∙ halts_behind k.setting.rules k k.setting next g.word g.core g.pointer g.write)
+    g.is ∙ (ap (λ (o : Op). refined_target k.setting.rules k.setting o next g.word g.core g.pointer (stack_move k g.around o g.write g.pointer) (target_of o next g.core)) halt ∙ halts_behind k.setting.rules k g.around k.setting next g.word g.core g.pointer g.write)
 
 -- one that isn't goes on behind the instruction
 untaken_target : (k : Stack) (program : Program) (rom : List ℕ) (row : Row) (a : ℕ) (s : AbsState) (t : Successor) → (successors_of k program rom row a s).not_taken ≡ Some t → t.target ≡ target.At ((a + row.length) % 65536)

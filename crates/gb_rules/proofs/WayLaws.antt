@@ -28,6 +28,7 @@ use Rattle.gb_calls.specs.Resuming.{resumed}
 use Rattle.gb_calls.proofs.CalleeLaws.{IsCallee-found, IsEntryNode-entry}
 use Rattle.gb_successors.specs.Way.{Successor}
 use Rattle.gb_successors.specs.Sound.{is_followed, IsOneOf, StaysAt, CallsAt, ReturnsTo, LeadsSimply}
+use Rattle.gb_successors.proofs.Below.gb_abs_laws.LocationLaws.{located-set}
 use Rattle.gb_rules.specs.Covered.{covered_at}
 use Rattle.gb_rules.specs.Procedures.{ranges_of, kept_of, need_of, setting_of, exit_of, taken_by}
 use Rattle.gb_rules.proofs.ProcedureLaws.{kept_is}
@@ -95,7 +96,7 @@ calls_at rom cert n t a entry base y certificate c related said quiet mark outsi
           back_small = c.next;
           means = means_pushed (known_word t.next) t.state entry base y c.means related said;
           quiet = quiet;
-          stack_set = c.stack_set;
+          stack_set = located-set t.state.summary.aside t.state.core.stack_set c.located;
           placed = c.placed;
           node = begin.node;
           is_node = Contains-slice_get cert.nodes callee.procedure.entry begin.node begin.is_node;

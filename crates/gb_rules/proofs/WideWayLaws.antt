@@ -58,7 +58,7 @@ calling : (rom : List ℕ) (cert : Certificate) (n : Node) (entry : Activation) 
     → CalledAt cert.region a t entry base y → AreRelated t.state.relations y → IsSummarized t.state entry y → y.processor.halt_mark ≡ false → IsCalling cert n.procedure a t.next t.state entry base y
 calling rom cert n entry base x k t a y f to related said mark = record {
   reached = reached rom cert n entry base x k t a y f to.means related said to.goes to.room;
-  stack_set = to.stack_set;
+  located = to.located;
   placed = record { cells = to.placed; byte = f.free; summary = f.apart };
   back_small = to.next;
   return_word = to.top;

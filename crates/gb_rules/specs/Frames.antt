@@ -10,7 +10,7 @@ use Rattle.gb_successors.specs.Below.gb_domain.Settings.{IsBase}
 use Rattle.gb_successors.specs.Below.gb_abs.Meaning.{Activation}
 use Rattle.gb_successors.specs.Below.gb_abs.Stack.{AreInRegion}
 use Rattle.gb_successors.specs.Below.gb_abs.Storage.{peek}
-use Rattle.gb_successors.specs.Below.gb_code.Below.gb_abs_memory.Kept.{IsKept}
+use Rattle.gb_successors.specs.Below.gb_abs_memory.Kept.{IsKept}
 use Rattle.gb_calls.specs.TakenOver.{base_below}
 use Rattle.gb_rules.specs.Procedures.{ranges_of, kept_of, need_of, setting_of, taken_by}
 use Rattle.gb_rules.specs.Safety.{IsMeant, Calls, HandsOver}

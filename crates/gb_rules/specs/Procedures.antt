@@ -1,14 +1,13 @@
 -- What a certificate claims of its procedures (own format).
 use Rattle.std.specs.Prelude.{ℕ, Bool, ◌==◌, List, [], length, slice_get, Option, Some, None}
-use Rattle.gb_ops.specs.Cartridge.{kind_of}
 use Rattle.gb_successors.specs.Below.gb_domain.declared.setting.Setting.{Setting}
 use Rattle.gb_successors.specs.Below.gb_domain.declared.types.Range.{Range}
 use Rattle.gb_successors.specs.Below.gb_domain.Limits.{rules_of}
-use Rattle.gb_successors.specs.Below.gb_domain.Summaries.{Program}
 use Rattle.gb_successors.specs.Below.gb_domain.Types.{AbsState, ProcedureParts, Node}
 use Rattle.gb_successors.specs.Below.gb_domain.Certificate.{Certificate}
-use Rattle.gb_successors.specs.Below.gb_code.Below.gb_abs_memory.Windows.{known_kind}
 use Rattle.gb_successors.specs.declared.stacks.Stack.{Stack}
+pub use Rattle.gb_successors.specs.Programs.{is_fourth}
+unfoldable pub use Rattle.gb_successors.specs.Programs.{program_of}
 
 abbrev pub ranges_in : Option ProcedureParts → List Range
 ranges_in None = []
@@ -42,18 +41,10 @@ abbrev pub base_in : Option ProcedureParts → ℕ
 base_in None = 0
 base_in (Some p) = p.base
 
--- the rules are those of version 4
-abbrev pub is_fourth : Certificate → Bool
-is_fourth cert = cert.version == 4
-
 -- where its states stand
 unfoldable pub setting_of : Certificate → ℕ → Setting
 setting_of cert procedure =
     record { rules = rules_of cert.version; is_whole = is_fourth cert; is_main = procedure == 0; base = base_in (slice_get cert.procedures procedure) }
-
--- what its states may speak of beside themselves
-unfoldable pub program_of : List ℕ → Certificate → Program
-program_of rom cert = record { kind = known_kind (is_fourth cert) (kind_of rom); facts = cert.facts }
 
 -- what it returns with, if it returns
 unfoldable pub exit_of : Certificate → ℕ → Option AbsState

@@ -25,14 +25,16 @@ use Rattle.gb_successors.specs.Below.gb_abs_effects.declared.writes.AbsWrite.The
 use Rattle.gb_successors.specs.Below.gb_abs_effects.declared.targets.Target.{Target}
 use Rattle.gb_successors.specs.Below.gb_abs_effects.declared.targets.Target.TheVariants as target
 use Rattle.gb_successors.specs.Below.gb_abs_effects.Targets.{moves_sp, is_push}
-use Rattle.gb_successors.specs.Below.gb_code.Below.gb_abs_memory.Shown.{known_bank}
-use Rattle.gb_successors.specs.Below.gb_code.Code.{area_end, leaves_area, is_other_bank, lies_in_high_ram, known_byte, known_bytes}
+use Rattle.gb_successors.specs.Below.gb_abs_memory.Shown.{known_bank}
+use Rattle.gb_successors.specs.Code.{area_end, leaves_area, is_other_bank, lies_in_high_ram, known_byte, known_bytes}
 use Rattle.gb_successors.specs.Way.{Successor}
 use Rattle.gb_successors.specs.declared.successors.Successors.{Successors}
+use Rattle.gb_successors.specs.declared.stacks.Around.{Around}
 use Rattle.gb_successors.specs.declared.stacks.Stack.{Stack}
 use Rattle.gb_successors.specs.declared.stacks.StackMove.{StackMove}
 use Rattle.gb_successors.specs.declared.stacks.StackMove.TheVariants as move
-use Rattle.gb_successors.specs.Stacks.{stack_move}
+use Rattle.gb_successors.specs.Below.gb_abs.Meaning.{is_located}
+use Rattle.gb_successors.specs.Stacks.{around_of, stack_move}
 use Rattle.gb_successors.specs.Successors.{pointer_in, product_before, successors_of, any_successor}
 use Rattle.gb_successors.specs.Refused.{is_unstorable, meets_closed, is_stack_limited, meets_oam_transfer, is_unknown}
 use Rattle.std.specs.List.{list_any}
@@ -63,13 +65,13 @@ is_nop None = false
 is_nop (Some b) = b == 0
 
 -- the byte behind an address of an area is known to be NOP's, and lies in the area
-abbrev pub is_nop_behind : List ℕ → AbsState → ℕ → Option ℕ → Bool
-is_nop_behind rom s a None = false
-is_nop_behind rom s a (Some end) = nat_lt (a + 1) end && is_nop (known_byte rom s (a + 1))
+abbrev pub is_nop_behind : Program → List ℕ → AbsState → ℕ → Option ℕ → Bool
+is_nop_behind program rom s a None = false
+is_nop_behind program rom s a (Some end) = nat_lt (a + 1) end && is_nop (known_byte program rom s (a + 1))
 
 -- HALT where interrupts may be off: the byte behind it may be read twice (halt: halt bug), which a NOP alone survives
-unfoldable pub may_read_twice : List ℕ → Node → Op → Bool
-may_read_twice rom n o = is_halt o && n.state.core.ime.off && not (is_nop_behind rom n.state n.address (area_end n.address))
+unfoldable pub may_read_twice : Program → List ℕ → Node → Op → Bool
+may_read_twice program rom n o = is_halt o && n.state.core.ime.off && not (is_nop_behind program rom n.state n.address (area_end n.address))
 
 -- By the rules of versions 1 and 2: LD SP,n16 is main's, to the address behind the region; what pushes a word finds the stack
 -- set, POP a word on it; and nothing else but returns moves SP. This is asked of the instruction, whether a side is possible
@@ -90,32 +92,42 @@ abbrev pub is_lost_move : StackMove → Bool
 is_lost_move move.Lost = true
 is_lost_move _ = false
 
--- SP is set to an address that is neither the procedure's nor main's
-abbrev pub sets_lost : Stack → Op → Option Bounds → Bool
-sets_lost k o hl = is_lost_move (stack_move k o write.Nothing hl)
+-- SP is set to an address that is neither the procedure's nor main's, and may not be put aside
+abbrev pub sets_lost : Stack → Around → Op → Option Bounds → Bool
+sets_lost k g o hl = is_lost_move (stack_move k g o write.Nothing hl)
 
 -- LD SP,HL from these states; where nothing is meant, nothing is asked
-abbrev pub sets_lost_from : Stack → Option Product → Bool
-sets_lost_from k None = false
-sets_lost_from k (Some p) = sets_lost k op.LoadSpHl (pointer_in k op.LoadSpHl p)
+abbrev pub sets_lost_from : Stack → Around → Option Product → Bool
+sets_lost_from k g None = false
+sets_lost_from k g (Some p) = sets_lost k g op.LoadSpHl (pointer_in k op.LoadSpHl p)
 
--- the stack isn't set, or fewer bytes are held
+-- SP doesn't stand where the items end, or fewer bytes are held
 abbrev pub lacks_bytes : ℕ → AbsState → Bool
-lacks_bytes count s = not s.core.stack_set || nat_lt (length s.items) count
+lacks_bytes count s = not (is_located s) || nat_lt (length s.items) count
+
+-- where the stack is put aside POP takes nothing off
+abbrev pub lacks_word : Option Bounds → AbsState → Bool
+lacks_word None s = lacks_bytes 2 s
+lacks_word (Some b) s = false
 
 -- By the rules of version 3: SP is set to a known address, one of the procedure's or of main's; what moves it otherwise finds
--- the stack set, and as many bytes as it takes off.
+-- the stack set, and as many bytes as it takes off. By those of version 4 SP may be put aside: then POP reads elsewhere, and nothing else
+-- moves SP but what sets it; nor does anything let interrupts come.
 unfoldable pub breaks_extended_stack : Stack → Node → Op → Bool
-breaks_extended_stack k n (op.LoadPair pair.Sp w) = sets_lost k (op.LoadPair pair.Sp w) None
-breaks_extended_stack k n op.LoadSpHl = sets_lost_from k (product_before k.setting.rules n.state)
+breaks_extended_stack k n (op.LoadPair pair.Sp w) = sets_lost k (around_of k.setting n.state) (op.LoadPair pair.Sp w) None
+breaks_extended_stack k n op.LoadSpHl = sets_lost_from k (around_of k.setting n.state) (product_before k.setting.rules n.state)
 breaks_extended_stack k n (op.Push from) = lacks_bytes 0 n.state
-breaks_extended_stack k n (op.Pop to) = lacks_bytes 2 n.state
+breaks_extended_stack k n (op.Pop to) = lacks_word n.state.summary.aside n.state
 breaks_extended_stack k n (op.IncrementPair pair.Sp) = lacks_bytes 1 n.state
 breaks_extended_stack k n (op.DecrementPair pair.Sp) = lacks_bytes 0 n.state
 breaks_extended_stack k n (op.AddSp e8) = lacks_bytes (if nat_lt e8 128 then e8 else 0) n.state
 breaks_extended_stack k n (op.CallIf condition w) = lacks_bytes 0 n.state
 breaks_extended_stack k n (op.Call w) = lacks_bytes 0 n.state
 breaks_extended_stack k n (op.Restart w) = lacks_bytes 0 n.state
+breaks_extended_stack k n (op.ReturnIf condition) = is_some n.state.summary.aside
+breaks_extended_stack k n op.Return = is_some n.state.summary.aside
+breaks_extended_stack k n op.ReturnFromInterrupt = is_some n.state.summary.aside
+breaks_extended_stack k n op.EnableInterrupts = is_some n.state.summary.aside
 breaks_extended_stack k n o = false
 
 abbrev pub breaks_stack_by : Rules → Stack → Node → Op → Bool
@@ -355,8 +367,8 @@ abbrev pub is_undefined : Option (List ℕ) → Bool
 is_undefined None = false
 is_undefined (Some bytes) = is_none (decoded bytes)
 
-unfoldable pub node_bytes : List ℕ → Node → Option (List ℕ)
-node_bytes rom n = known_bytes rom n.state n.address
+unfoldable pub node_bytes : Program → List ℕ → Node → Option (List ℕ)
+node_bytes program rom n = known_bytes program rom n.state n.address
 
 -- where the procedure of a node stands
 abbrev pub node_setting : Certificate → Node → Setting
@@ -415,7 +427,7 @@ returns_wrongly rom cert n row = any_of (is_unreturnable (program_of rom cert) (
 -- whether a reason applies to a node whose instruction is known
 unfoldable pub applies_to_row : List ℕ → Certificate → Node → Row → Reason → Bool
 applies_to_row rom cert n row reason.Stop = is_stop row.op
-applies_to_row rom cert n row reason.Halt = may_read_twice rom n row.op
+applies_to_row rom cert n row reason.Halt = may_read_twice (program_of rom cert) rom n row.op
 applies_to_row rom cert n row reason.Stack = breaks_stack (stack_of cert n.procedure) n row.op
 applies_to_row rom cert n row reason.Depth = grows_too_deep rom cert n row
 applies_to_row rom cert n row reason.Store = stores_outside rom cert n row
@@ -429,11 +441,11 @@ applies_to_row rom cert n row _ = false
 
 -- whether a reason applies to a node; a later one presumes that the instruction could be read
 unfoldable pub applies : List ℕ → Certificate → Node → Reason → Bool
-applies rom cert n reason.Area = leaves_area n.address (known_byte rom n.state n.address) (area_end n.address)
+applies rom cert n reason.Area = leaves_area n.address (known_byte (program_of rom cert) rom n.state n.address) (area_end n.address)
 applies rom cert n reason.Bank = is_other_bank (known_bank rom n.state.core.ctl n.address) n.bank
-applies rom cert n reason.Unreadable = is_none (node_bytes rom n)
-applies rom cert n reason.UndefinedOpcode = is_undefined (node_bytes rom n)
-applies rom cert n r = test_instruction (λ row. applies_to_row rom cert n row r) (node_bytes rom n)
+applies rom cert n reason.Unreadable = is_none (node_bytes (program_of rom cert) rom n)
+applies rom cert n reason.UndefinedOpcode = is_undefined (node_bytes (program_of rom cert) rom n)
+applies rom cert n r = test_instruction (λ row. applies_to_row rom cert n row r) (node_bytes (program_of rom cert) rom n)
 
 -- the reasons against where its successors go on, the lowest first
 abbrev pub target_reasons : List Reason

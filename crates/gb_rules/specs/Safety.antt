@@ -14,7 +14,7 @@ use Rattle.gb_successors.specs.Below.gb_domain.Pairs.{ArePairs}
 use Rattle.gb_successors.specs.Below.gb_domain.Settings.{IsBase}
 use Rattle.gb_successors.specs.Below.gb_domain.Summaries.{no_summary}
 use Rattle.gb_ops.specs.declared.machine.Region.{Region}
-use Rattle.gb_successors.specs.Below.gb_abs.Meaning.{Activation, origin_value}
+use Rattle.gb_successors.specs.Below.gb_abs.Meaning.{Activation, is_located, origin_value}
 use Rattle.gb_calls.specs.TakenOver.{base_below}
 use Rattle.gb_successors.specs.Below.gb_domain.Certificate.{Certificate}
 use Rattle.gb_successors.specs.Below.gb_domain.Limits.{rules_of}
@@ -24,10 +24,10 @@ use Rattle.gb_successors.specs.Below.gb_abs.Mark.{IsMarkHarmless}
 use Rattle.gb_successors.specs.Below.gb_product.Meaning.{Means, IsApart}
 use Rattle.gb_successors.specs.Below.gb_abs.Stack.{AreInRegion, pushed}
 use Rattle.gb_successors.specs.Below.gb_abs.Storage.{peek}
-use Rattle.gb_successors.specs.Below.gb_code.Below.gb_abs_memory.Kept.{IsKept}
+use Rattle.gb_successors.specs.Below.gb_abs_memory.Kept.{IsKept}
 use Rattle.gb_calls.specs.Calls.{entered_by, are_ranges_inside}
 use Rattle.gb_calls.specs.Resuming.{resumed}
-use Rattle.gb_successors.specs.Below.gb_code.Places.{IsCertified}
+use Rattle.gb_successors.specs.Places.{IsCertified}
 use Rattle.gb_successors.specs.Below.gb_abs_effects.Pairs.{known_word}
 use Rattle.gb_rules.specs.Covered.{covered_at}
 use Rattle.gb_rules.specs.Procedures.{ranges_of, kept_of, need_of, setting_of, program_of, exit_of, taken_by}
@@ -97,7 +97,7 @@ pub record HandsOver (cert : Certificate) (procedure : ℕ) (entry : Activation)
   pub back_small : back < 65536
   pub means : Means state entry base s
   pub return_word : word (peek s.storage (s.processor.sp + 1)) (peek s.storage s.processor.sp) ≡ back
-  pub stack_set : state.core.stack_set ≡ true
+  pub located : is_located state ≡ true
   pub placed : IsApart cert.region state
   pub pairs : ArePairs state.relations.pairs
   pub held : AreInRegion cert.region base (length state.items)

@@ -23,6 +23,7 @@ mod ways;
 pub use room::Room;
 
 // What lies below, for the crates above.
+pub use gb_calls;
 pub use gb_calls::callees::callee;
 pub use gb_calls::entering::enter;
 pub use gb_calls::interrupts::{handler, left_by_dispatch, may_come};
@@ -41,6 +42,7 @@ pub use gb_successors::{
     Link, May, NO_REGISTER, NOTHING_KNOWN, OneByte, Origin, Other, PairFacts, Pairs, Program,
     RANGES, Range, Reason, Relations, Rules, Setting, Span, Target, Test, Val, WordPair, any,
     area_end, cell_at, covers, covers_controller, covers_core, covers_ime, covers_may,
-    covers_origin, covers_val, holds_bytes, is_limited, is_ram, known, known_bank, known_byte,
-    known_bytes, leaves_area, length_of, lies_in_high_ram, meets_closed_ram, reduced, with_value,
+    covers_origin, covers_val, gb_domain, gb_ram_bounds, holds_bytes, is_limited, is_ram, known,
+    known_bank, known_byte, known_bytes, leaves_area, length_of, lies_in_high_ram,
+    meets_closed_ram, reduced, with_value,
 };

@@ -6,7 +6,7 @@ ghost use Rattle.gb_rules.specs.Rules as Ruled;
 ghost use Rattle.gb_rules.specs.Rules.{row_reasons, reason_at};
 ghost use Rattle.gb_rules.specs.Safety.{IsSafeAt};
 
-use crate::procedures::stack_of;
+use crate::procedures::{program_of, stack_of};
 use crate::room::Room;
 use crate::stacks::breaks_stack;
 use crate::ways::{Site, reason_of_ways};
@@ -15,7 +15,7 @@ use gb_ops::decode::decode;
 use gb_ops::op::{Op, Row};
 use gb_successors::stacks::Stack;
 use gb_successors::{
-    Abs, Reason, Rom, area_end, holds_bytes, is_other_bank, known_bank, known_byte,
+    Abs, Program, Reason, Rom, area_end, holds_bytes, is_other_bank, known_bank, known_byte,
     known_bytes_from, leaves_area,
 };
 
@@ -32,14 +32,20 @@ fn is_halt(op: Op) -> bool
 }
 
 /// Whether the byte behind an address is known to be NOP's, in the area that ends there.
-pub fn is_nop_behind(rom: &Rom<'_>, state: &Abs, address: u16, end: Option<u16>) -> bool
-    ensures { result ≡ Ruled.is_nop_behind rom.now state.now address end }
+pub fn is_nop_behind(
+    program: &Program<'_>,
+    rom: &Rom<'_>,
+    state: &Abs,
+    address: u16,
+    end: Option<u16>,
+) -> bool
+    ensures { result ≡ Ruled.is_nop_behind program.now rom.now state.now address end }
 {
     let Some(end) = end else { return false };
     if u32::from(address) + 1 >= u32::from(end) {
         return false;
     }
-    match known_byte(rom, state, address + 1) {
+    match known_byte(program, rom, state, address + 1) {
         None => false,
         Some(byte) => byte == 0,
     }
@@ -48,12 +54,20 @@ pub fn is_nop_behind(rom: &Rom<'_>, state: &Abs, address: u16, end: Option<u16>)
 /// Whether an instruction is HALT where interrupts may be off, and the byte behind it, which may then
 /// be read twice, isn't known to be NOP's (halt: halt bug).
 #[tactic(auto, unfolding(crate::specs::Rules::may_read_twice))]
-fn may_read_twice(rom: &Rom<'_>, node: &NodeRef<'_>, state: &Abs, op: Op) -> bool
+fn may_read_twice(
+    program: &Program<'_>,
+    rom: &Rom<'_>,
+    node: &NodeRef<'_>,
+    state: &Abs,
+    op: Op,
+) -> bool
     requires { state.now ≡ node.now.state }
-    ensures { result ≡ Ruled.may_read_twice rom.now node.now op }
+    ensures { result ≡ Ruled.may_read_twice program.now rom.now node.now op }
 {
     let address = node.address();
-    is_halt(op) && state.core().ime.off && !is_nop_behind(rom, state, address, area_end(address))
+    is_halt(op)
+        && state.core().ime.off
+        && !is_nop_behind(program, rom, state, address, area_end(address))
 }
 
 /// The lowest reason against a node whose instruction is known.
@@ -75,7 +89,7 @@ fn reason_of_row(
     if is_stop(row.op) {
         return Some(Reason::Stop);
     }
-    if may_read_twice(rom, node, state, row.op) {
+    if may_read_twice(&program_of(rom, cert), rom, node, state, row.op) {
         return Some(Reason::Halt);
     }
     if breaks_stack(stack, node, state, row.op) {
@@ -111,14 +125,15 @@ pub fn reason_near(
     ensures { result ≡ Ruled.reason_of rom.now cert.now node.now }
 {
     let address = node.address();
-    let opcode = known_byte(rom, state, address);
+    let program = program_of(rom, cert);
+    let opcode = known_byte(&program, rom, state, address);
     if leaves_area(address, opcode, area_end(address)) {
         return Some(Reason::Area);
     }
     if is_other_bank(known_bank(rom, &state.core().ctl, address), node.bank()) {
         return Some(Reason::Bank);
     }
-    let Some(bytes) = known_bytes_from(opcode, rom, state, address) else {
+    let Some(bytes) = known_bytes_from(opcode, &program, rom, state, address) else {
         return Some(Reason::Unreadable);
     };
     match decode(&bytes) {

@@ -2,12 +2,13 @@
 
 ghost use Rattle.std.specs.Prelude.{◌≡◌};
 ghost use Rattle.gb_successors.specs.Below.gb_abs_effects.Targets as Targets;
+ghost use Rattle.gb_successors.specs.Below.gb_abs.Meaning as Located;
 ghost use Rattle.gb_rules.specs.Rules as Ruled;
 
 use gb_calls::NodeRef;
 use gb_ops::machine::Region;
 use gb_ops::op::{Op, Pair};
-use gb_successors::stacks::{Stack, StackMove, stack_move};
+use gb_successors::stacks::{Around, Stack, StackMove, around_of, stack_move};
 use gb_successors::successor::pointer_in;
 use gb_successors::successors::product_before;
 use gb_successors::{Abs, AbsWrite, Bounds, Product, Rules};
@@ -39,34 +40,55 @@ fn breaks_simple_stack(region: Region, node: &NodeRef<'_>, state: &Abs, op: Op) 
 }
 
 /// Whether SP is set to an address that is neither the procedure's nor main's.
-fn sets_lost(stack: Stack, op: Op, hl: Option<Bounds>) -> bool
-    ensures { result ≡ Ruled.sets_lost stack op hl }
+fn sets_lost(stack: Stack, around: Around, op: Op, hl: Option<Bounds>) -> bool
+    ensures { result ≡ Ruled.sets_lost stack around op hl }
 {
     matches!(
-        stack_move(stack, op, AbsWrite::Nothing, hl),
+        stack_move(stack, around, op, AbsWrite::Nothing, hl),
         StackMove::Lost
     )
 }
 
 /// Whether LD SP,HL sets it so from these states. Where nothing is meant, nothing is asked.
-fn sets_lost_from(stack: Stack, product: &Option<Product>) -> bool
-    ensures { result ≡ Ruled.sets_lost_from stack product.now }
+fn sets_lost_from(stack: Stack, around: Around, product: &Option<Product>) -> bool
+    ensures { result ≡ Ruled.sets_lost_from stack around product.now }
 {
     match product {
         None => false,
         Some(product) => sets_lost(
             stack,
+            around,
             Op::LoadSpHl,
             pointer_in(stack, Op::LoadSpHl, product),
         ),
     }
 }
 
-/// Whether the stack isn't set, or fewer bytes are held.
+/// Whether SP stands where the items end.
+fn is_located(state: &Abs) -> bool
+    ensures { result ≡ Located.is_located state.now }
+{
+    match state.summary().aside() {
+        None => state.core().stack_set,
+        Some(_) => false,
+    }
+}
+
+/// Whether SP doesn't stand there, or fewer bytes are held.
 fn lacks_bytes(count: usize, state: &Abs) -> bool
     ensures { result ≡ Ruled.lacks_bytes count state.now }
 {
-    !state.core().stack_set || state.items().len() < count
+    !is_located(state) || state.items().len() < count
+}
+
+/// Whether POP finds no word to take off. Where the stack is put aside it takes nothing off.
+fn lacks_word(aside: Option<Bounds>, state: &Abs) -> bool
+    ensures { result ≡ Ruled.lacks_word aside state.now }
+{
+    match aside {
+        None => lacks_bytes(2, state),
+        Some(_) => false,
+    }
 }
 
 /// Whether an instruction breaks what version 3 asks of the stack: SP is set to a known address, one of the procedure's or of main's; what moves it
@@ -77,10 +99,17 @@ fn breaks_extended_stack(stack: Stack, node: &NodeRef<'_>, state: &Abs, op: Op) 
     ensures { result ≡ Ruled.breaks_extended_stack stack node.now op }
 {
     match op {
-        Op::LoadPair(Pair::Sp, _) => sets_lost(stack, op, None),
-        Op::LoadSpHl => sets_lost_from(stack, &product_before(stack.setting.rules, state)),
+        Op::LoadPair(Pair::Sp, _) => sets_lost(stack, around_of(stack.setting, state), op, None),
+        Op::LoadSpHl => sets_lost_from(
+            stack,
+            around_of(stack.setting, state),
+            &product_before(stack.setting.rules, state),
+        ),
         Op::Push(_) | Op::CallIf(_, _) | Op::Call(_) | Op::Restart(_) => lacks_bytes(0, state),
-        Op::Pop(_) => lacks_bytes(2, state),
+        Op::Pop(_) => lacks_word(state.summary().aside(), state),
+        Op::ReturnIf(_) | Op::Return | Op::ReturnFromInterrupt | Op::EnableInterrupts => {
+            state.summary().aside().is_some()
+        }
         Op::IncrementPair(Pair::Sp) => lacks_bytes(1, state),
         Op::DecrementPair(Pair::Sp) => lacks_bytes(0, state),
         Op::AddSp(e8) => lacks_bytes(if e8 < 128 { usize::from(e8) } else { 0 }, state),

@@ -79,6 +79,43 @@ pub fn least_in_version_3() -> [u8; 168] {
     bytes
 }
 
+/// A certificate of version 4 with a fact, and with a procedure that keeps the byte at C0A0 and puts its stack aside two bytes below
+/// its base. A node takes 50 bytes behind the 17 of the head, 8 of the fact, 12 of main and 18 of the other procedure.
+pub fn small_in_version_4() -> [u8; 155] {
+    let mut bytes = [0; 155];
+    put(
+        &mut bytes,
+        0,
+        &[
+            0x47, 0x42, 0x42, 0x58, 0x04, 0x00, 0xDF, 0xFF, 0xDF, 0x02, 0x00, 0x02, 0x00, 0x00,
+            0x00, 0x01, 0x00, 0x00, 0xC0, 0xF0, 0xC0, 0x10, 0x00, 0x03,
+        ],
+    );
+    // Main: its base and its need.
+    put(&mut bytes, 29, &[0x00, 0xE0, 0x03]);
+    // Entry 1, need 4, a range, a kept address, a mark.
+    put(&mut bytes, 37, &[0x01]);
+    put(
+        &mut bytes,
+        43,
+        &[
+            0x04, 0x00, 0x01, 0xA0, 0xC0, 0xA0, 0xC0, 0x01, 0xA0, 0xC0, 0x02,
+        ],
+    );
+    let first = least();
+    for node in 0..2usize {
+        put(
+            &mut bytes,
+            57 + 50 * node,
+            &first[19 + 47 * node..63 + 47 * node],
+        );
+    }
+    put(&mut bytes, 105, &[0x01, 0x00, 0x50, 0x01]);
+    // Its stack is set.
+    put(&mut bytes, 113, &[0x01]);
+    bytes
+}
+
 /// A certificate of two procedures with a node each, the second at 4000 in bank 1FF. Main needs 128 words; the other
 /// needs 4,096, may write C000 to C0FF and FF80, and returns. From byte 20 on, behind its entry, both versions are alike.
 pub fn two_procedures() -> [u8; 168] {

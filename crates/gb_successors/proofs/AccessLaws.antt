@@ -25,6 +25,7 @@ use Rattle.gb_domain.specs.Rules.{IsVal}
 use Rattle.gb_product.specs.Below.gb_vals.Vals.{any_val}
 use Rattle.gb_product.specs.Below.gb_abs.declared.span.Span.{Span}
 use Rattle.gb_product.specs.Below.gb_abs.Span.{IsIn, one}
+use Rattle.gb_product.proofs.Below.gb_abs_laws.SpanLaws.{IsIn-alone}
 use Rattle.gb_product.specs.Below.gb_abs.Storage.{peek}
 use Rattle.gb_product.specs.Below.gb_abs.Cells.{ArePlaced}
 use Rattle.gb_product.specs.Below.gb_abs.Stack.{AreInRegion}
@@ -34,17 +35,17 @@ use Rattle.gb_product.specs.Below.gb_abs_effects.declared.reads.AbsRead.TheVaria
 use Rattle.gb_product.specs.Below.gb_abs_effects.declared.writes.AbsWrite.{AbsWrite}
 use Rattle.gb_product.specs.Below.gb_abs_effects.declared.writes.AbsWrite.TheVariants as write
 use Rattle.gb_product.specs.Below.gb_abs_effects.Sound.{HoldsRead, HoldsWrite, IsWrite}
-use Rattle.gb_code.specs.Below.gb_abs_memory.Windows.{known_kind}
-use Rattle.gb_code.specs.Below.gb_abs_memory.declared.store.Stored.{Stored}
-use Rattle.gb_code.specs.Below.gb_abs_memory.Access.{is_storable, may_be_closed, meets_closed_ram, may_copy_closed_ram, store_meets_closed_ram, is_limited, is_store_limited, stored_state, starts_oam_transfer}
-use Rattle.gb_code.specs.Below.gb_abs_memory.Sound.{IsRom, IsStored, view}
-use Rattle.gb_code.proofs.Below.gb_abs_memory_laws.LoadLaws.{IsLoaded-loaded_val}
-use Rattle.gb_code.proofs.Below.gb_abs_memory_laws.StoreLaws.{IsSoundStore-stored_state, stored-view}
-use Rattle.gb_code.proofs.Below.gb_abs_memory_laws.AfterStoreLaws.{is_store_limited-stored, store_meets_closed_ram-stored}
+use Rattle.gb_abs_memory.specs.Windows.{known_kind}
+use Rattle.gb_abs_memory.specs.declared.store.Stored.{Stored}
+use Rattle.gb_abs_memory.specs.Access.{is_storable, may_be_closed, meets_closed_ram, may_copy_closed_ram, store_meets_closed_ram, is_limited, is_store_limited, stored_state, starts_oam_transfer}
+use Rattle.gb_abs_memory.specs.Sound.{IsRom, IsStored, view}
+use Rattle.gb_abs_memory.proofs.LoadLaws.{IsLoaded-loaded_val}
+use Rattle.gb_abs_memory.proofs.StoreLaws.{IsSoundStore-stored_state, stored-view}
+use Rattle.gb_abs_memory.proofs.AfterStoreLaws.{is_store_limited-stored, store_meets_closed_ram-stored}
 use Rattle.gb_successors.specs.Behind.{behind, written, starts}
 use Rattle.gb_successors.specs.Loads.{read_word}
 use Rattle.gb_successors.specs.Refused.{is_unstorable, reads_closed_ram, writes_closed_ram, is_stack_limited, is_read_limited, is_write_limited}
-use Rattle.gb_code.specs.Below.gb_abs_memory.Kept.{IsKept}
+use Rattle.gb_abs_memory.specs.Kept.{IsKept}
 use Rattle.gb_product.specs.Below.gb_relations.Sound.{Writes}
 use Rattle.gb_successors.proofs.RamLaws.{ram_at, ram_same, differs, wrote_ram}
 use Rattle.gb_successors.proofs.PlainLaws.{Keeps, IsPlainRead, IsPlainWrite}
@@ -55,12 +56,14 @@ pub closed_same : (rom : List ℕ) (s c : Core) (what : AbsRead) → Keeps s c �
 unfolding reads_closed_ram meets_closed_ram may_be_closed
 closed_same rom s c read.Nothing k = refl
 closed_same rom s c (read.Byte span) k = rw k.ctl refl
+closed_same rom s c (read.Word span) k = rw k.ctl refl
 closed_same rom s c read.Top k = refl
 
 pub limited_same : (region : Region) (s c : Core) (what : AbsRead) → Keeps s c → is_read_limited region c what ≡ is_read_limited region s what
 unfolding is_read_limited is_limited is_stack_limited
 limited_same region s c read.Nothing k = refl
 limited_same region s c (read.Byte span) k = rw k.bound refl
+limited_same region s c (read.Word span) k = rw k.bound refl
 limited_same region s c read.Top k = rw k.bound refl
 
 -- the gate and the bound are the same
@@ -117,6 +120,7 @@ Loads-read z rom region s entry base x reads sp (read.Byte span) (machine_read.B
     let l = IsLoaded-loaded_val z rom s span entry base x false a reads ram limited h (in_span span a h plain) right m ie c byte in
     record { low = l.holds; high = any_holds entry 0 (omega arith); faults = l.faults }
 Loads-read z rom region s entry base x reads sp read.Top r c right m ie byte plain h ram limited = absurd plain
+Loads-read z rom region s entry base x reads sp (read.Word span) r c right m ie byte plain h ram limited = absurd plain
 Loads-read z rom region s entry base x reads sp read.Nothing (machine_read.Byte a) c right m ie byte plain h ram limited = absurd h
 Loads-read z rom region s entry base x reads sp read.Nothing (machine_read.Word a) c right m ie byte plain h ram limited = absurd h
 Loads-read z rom region s entry base x reads sp (read.Byte span) machine_read.Nothing c right m ie byte plain h ram limited = absurd h
@@ -173,7 +177,7 @@ or_false true c h = cc
 or_false false c h = (refl, h)
 
 at_one : (a : ℕ) → IsIn (one a) a
-at_one a = record { first = omega arith; last = omega arith }
+at_one a = IsIn-alone a
 
 Stores-byte :
     (z : Setting) (rom : List ℕ) (region : Region) (ranges : List Range) (s : AbsState) (span : Span) (v : Val) (entry : Activation) (base : ℕ) (x : MState) (a n : ℕ) → AtWrite z region s entry base x → entry.program.kind ≡ known_kind z.is_whole (kind_of rom)

@@ -10,6 +10,8 @@ use Rattle.gb_ops.specs.declared.machine.Region.{Region}
 use Rattle.gb_ops.specs.Cartridge.{is_within}
 use Rattle.gb_domain.specs.declared.setting.Setting.{Setting}
 use Rattle.gb_domain.specs.declared.types.Range.{Range}
+use Rattle.gb_domain.specs.LowBits.{no_low_bits}
+use Rattle.gb_product.proofs.Below.gb_abs_laws.SpanLaws.{Has-none}
 use Rattle.gb_product.specs.Below.gb_copies.Windows.{is_in_window}
 use Rattle.gb_product.specs.Below.gb_copies.declared.windows.BankWindow.{BankWindow}
 use Rattle.gb_product.specs.Below.gb_copies.declared.windows.BankWindow.TheVariants.{First, Second}
@@ -17,12 +19,12 @@ use Rattle.gb_product.specs.Below.gb_summaries.Stores.{ShareWindows}
 use Rattle.gb_product.specs.Below.gb_abs.declared.span.Span.{Span}
 use Rattle.gb_product.specs.Below.gb_abs.Span.{is_inside, IsIn}
 use Rattle.gb_product.specs.Below.gb_abs.Storage.{is_ram}
-use Rattle.gb_code.specs.Below.gb_abs_memory.declared.store.Area.{Area}
-use Rattle.gb_code.specs.Below.gb_abs_memory.declared.store.Area.TheVariants as area
-use Rattle.gb_code.specs.Below.gb_abs_memory.declared.windows.Window.{Window}
-use Rattle.gb_code.specs.Below.gb_abs_memory.Access.{area_by, area_of, is_allowed, is_storable}
-use Rattle.gb_code.specs.Below.gb_abs_memory.Windows.{windows, window_of}
-use Rattle.gb_code.proofs.Below.gb_abs_memory_laws.ControllerLaws.{IsInWindow, IsInWindow-window_of}
+use Rattle.gb_abs_memory.specs.declared.store.Area.{Area}
+use Rattle.gb_abs_memory.specs.declared.store.Area.TheVariants as area
+use Rattle.gb_abs_memory.specs.declared.windows.Window.{Window}
+use Rattle.gb_abs_memory.specs.Access.{area_by, area_of, is_allowed, is_storable}
+use Rattle.gb_abs_memory.specs.Windows.{windows, window_of}
+use Rattle.gb_abs_memory.proofs.ControllerLaws.{IsInWindow, IsInWindow-window_of}
 
 -- ---- windows
 
@@ -194,6 +196,14 @@ no_area false false true h m n known = cc
 no_area false false false h m n known = cc
 
 -- the addresses of a span that lies in one area
+-- a span of whose low bits nothing is asked
+abbrev all_of : Span → Span
+all_of span = record { first = span.first; last = span.last; low = no_low_bits }
+
+same_window : (k : Kind) (span : Span) → window_of k (all_of span) ≡ window_of k span
+unfolding window_of
+same_window k span = refl
+
 pub same_area : (k : Kind) (span : Span) (a : ℕ) → is_some (area_of k span) ≡ true → IsIn span a → ShareArea k span.first a
 unfolding area_of
 same_area k span a some i = by (window_of k span) refl some
@@ -220,7 +230,7 @@ same_area k span a some i = by (window_of k span) refl some
 
     by : (o : Option Window) → window_of k span ≡ o → is_some (area_by o span) ≡ true → ShareArea k span.first a
     by (Some w) e known =
-        in_one_window k w span.first a (IsInWindow-window_of k span w span.first e (record { first = least; last = most })) (IsInWindow-window_of k span w a e i)
+        in_one_window k w span.first a (IsInWindow-window_of k (all_of span) w span.first (same_window k span ∙ e) (record { first = least; last = most; low = Has-none span.first })) (IsInWindow-window_of k span w a e i)
     by None e known = else_by (is_hardware span) (is_memory span) (is_inside 0xFFFF 0xFFFF span) refl refl refl known
 
 -- a store that may be has an area

@@ -41,7 +41,7 @@ use Rattle.gb_product.specs.Below.gb_abs_effects.declared.targets.Target.{Target
 use Rattle.gb_product.specs.Below.gb_abs_effects.declared.targets.Target.TheVariants as target
 use Rattle.gb_product.specs.Below.gb_abs_effects.Accesses.{read_of}
 use Rattle.gb_product.specs.Below.gb_abs_effects.Transfer.{transfer}
-use Rattle.gb_code.specs.Below.gb_abs_memory.Kept.{IsKept}
+use Rattle.gb_abs_memory.specs.Kept.{IsKept}
 use Rattle.gb_product.specs.declared.parts.Branch.{Branch}
 use Rattle.gb_product.specs.declared.parts.Product.{Product}
 use Rattle.gb_product.specs.Below.gb_pairs.Meaning.{AreBytes}
@@ -53,6 +53,7 @@ use Rattle.gb_product.specs.Sound.{IsKnown, IsMeantProduct, IsMeantBranch, Means
 use Rattle.gb_product.proofs.MeaningLaws.{AreBytes-core}
 use Rattle.gb_product.proofs.ReducedLaws.{reduced_sound, reduced_cuts, Holds-values}
 use Rattle.gb_product.proofs.SideLaws.{taken_side_sound, not_taken_side_sound, taken_side_cuts, not_taken_side_cuts}
+use Rattle.gb_successors.specs.declared.stacks.Around.{Around}
 use Rattle.gb_successors.specs.declared.stacks.Stack.{Stack}
 use Rattle.gb_successors.specs.declared.stacks.StackMove.{StackMove}
 use Rattle.gb_successors.specs.declared.stacks.StackMove.TheVariants as move
@@ -62,18 +63,19 @@ use Rattle.gb_successors.specs.Behind.{ended, with_cell_if, moved_state}
 use Rattle.gb_successors.specs.Loads.{word_by}
 use Rattle.gb_successors.specs.Refined.{cut_read, cut_write, refined}
 use Rattle.gb_successors.specs.Refused.{meets_closed, meets_oam_transfer}
-use Rattle.gb_successors.specs.Stacks.{extended, stack_move}
+use Rattle.gb_successors.specs.Stacks.{around_of, extended, stack_move}
 use Rattle.gb_ops.specs.Pointers.{pointer_of}
 use Rattle.gb_successors.specs.Summaries.{pointed_bits, summary_by}
 use Rattle.gb_successors.specs.Way.{Successor}
-use Rattle.gb_successors.specs.Successors.{pointer_in, word_in, effect_in, taken_move, taken_parts, related_successor, relations_behind, said_successor, summary_behind, taken_successor, untaken_successor, with_product, reduced_successor, product_before, taken_from, not_taken_from, successors_of, memory_before}
+use Rattle.gb_successors.specs.Successors.{pointer_in, read_in, word_in, effect_in, taken_move, taken_parts, related_successor, relations_behind, said_successor, summary_behind, taken_successor, untaken_successor, with_product, reduced_successor, product_before, taken_from, not_taken_from, successors_of, memory_before, bits_in}
 use Rattle.gb_successors.specs.Sound.{IsReady, IsAllowed, IsFound, IsStackFit, bytes_moved, IsHeld, IsStackRuled, is_followed, LeadsWidely, LeadsTo, Leads, Stands, IsRuled, Executes}
+use Rattle.gb_successors.proofs.AroundLaws.{located-same}
 use Rattle.gb_successors.proofs.SimpleLaws.{behind_row, IsTold, same_word, same_sp}
-use Rattle.gb_successors.proofs.ToldLaws.{told_core, told_items, IsToldCell, IsToldCell-side, Stands-told, IsAllowed-told, IsTold-taken, IsVal-memory_before, held_before}
+use Rattle.gb_successors.proofs.ToldLaws.{told_core, told_items, IsToldCell, IsToldCell-side, Stands-told, IsAllowed-told, IsNoPop, IsNoPop-taken, IsTold-around, IsTold-taken, IsVal-memory_before, held_before}
 use Rattle.gb_successors.proofs.PlainLaws.{Keeps, Keeps-both, Keeps-settle, Keeps-cut}
 use Rattle.gb_successors.proofs.MarkLaws.{executed_mark}
 use Rattle.gb_successors.proofs.SaidLaws.{LeadsRelated, Leads-summarized, Leads-said}
-use Rattle.gb_successors.proofs.SummaryLaws.{said_holds}
+use Rattle.gb_successors.proofs.SummaryLaws.{said_holds, said_aside}
 use Rattle.gb_successors.proofs.RelatedLaws.{MeansParts-related, related_begun, IsCore-ended, values_begun}
 use Rattle.gb_successors.proofs.SuccessorLaws.{begun, begun_core, given, effect, executed_is, left_by}
 use Rattle.gb_successors.proofs.UntakenLaws.{simple_untaken, untaken_simply, untaken_executes, side_facts}
@@ -104,7 +106,7 @@ LeadsWidely-narrowed z region (target.Call a) t p entry base y e are bytes relat
       means = MeansParts-narrowed z t p entry base y e are bytes related h.means;
       goes = h.goes;
       room = h.room;
-      stack_set = (reduced_cuts z.rules t.state.core t.state.relations (Some p) (sym e)).core.stack_set ∙ h.stack_set;
+      located = located-same t.state.summary.aside p.core.stack_set t.state.core.stack_set (reduced_cuts z.rules t.state.core t.state.relations (Some p) (sym e)).core.stack_set h.located;
       next = h.next;
       top = h.top;
       placed = h.placed;
@@ -139,7 +141,7 @@ pub LeadsWidely-related :
     (z : Setting) (region : Region) (w : Target) (r : Relations) (t : Successor) (entry : Activation) (base : ℕ) (y : MState) → LeadsWidely z region w t entry base y → LeadsWidely z region w (related_successor r t) entry base y
 LeadsWidely-related z region (target.At a) r t entry base y h = record { means = MeansParts-related r t.state entry base y h.means; goes = h.goes; room = h.room }
 LeadsWidely-related z region (target.Call a) r t entry base y h =
-    record { means = MeansParts-related r t.state entry base y h.means; goes = h.goes; room = h.room; stack_set = h.stack_set; next = h.next; top = h.top; placed = h.placed }
+    record { means = MeansParts-related r t.state entry base y h.means; goes = h.goes; room = h.room; located = h.located; next = h.next; top = h.top; placed = h.placed }
 LeadsWidely-related z region target.Return r t entry base y h = record { means = MeansParts-related r t.state entry base y h.means; goes = h.goes; room = h.room; procedure = h.procedure }
 LeadsWidely-related z region (target.Main a) r t entry base y h = record { means = λ other same. MeansParts-related r t.state other (region.last + 1) y (h.means other same); goes = h.goes; room = h.room }
 LeadsWidely-related z region target.Unknown r t entry base y h = tt
@@ -196,6 +198,7 @@ IsTold-cut b None r h = tt
 IsTold-cut b (Some c) (read.Byte span) h = absurd h
 IsTold-cut b (Some c) read.Nothing h = tt
 IsTold-cut b (Some c) read.Top h = tt
+IsTold-cut b (Some c) (read.Word span) h = absurd h
 
 same_word_by :
     (r : Rules) (z : Setting) (region : Region) (program : Program) (rom : List ℕ) (v : Values) (low : LowBits) (cell : Option Cell) (s : AbsState) (c : Core) (what : AbsRead) → IsTold cell what
@@ -203,32 +206,56 @@ same_word_by :
 unfolding with_cell_if
 same_word_by r z region program rom v low None s c what h = refl
 same_word_by r z region program rom v low (Some d) s c (read.Byte span) h = absurd h
+same_word_by r z region program rom v low (Some d) s c (read.Word span) h = absurd h
 same_word_by Simple z region program rom v low (Some d) s c what h = same_word z rom (Some d) s c what h
 same_word_by Extended z region program rom v low (Some d) s c read.Top h = same_word z rom (Some d) s c read.Top h
 same_word_by Extended z region program rom v low (Some d) s c read.Nothing h = same_word z rom (Some d) s c read.Nothing h
 
-word_told : (k : Stack) (program : Program) (rom : List ℕ) (o : Op) (s : AbsState) (p : Product) (cell : Option Cell) → IsTold cell (read_of o p.core) → word_in k program rom o s p ≡ word_in k program rom o (with_cell_if k.setting cell s) p
-word_told k program rom o s p cell told = same_word_by k.setting.rules k.setting k.region program rom (values_of p.core.registers p.relations.pairs) (pointed_bits (pointer_of o) p.core.registers) cell s p.core _ (IsTold-cut (pointer_in k o p) cell (read_of o p.core) told)
+same_around : (z : Setting) (cell : Option Cell) (s : AbsState) → around_of z s ≡ around_of z (with_cell_if z cell s)
+unfolding around_of with_cell_if
+same_around z None s = refl
+same_around z (Some c) s = refl
+
+same_read : (k : Stack) (o : Op) (s : AbsState) (p : Product) (cell : Option Cell) → read_in k o s p ≡ read_in k o (with_cell_if k.setting cell s) p
+unfolding with_cell_if
+same_read k o s p None = refl
+same_read k o s p (Some c) = refl
+
+word_told :
+    (k : Stack) (program : Program) (rom : List ℕ) (o : Op) (s : AbsState) (p : Product) (cell : Option Cell) → IsNoPop cell o → IsTold cell (read_of o p.core)
+    → word_in k program rom o s p ≡ word_in k program rom o (with_cell_if k.setting cell s) p
+word_told k program rom o s p cell unpopped told =
+    same_word_by k.setting.rules k.setting k.region program rom (values_of p.core.registers p.relations.pairs) (pointed_bits (pointer_of o) p.core.registers) cell s p.core _
+    (IsTold-around k.setting.rules s.summary.aside cell o _ unpopped (IsTold-cut (pointer_in k o p) cell (read_of o p.core) told))
+    ∙ ap (word_by k.setting.rules k.setting k.region program rom (values_of p.core.registers p.relations.pairs) (pointed_bits (pointer_of o) p.core.registers) (with_core (with_cell_if k.setting cell s) p.core))
+    (same_read k o s p cell)
 
 effect_told :
-    (k : Stack) (program : Program) (rom : List ℕ) (o : Op) (next : ℕ) (s : AbsState) (p : Product) (cell : Option Cell) → IsTold cell (read_of o p.core)
+    (k : Stack) (program : Program) (rom : List ℕ) (o : Op) (next : ℕ) (s : AbsState) (p : Product) (cell : Option Cell) → IsNoPop cell o → IsTold cell (read_of o p.core)
     → effect_in k program rom o next s p ≡ effect_in k program rom o next (with_cell_if k.setting cell s) p
 unfolding effect_in
-effect_told k program rom o next s p cell told =
+effect_told k program rom o next s p cell unpopped told =
     let z = k.setting in
-    rw (word_told k program rom o s p cell told, same_sp z cell s, same_sp_bounds z cell s) refl
+    rw (word_told k program rom o s p cell unpopped told, same_sp z cell s, same_sp_bounds z cell s) refl
+
+move_told :
+    (k : Stack) (program : Program) (rom : List ℕ) (row : Row) (next : ℕ) (s : AbsState) (p : Product) (cell : Option Cell) → IsNoPop cell row.op → IsTold cell (read_of row.op p.core)
+    → taken_move k program rom row next s p ≡ taken_move k program rom row next (with_cell_if k.setting cell s) p
+unfolding taken_move
+move_told k program rom row next s p cell unpopped told = rw (effect_told k program rom row.op next s p cell unpopped told, same_around k.setting cell s) refl
 
 parts_told :
-    (k : Stack) (program : Program) (rom : List ℕ) (row : Row) (next : ℕ) (s : AbsState) (p : Product) (cell : Option Cell) → IsTold cell (read_of row.op p.core)
+    (k : Stack) (program : Program) (rom : List ℕ) (row : Row) (next : ℕ) (s : AbsState) (p : Product) (cell : Option Cell) → IsNoPop cell row.op → IsTold cell (read_of row.op p.core)
     → taken_parts k program rom row next s p cell ≡ taken_parts k program rom row next (with_cell_if k.setting cell s) p None
 unfolding taken_parts moved_state with_cell_if
-parts_told k program rom row next s p cell told = rw (effect_told k program rom row.op next s p cell told, word_told k program rom row.op s p cell told) refl
+parts_told k program rom row next s p cell unpopped told =
+    rw (effect_told k program rom row.op next s p cell unpopped told, word_told k program rom row.op s p cell unpopped told, same_around k.setting cell s, same_read k row.op s p cell) refl
 
 relations_told :
-    (k : Stack) (program : Program) (rom : List ℕ) (o : Op) (s : AbsState) (p : Product) (cell : Option Cell) → IsTold cell (read_of o p.core)
+    (k : Stack) (program : Program) (rom : List ℕ) (o : Op) (s : AbsState) (p : Product) (cell : Option Cell) → IsNoPop cell o → IsTold cell (read_of o p.core)
     → relations_behind k program rom o s p ≡ relations_behind k program rom o (with_cell_if k.setting cell s) p
 unfolding relations_behind
-relations_told k program rom o s p cell told = rw (word_told k program rom o s p cell told, same_sp_bounds k.setting cell s) refl
+relations_told k program rom o s p cell unpopped told = rw (word_told k program rom o s p cell unpopped told, same_sp_bounds k.setting cell s) refl
 
 no_such : false ≡ true → ⊥
 no_such h = cc
@@ -237,19 +264,19 @@ no_such h = cc
 
 -- of an instruction with a condition the move hangs on nothing that is known
 same_conditional :
-    (k : Stack) (o : Op) (next : ℕ) (sp sp_side : Halves) (c d : Core) (low high v w : Val) (b e : Option Bounds) → is_some (Flags.condition_of o) ≡ true
-    → stack_move k o (cut_write b (transfer k.setting.is_whole o next sp c low high).write) b ≡ stack_move k o (cut_write e (transfer k.setting.is_whole o next sp_side d v w).write) e
+    (k : Stack) (g f : Around) (o : Op) (next : ℕ) (sp sp_side : Halves) (c d : Core) (low high v w : Val) (b e : Option Bounds) (i j : Option LowBits) → is_some (Flags.condition_of o) ≡ true
+    → stack_move k g o (cut_write b i (transfer k.setting.is_whole o next sp c low high).write) b ≡ stack_move k f o (cut_write e j (transfer k.setting.is_whole o next sp_side d v w).write) e
 unfolding stack_move transfer
-same_conditional k (op.JumpRelativeIf condition e8) next sp sp_side c d low high v w b e h = refl
-same_conditional k (op.JumpIf condition a) next sp sp_side c d low high v w b e h = refl
-same_conditional k (op.CallIf condition a) next sp sp_side c d low high v w b e h = refl
-same_conditional k (op.ReturnIf condition) next sp sp_side c d low high v w b e h = refl
-same_conditional k o next sp sp_side c d low high v w b e h = absurd (no_such h)
+same_conditional k g f (op.JumpRelativeIf condition e8) next sp sp_side c d low high v w b e i j h = refl
+same_conditional k g f (op.JumpIf condition a) next sp sp_side c d low high v w b e i j h = refl
+same_conditional k g f (op.CallIf condition a) next sp sp_side c d low high v w b e i j h = refl
+same_conditional k g f (op.ReturnIf condition) next sp sp_side c d low high v w b e i j h = refl
+same_conditional k g f o next sp sp_side c d low high v w b e i j h = absurd (no_such h)
 
 taken_move_is :
     (k : Stack) (program : Program) (rom : List ℕ) (row : Row) (next : ℕ) (s : AbsState) (p : Product)
     → taken_move k program rom row next s p
-    ≡ stack_move k row.op (cut_write (pointer_in k row.op p) (transfer k.setting.is_whole row.op next (sp_halves k.setting s) p.core (word_in k program rom row.op s p).low (word_in k program rom row.op s p).high).write) (pointer_in k row.op p)
+    ≡ stack_move k (around_of k.setting s) row.op (cut_write (pointer_in k row.op p) (bits_in k row.op p) (transfer k.setting.is_whole row.op next (sp_halves k.setting s) p.core (word_in k program rom row.op s p).low (word_in k program rom row.op s p).high).write) (pointer_in k row.op p)
 unfolding taken_move effect_in refined
 taken_move_is k program rom row next s p = refl
 
@@ -280,8 +307,8 @@ same_move k program rom row next s p b e = choose (is_some (Flags.condition_of r
     choose : (t : Bool) → is_some (Flags.condition_of row.op) ≡ t → taken_move k program rom row next (with_cell_if k.setting b.cell s) (product_of b.core b.relations) ≡ taken_move k program rom row next s p
     choose true h =
         taken_move_is k program rom row next (with_cell_if k.setting b.cell s) (product_of b.core b.relations)
-        ∙ (same_conditional k row.op next (sp_halves k.setting told) (sp_halves k.setting s) b.core p.core (word_in k program rom row.op told q).low (word_in k program rom row.op told q).high (word_in k program rom row.op s p).low (word_in k program rom row.op s p).high
-        (pointer_in k row.op q) (pointer_in k row.op p) h ∙ sym (taken_move_is k program rom row next s p))
+        ∙ (same_conditional k (around_of k.setting told) (around_of k.setting s) row.op next (sp_halves k.setting told) (sp_halves k.setting s) b.core p.core (word_in k program rom row.op told q).low (word_in k program rom row.op told q).high (word_in k program rom row.op s p).low (word_in k program rom row.op s p).high
+        (pointer_in k row.op q) (pointer_in k row.op p) (bits_in k row.op q) (bits_in k row.op p) h ∙ sym (taken_move_is k program rom row next s p))
     choose false h =
         ap (λ (d : Branch). taken_move k program rom row next (with_cell_if k.setting d.cell s) (product_of d.core d.relations)) (whole_side row.op (memory_before program s p) p.core p.relations b e h)
 
@@ -291,10 +318,11 @@ IsReady-told :
     (k : Stack) (o : Op) (m : StackMove) (cell : Option Cell) (s : AbsState) (base : ℕ) → IsReady k o m s base → IsReady k o m (with_cell_if k.setting cell s) base
 unfolding with_cell_if
 IsReady-told k o m None s base h = h
-IsReady-told k o (move.Push w) (Some c) s base h = record { stack_set = h.stack_set; held = h.held; room = h.room }
-IsReady-told k o (move.Append n) (Some c) s base h = record { stack_set = h.stack_set; held = h.held; room = h.room }
-IsReady-told k o (move.Take n) (Some c) s base h = λ e. let holds = h e in record { stack_set = holds.stack_set; held = holds.held }
-IsReady-told k o move.Stay (Some c) s base h = tt
+IsReady-told k o (move.Push w) (Some c) s base h = record { located = h.located; held = h.held; room = h.room }
+IsReady-told k o (move.Append n) (Some c) s base h = record { located = h.located; held = h.held; room = h.room }
+IsReady-told k o (move.Take n) (Some c) s base h = (λ e. let holds = h.0 e in record { located = holds.located; held = holds.held }, h.1)
+IsReady-told k o move.Stay (Some c) s base h = h
+IsReady-told k o (move.Aside b) (Some c) s base h = h
 IsReady-told k o (move.Set n) (Some c) s base h = h
 IsReady-told k o (move.Restart n) (Some c) s base h = h
 IsReady-told k o move.Lost (Some c) s base h = h
@@ -362,30 +390,34 @@ reduced_way rules t p e = ap (option_map (with_product t)) e
 
 -- the successor by its parts
 summary_told :
-    (k : Stack) (program : Program) (o : Op) (s : AbsState) (p : Product) (what : AbsWrite) (cells : List Cell) (cell : Option Cell)
-    → summary_by k.setting.rules k program o s p what cells ≡ summary_by k.setting.rules k program o (with_cell_if k.setting cell s) p what cells
+    (k : Stack) (program : Program) (o : Op) (s : AbsState) (p : Product) (m : StackMove) (what : AbsWrite) (cells : List Cell) (cell : Option Cell)
+    → summary_by k.setting.rules k program o s p m what cells ≡ summary_by k.setting.rules k program o (with_cell_if k.setting cell s) p m what cells
 unfolding with_cell_if sp_bounds summary_by
-summary_told k program o s p what cells None = refl
-summary_told k program o s p what cells (Some c) = by k.setting.rules
+summary_told k program o s p m what cells None = refl
+summary_told k program o s p m what cells (Some c) = by k.setting.rules
   where
-    by : (r : Rules) → summary_by r k program o s p what cells ≡ summary_by r k program o (record s { cells = with_cell (cell_room k.setting.rules) c s.cells }) p what cells
+    by : (r : Rules) → summary_by r k program o s p m what cells ≡ summary_by r k program o (record s { cells = with_cell (cell_room k.setting.rules) c s.cells }) p m what cells
     by Simple = refl
     by Extended = refl
 
 taken_told :
-    (k : Stack) (program : Program) (rom : List ℕ) (row : Row) (next : ℕ) (s : AbsState) (b : Branch) → IsTold b.cell (read_of row.op b.core)
+    (k : Stack) (program : Program) (rom : List ℕ) (row : Row) (next : ℕ) (s : AbsState) (b : Branch) → IsNoPop b.cell row.op → IsTold b.cell (read_of row.op b.core)
     → taken_successor k program rom row next s b
     ≡ said_successor
-    (summary_behind k program row.op (with_cell_if k.setting b.cell s) (product_of b.core b.relations) (taken_parts k program rom row next (with_cell_if k.setting b.cell s) (product_of b.core b.relations) None))
+    (summary_behind k program row.op (with_cell_if k.setting b.cell s) (product_of b.core b.relations) (taken_move k program rom row next (with_cell_if k.setting b.cell s) (product_of b.core b.relations))
+    (taken_parts k program rom row next (with_cell_if k.setting b.cell s) (product_of b.core b.relations) None))
     (related_successor (relations_behind k program rom row.op (with_cell_if k.setting b.cell s) (product_of b.core b.relations)) (taken_parts k program rom row next (with_cell_if k.setting b.cell s) (product_of b.core b.relations) None))
 unfolding taken_successor summary_behind
-taken_told k program rom row next s b told =
+taken_told k program rom row next s b unpopped told =
     let p = product_of b.core b.relations in
     let after = with_cell_if k.setting b.cell s in
     let t = taken_parts k program rom row next after p None in
-    ap (λ (u : Successor). said_successor (summary_by k.setting.rules k program row.op s p u.write u.state.cells) (related_successor (relations_behind k program rom row.op s p) u)) (parts_told k program rom row next s p b.cell told)
-    ∙ (ap (λ r. said_successor (summary_by k.setting.rules k program row.op s p t.write t.state.cells) (related_successor r t)) (relations_told k program rom row.op s p b.cell told)
-    ∙ ap (λ m. said_successor m (related_successor (relations_behind k program rom row.op after p) t)) (summary_told k program row.op s p t.write t.state.cells b.cell))
+    let n = taken_move k program rom row next after p in
+    ap (λ m. said_successor (summary_by k.setting.rules k program row.op s p m (taken_parts k program rom row next s p b.cell).write (taken_parts k program rom row next s p b.cell).state.cells)
+    (related_successor (relations_behind k program rom row.op s p) (taken_parts k program rom row next s p b.cell))) (move_told k program rom row next s p b.cell unpopped told)
+    ∙ (ap (λ (u : Successor). said_successor (summary_by k.setting.rules k program row.op s p n u.write u.state.cells) (related_successor (relations_behind k program rom row.op s p) u)) (parts_told k program rom row next s p b.cell unpopped told)
+    ∙ (ap (λ r. said_successor (summary_by k.setting.rules k program row.op s p n t.write t.state.cells) (related_successor r t)) (relations_told k program rom row.op s p b.cell unpopped told)
+    ∙ ap (λ m. said_successor m (related_successor (relations_behind k program rom row.op after p) t)) (summary_told k program row.op s p n t.write t.state.cells b.cell)))
 
 -- the machine behind it
 executed_at : (c : Situation) → IsTakenIn c → outside (executed (within c.rom c.machine) c.row c.reads) ≡ left_at c
@@ -403,11 +435,11 @@ Leads-at c p k e d =
 
 taken_executes :
     (k : Stack) (rom : List ℕ) (row : Row) (a : ℕ) (s : AbsState) (ranges : List Range) (entry : Activation) (base : ℕ) (x : MState) (reads : List ℕ) (p : Product) (b : Branch)
-    → k.setting.rules ≡ Extended → Stands k.setting rom k.region row a s entry base x → IsRuled k entry.program rom row a s base → x.processor.halt_mark ≡ false → slice_index reads 0 ≤ 255
+    → k.setting.rules ≡ Extended → Stands k.setting rom k.region row a s entry base x → IsRuled k entry.program rom row a s base → x.processor.halt_mark ≡ false → slice_index reads 0 ≤ 255 → slice_index reads 1 ≤ 255
     → product_before k.setting.rules s ≡ Some p → IsReduced (core_settle s.core) s.relations p → taken_side row.op (memory_before entry.program s p) p.core p.relations ≡ Some b → MeansBranch b entry (begun row x)
     → (effect rom row x reads).is_taken ≡ true
     → Executes k entry.program rom ranges row a s (successors_of k entry.program rom row a s) entry base x reads
-taken_executes k rom row a s ranges entry base x reads p b extended stands ruled mark byte before cut side meant taken =
+taken_executes k rom row a s ranges entry base x reads p b extended stands ruled mark byte second before cut side meant taken =
     let is : IsSideOf (memory_before entry.program s p) p.core p.relations b = side_facts _ b (memory_before entry.program s p) p.core p.relations side (taken_side_cuts row.op (memory_before entry.program s p) p.core p.relations _ refl) in
     let told : AbsState = with_cell_if k.setting b.cell s in
     let cell : IfSome b.cell (IsToldCell k.region entry x) =
@@ -426,11 +458,11 @@ taken_executes k rom row a s ranges entry base x reads p b extended stands ruled
       reads = reads;
     } in
     let same : move_at c ≡ taken_move k entry.program rom row (behind_row a row) s p = same_move k entry.program rom row (behind_row a row) s p b side in
-    let m : SummaryParts = summary_behind k entry.program row.op told (product_of b.core b.relations) (parts_at c) in
+    let m : SummaryParts = summary_behind k entry.program row.op told (product_of b.core b.relations) (move_at c) (parts_at c) in
     let way : (q : Product) → reduced k.setting.rules (parts_at c).state.core (related_at c) ≡ Some q → (successors_of k entry.program rom row a s).taken ≡ Some (with_product (said_successor m (related_successor (related_at c) (parts_at c))) q) =
     λ q e.
     taken_way k entry.program rom row a s p b (with_product (said_successor m (related_successor (related_at c) (parts_at c))) q) before side
-    (ap (reduced_successor k.setting.rules) (taken_told k entry.program rom row (behind_row a row) s b (IsTold-taken row.op (memory_before entry.program s p) p.core b.core p.relations b side))
+    (ap (reduced_successor k.setting.rules) (taken_told k entry.program rom row (behind_row a row) s b (IsNoPop-taken row.op (memory_before entry.program s p) p.core p.relations b side) (IsTold-taken row.op (memory_before entry.program s p) p.core b.core p.relations b side))
     ∙ reduced_way k.setting.rules (said_successor m (related_successor (related_at c) (parts_at c))) q e) in
     let t : IsTakenIn c = record {
       stands = Stands-told k.setting rom k.region row a b.cell s entry base x cell stands;
@@ -443,6 +475,7 @@ taken_executes k rom row a s ranges entry base x reads p b extended stands ruled
           (IsReady-told k row.op _ b.cell s base (stack_ruled k entry.program rom row a s base p (with_product (said_successor m (related_successor (related_at c) (parts_at c))) some.0) extended before (way some.0 some.1) ruled));
       mark = mark;
       byte = byte;
+      second = second;
       keeps = subst (λ d. Keeps d b.core) (sym (told_core k.setting b.cell s))
           (Keeps-both s.core p.core b.core (Keeps-both s.core (core_settle s.core) p.core (Keeps-settle s.core) (Keeps-cut (core_settle s.core) p.core cut.core)) (Keeps-cut p.core b.core is.core));
       means = meant.core;
@@ -466,7 +499,7 @@ taken_executes k rom row a s ranges entry base x reads p b extended stands ruled
           (subst (λ m. length (parts_at c).state.items ≡ bytes_moved m (length s.items)) same
           (subst (λ items. length (parts_at c).state.items ≡ bytes_moved (move_at c) (length items)) (told_items k.setting b.cell s) (done allowed).bytes));
       leads = λ allowed. subst (λ y. Leads k.setting k.region ranges successor entry base x y) (sym (executed_at c t))
-          (Leads-said k.setting k.region ranges m (with_product (related_successor r (parts_at c)) some.product) entry base x (left_at c) (Leads-at c some.product t some.is (done allowed))
+          (Leads-said k.setting k.region ranges m (with_product (related_successor r (parts_at c)) some.product) entry base x (left_at c) (said_aside c t) (Leads-at c some.product t some.is (done allowed))
           (said_holds c t (allowed_at allowed) (done allowed)));
       faults = λ allowed. (done allowed).leaves.faults;
     }
@@ -519,9 +552,9 @@ untaken_leads k program rom row a s ranges entry base x reads p b extended stand
 
 pub executes_widely :
     (k : Stack) (program : Program) (rom : List ℕ) (row : Row) (a : ℕ) (s : AbsState) (ranges : List Range) (entry : Activation) (base : ℕ) (x : MState) (reads : List ℕ)
-    → k.setting.rules ≡ Extended → entry.program ≡ program → Stands k.setting rom k.region row a s entry base x → IsRuled k program rom row a s base → x.processor.halt_mark ≡ false → slice_index reads 0 ≤ 255
+    → k.setting.rules ≡ Extended → entry.program ≡ program → Stands k.setting rom k.region row a s entry base x → IsRuled k program rom row a s base → x.processor.halt_mark ≡ false → slice_index reads 0 ≤ 255 → slice_index reads 1 ≤ 255
     → Executes k program rom ranges row a s (successors_of k program rom row a s) entry base x reads
-executes_widely k program rom row a s ranges entry base x reads extended of stands ruled mark byte =
+executes_widely k program rom row a s ranges entry base x reads extended of stands ruled mark byte second =
     let before = before_of k s entry (begun row x) stands.core stands.pairs (begun_core row x s.core entry stands.means.parts.core) (related_begun row x s.relations stands.means.related) in
     by_flags before (effect rom row x reads).is_taken refl
   where
@@ -536,7 +569,7 @@ executes_widely k program rom row a s ranges entry base x reads extended of stan
     by_taken b None e taken h = absurd h
     by_taken b (Some side) e taken h =
         subst (λ q. Executes k q rom ranges row a s (successors_of k q rom row a s) entry base x reads) of
-        (taken_executes k rom row a s ranges entry base x reads b.product side extended stands (subst (λ q. IsRuled k q rom row a s base) (sym of) ruled) mark byte b.is b.cut
+        (taken_executes k rom row a s ranges entry base x reads b.product side extended stands (subst (λ q. IsRuled k q rom row a s base) (sym of) ruled) mark byte second b.is b.cut
         (subst (λ q. taken_side row.op (memory_before q s b.product) b.product.core b.product.relations ≡ Some side) (sym of) e) h taken)
 
     by_not_taken : (b : Before k s entry (begun row x)) (o : Option Branch) → not_taken_side row.op (memory_before program s b.product) b.product.core b.product.relations ≡ o → (effect rom row x reads).is_taken ≡ false → IsMeantBranch o entry (begun row x)

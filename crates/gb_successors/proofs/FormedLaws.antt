@@ -12,6 +12,7 @@ use Rattle.gb_ops.specs.declared.registers.Registers.{Registers}
 use Rattle.gb_ops.specs.Cartridge.{kind_of}
 use Rattle.gb_ops.specs.Play.{MState}
 use Rattle.gb_ops.specs.Registers.{get}
+use Rattle.gb_domain.specs.declared.low_bits.LowBits.{LowBits}
 use Rattle.gb_domain.specs.declared.pairs.Bounds.{Bounds}
 use Rattle.gb_domain.specs.declared.pairs.WordPair.TheVariants as pairs
 use Rattle.gb_domain.specs.declared.places.OneByte.{OneByte}
@@ -27,7 +28,7 @@ use Rattle.gb_domain.specs.Summaries.{Program}
 use Rattle.gb_domain.specs.Types.{AbsState}
 use Rattle.gb_product.specs.Below.gb_summaries.Elsewhere.{IsFree}
 use Rattle.gb_product.specs.Below.gb_abs.declared.span.Span.{Span}
-use Rattle.gb_product.specs.Below.gb_abs.Located.{sp_halves, sp_bounds, bounds_by, stack_base}
+use Rattle.gb_product.specs.Below.gb_abs.Located.{sp_halves, sp_bounds, bounds_by, sp_bounds_by, stack_base, IsSpWithin}
 use Rattle.gb_product.specs.Below.gb_abs.Meaning.{Activation, MeansParts}
 use Rattle.gb_product.specs.Below.gb_abs.Operations.{core_settle}
 use Rattle.gb_product.specs.Below.gb_abs.Origins.{registers_without_origins, core_without_origins}
@@ -39,10 +40,10 @@ use Rattle.gb_product.specs.Below.gb_abs_effects.declared.writes.AbsWrite.TheVar
 use Rattle.gb_product.specs.Below.gb_abs_effects.Sound.{HasBytes, IsWrite, IsAbsEffect}
 use Rattle.gb_product.specs.Below.gb_abs_effects.Transfer.{transfer}
 use Rattle.gb_product.proofs.Below.gb_abs_effects_laws.RangeLaws.{transfer_inhabited}
-use Rattle.gb_code.specs.Below.gb_abs_memory.declared.store.Area.{Area}
-use Rattle.gb_code.specs.Below.gb_abs_memory.declared.store.Area.TheVariants as area
-use Rattle.gb_code.specs.Below.gb_abs_memory.Access.{area_of, stored_core_in, stored_core}
-use Rattle.gb_code.proofs.Below.gb_abs_memory_laws.WindowLaws.{ctl_written-valid}
+use Rattle.gb_abs_memory.specs.declared.store.Area.{Area}
+use Rattle.gb_abs_memory.specs.declared.store.Area.TheVariants as area
+use Rattle.gb_abs_memory.specs.Access.{area_of, stored_core_in, stored_core}
+use Rattle.gb_abs_memory.proofs.WindowLaws.{ctl_written-valid}
 use Rattle.gb_product.specs.declared.parts.Branch.{Branch}
 use Rattle.gb_product.specs.declared.parts.Product.{Product}
 use Rattle.gb_product.specs.Below.gb_relations.Sound.{IsByteFree}
@@ -60,8 +61,9 @@ use Rattle.gb_successors.specs.Behind.{starts, written_core, core_behind, ended}
 use Rattle.gb_successors.specs.Refined.{cut_write, with_carry, refined}
 use Rattle.gb_successors.specs.Sound.{IsOneOf, Stands}
 use Rattle.gb_successors.specs.Stacks.{moved_core}
-use Rattle.gb_successors.specs.Successors.{pointer_in, word_in, effect_in, taken_parts, relations_behind, taken_successor, untaken_successor, with_product, reduced_successor, woken, staying_successor, may_stay, stays, product_before, taken_from, not_taken_from, successors_of, summary_behind, memory_before}
+use Rattle.gb_successors.specs.Successors.{pointer_in, bits_in, word_in, effect_in, taken_parts, relations_behind, taken_successor, untaken_successor, with_product, reduced_successor, woken, staying_successor, may_stay, stays, product_before, taken_from, not_taken_from, successors_of, summary_behind, memory_before}
 use Rattle.gb_successors.specs.Way.{Successor}
+use Rattle.gb_successors.proofs.AroundLaws.{IsSpWithin-aside}
 use Rattle.gb_successors.proofs.RelatedLaws.{IsCore-ended, has_operands}
 use Rattle.gb_successors.proofs.SimpleLaws.{behind_row}
 use Rattle.gb_successors.proofs.SituationLaws.{IsWrite-cut}
@@ -191,19 +193,25 @@ branch_formed region memory s p b h cut is =
       pairs = is.relations.pairs (cut.relations.pairs h.pairs);
     }
 
-sp_below : (z : Setting) (s : AbsState) (entry : Activation) (base : ℕ) (x : MState) → IsBase z base → MeansParts s entry base x → (sp_bounds z s).last < 65536
+sp_below :
+    (z : Setting) (s : AbsState) (entry : Activation) (base : ℕ) (x : MState) → IsBase z base → MeansParts s entry base x → IsSpWithin s.summary.aside x.processor.sp
+    → IfSome s.summary.aside (λ b. b.last < 65536) → (sp_bounds z s).last < 65536
 unfolding sp_bounds
-sp_below z s entry base x right m =
+sp_below z s entry base x right m within small =
     let known = bounds_sound z s (sp_bounds z s) refl in
-    by (stack_base z s.core) (known.first entry base x right m)
+    by_aside s.summary.aside small (known.first entry base x right m within)
   where
     by : (o : Option ℕ) → (bounds_by o (length s.items)).first ≤ x.processor.sp → (bounds_by o (length s.items)).last < 65536
     by None h = omega arith
     by (Some b) h = let small = m.sp in omega arith
 
-refined_parts : (b : Option Bounds) (carry : Option Bool) (t : AbsEffect) → ((refined b carry t).core ≡ with_carry carry t.core) × ((refined b carry t).write ≡ cut_write b t.write)
+    by_aside : (a : Option Bounds) → IfSome a (λ b. b.last < 65536) → (sp_bounds_by a (stack_base z s.core) (length s.items)).first ≤ x.processor.sp → (sp_bounds_by a (stack_base z s.core) (length s.items)).last < 65536
+    by_aside None e h = by (stack_base z s.core) h
+    by_aside (Some b) e h = e
+
+refined_parts : (b : Option Bounds) (k : Option LowBits) (carry : Option Bool) (t : AbsEffect) → ((refined b k carry t).core ≡ with_carry carry t.core) × ((refined b k carry t).write ≡ cut_write b k t.write)
 unfolding refined
-refined_parts b carry t = (refl, refl)
+refined_parts b k carry t = (refl, refl)
 
 -- its effect is one
 record IsFormedEffect (e : AbsEffect) : Type 0 where
@@ -222,8 +230,8 @@ effect_formed k program rom row a s p entry base x stands operands core =
     let t = transfer k.setting.is_whole row.op (behind_row a row) (sp_halves k.setting s) p.core (word_in k program rom row.op s p).low (word_in k program rom row.op s p).high in
     let is : IsAbsEffect t =
     transfer_inhabited k.setting.is_whole row.op (behind_row a row) (sp_halves k.setting s) p.core (word_in k program rom row.op s p).low (word_in k program rom row.op s p).high t refl operands (next_small (a + row.length)) core word.low word.high
-    (IsWord-sp k.setting s entry base x stands.based stands.means.parts) in
-    record { core = subst IsCore (sym (refined_parts (pointer_in k row.op p) _ t).0) (IsCore-carry _ t.core is.core); write = subst IsWrite (sym (refined_parts (pointer_in k row.op p) _ t).1) (IsWrite-cut (pointer_in k row.op p) t.write is.write) }
+    (IsWord-sp k.setting s entry base x stands.based stands.means.parts (IsSpWithin-aside s.summary.aside x.processor stands.means.summary.aside)) in
+    record { core = subst IsCore (sym (refined_parts (pointer_in k row.op p) (bits_in k row.op p) _ t).0) (IsCore-carry _ t.core is.core); write = subst IsWrite (sym (refined_parts (pointer_in k row.op p) (bits_in k row.op p) _ t).1) (IsWrite-cut (pointer_in k row.op p) (bits_in k row.op p) t.write is.write) }
 
 parts_core : (k : Stack) (program : Program) (rom : List ℕ) (row : Row) (next : ℕ) (s : AbsState) (p : Product) (cell : Option Cell) → IsFormedEffect (effect_in k program rom row.op next s p) → IsCore (taken_parts k program rom row next s p cell).state.core
 unfolding taken_parts
@@ -236,7 +244,7 @@ relations_formed :
 unfolding relations_behind
 relations_formed k program rom row a s p entry base x stands operands are free = (
   (relations_after_sound k.setting.rules k.setting.is_whole k.region row.op (sp_bounds k.setting s) p.core.registers (word_in k program rom row.op s p).low p.relations _ refl
-      (has_operands row.op operands) (sp_below k.setting s entry base x stands.based stands.means.parts) (are.each pairs.Bc).last (are.each pairs.De).last (are.each pairs.Hl).last).free free,
+      (has_operands row.op operands) (sp_below k.setting s entry base x stands.based stands.means.parts (IsSpWithin-aside s.summary.aside x.processor stands.means.summary.aside) stands.aside) (are.each pairs.Bc).last (are.each pairs.De).last (are.each pairs.Hl).last).free free,
   relations_after_kept k.setting.rules k.setting.is_whole k.region row.op _ p.core.registers (word_in k program rom row.op s p).low p.relations _ refl are,
 )
 
@@ -247,7 +255,7 @@ unfolding taken_successor summary_behind
 taken_formed k program rom row a s b entry base x stands operands h =
     let p = product_of b.core b.relations in
     let r = relations_formed k program rom row a s p entry base x stands operands h.pairs h.free in
-    record { core = parts_core k program rom row (behind_row a row) s p b.cell (effect_formed k program rom row a s p entry base x stands operands h.core); free = r.0; pairs = r.1; apart = apart_by k.setting.rules k program row.op s p _ _ h.free stands.apart }
+    record { core = parts_core k program rom row (behind_row a row) s p b.cell (effect_formed k program rom row a s p entry base x stands operands h.core); free = r.0; pairs = r.1; apart = apart_by k.setting.rules k program row.op s p _ _ _ h.free stands.apart }
 
 untaken_formed : (k : Stack) (row : Row) (next : ℕ) (s : AbsState) (b : Branch) → IsFormedBranch k.region b → IsFree k.region s.summary → IsFormed k.region (untaken_successor k row next s b).state
 unfolding ended

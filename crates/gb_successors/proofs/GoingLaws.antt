@@ -33,12 +33,14 @@ use Rattle.gb_product.specs.Below.gb_abs_effects.Pairs.{is_word_known, least_wor
 use Rattle.gb_product.specs.Below.gb_abs_effects.Targets.{target_of, is_call, is_pop, is_return}
 use Rattle.gb_product.proofs.Below.gb_abs_effects_laws.TargetLaws.{target_of_sound, pc-returned}
 use Rattle.gb_product.specs.Below.gb_relations.Pointers.{WithinIf}
+use Rattle.gb_successors.specs.declared.stacks.Around.{Around}
 use Rattle.gb_successors.specs.declared.stacks.Stack.{Stack}
 use Rattle.gb_successors.specs.declared.stacks.StackMove.{StackMove}
 use Rattle.gb_successors.specs.declared.stacks.StackMove.TheVariants as move
 use Rattle.gb_successors.specs.Refined.{is_return_word, popped_target, target_within, jumped_target, moved_target, extended_target}
 use Rattle.gb_successors.specs.Stacks.{extended, push_of, stack_move}
 use Rattle.gb_successors.proofs.SpMoveLaws.{extended_is}
+use Rattle.gb_successors.proofs.AroundLaws.{popped_none}
 
 no_such : false ≡ true → ⊥
 no_such h = cc
@@ -120,6 +122,7 @@ goes_either is_main (move.Push w) next entry pc h = h
 goes_either is_main (move.Take n) next entry pc h = h
 goes_either is_main (move.Append n) next entry pc h = h
 goes_either is_main (move.Set n) next entry pc h = h
+goes_either is_main (move.Aside b) next entry pc h = h
 goes_either is_main move.Lost next entry pc h = h
 
 call_moved : (w : AbsWrite) (next : ℕ) (t : Target) → moved_target (push_of w) next t ≡ t
@@ -142,30 +145,30 @@ jumps k v b next w core entry x l h m within =
 
 -- what the machine does, by what its reads gave
 pub goes_to :
-    (k : Stack) (o : Op) (v : AbsWrite) (b : Option Bounds) (next : ℕ) (w : Halves) (core : Core) (entry : Activation) (x : MState) (l h : ℕ)
+    (k : Stack) (g : Around) (o : Op) (v : AbsWrite) (b : Option Bounds) (next : ℕ) (w : Halves) (core : Core) (entry : Activation) (x : MState) (l h : ℕ)
     → Holds w.low entry l → Holds w.high entry h → MeansCore core entry x → x.processor.pc ≡ next → (Effects.effect_of o x.processor l h).is_taken ≡ true
     → (o ≡ op.JumpHl → WithinIf b (Effects.hl x.processor))
-    → GoesTo k.setting.is_main (extended_target k.setting o next w core b (stack_move k o v b) (target_of o next core)) entry (Effects.effect_of o x.processor l h).processor.pc
+    → GoesTo k.setting.is_main (extended_target k.setting o next w core b (stack_move k g o v b) (target_of o next core)) entry (Effects.effect_of o x.processor l h).processor.pc
 unfolding target_of stack_move
-goes_to k (op.ReturnIf condition) v b next w core entry x l h low high m at taken hl =
+goes_to k g (op.ReturnIf condition) v b next w core entry x l h low high m at taken hl =
     subst (λ pc. GoesTo k.setting.is_main (popped_target k.setting.is_main w) entry pc) (sym (pc-returned (op.ReturnIf condition) next core x.processor l h refl taken)) (goes_popped k.setting.is_main w entry l h low high)
-goes_to k op.Return v b next w core entry x l h low high m at taken hl =
+goes_to k g op.Return v b next w core entry x l h low high m at taken hl =
     subst (λ pc. GoesTo k.setting.is_main (popped_target k.setting.is_main w) entry pc) (sym (pc-returned op.Return next core x.processor l h refl taken)) (goes_popped k.setting.is_main w entry l h low high)
-goes_to k op.ReturnFromInterrupt v b next w core entry x l h low high m at taken hl =
+goes_to k g op.ReturnFromInterrupt v b next w core entry x l h low high m at taken hl =
     subst (λ pc. GoesTo k.setting.is_main (popped_target k.setting.is_main w) entry pc) (sym (pc-returned op.ReturnFromInterrupt next core x.processor l h refl taken)) (goes_popped k.setting.is_main w entry l h low high)
-goes_to k op.JumpHl v b next w core entry x l h low high m at taken hl = jumps k v b next w core entry x l h m (hl refl)
-goes_to k (op.JumpRelative e8) v b next w core entry x l h low high m at taken hl = (target_of_sound (op.JumpRelative e8) next core _ refl).gives entry x l h m at taken
-goes_to k (op.JumpRelativeIf condition e8) v b next w core entry x l h low high m at taken hl = (target_of_sound (op.JumpRelativeIf condition e8) next core _ refl).gives entry x l h m at taken
-goes_to k (op.JumpIf condition a) v b next w core entry x l h low high m at taken hl = (target_of_sound (op.JumpIf condition a) next core _ refl).gives entry x l h m at taken
-goes_to k (op.Jump a) v b next w core entry x l h low high m at taken hl = (target_of_sound (op.Jump a) next core _ refl).gives entry x l h m at taken
-goes_to k (op.CallIf condition a) v b next w core entry x l h low high m at taken hl =
+goes_to k g op.JumpHl v b next w core entry x l h low high m at taken hl = jumps k v b next w core entry x l h m (hl refl)
+goes_to k g (op.JumpRelative e8) v b next w core entry x l h low high m at taken hl = (target_of_sound (op.JumpRelative e8) next core _ refl).gives entry x l h m at taken
+goes_to k g (op.JumpRelativeIf condition e8) v b next w core entry x l h low high m at taken hl = (target_of_sound (op.JumpRelativeIf condition e8) next core _ refl).gives entry x l h m at taken
+goes_to k g (op.JumpIf condition a) v b next w core entry x l h low high m at taken hl = (target_of_sound (op.JumpIf condition a) next core _ refl).gives entry x l h m at taken
+goes_to k g (op.Jump a) v b next w core entry x l h low high m at taken hl = (target_of_sound (op.Jump a) next core _ refl).gives entry x l h m at taken
+goes_to k g (op.CallIf condition a) v b next w core entry x l h low high m at taken hl =
     goes_called k.setting.is_main k.setting.rules v next a entry _ ((target_of_sound (op.CallIf condition a) next core _ refl).gives entry x l h m at taken)
-goes_to k (op.Call a) v b next w core entry x l h low high m at taken hl =
+goes_to k g (op.Call a) v b next w core entry x l h low high m at taken hl =
     goes_called k.setting.is_main k.setting.rules v next a entry _ ((target_of_sound (op.Call a) next core _ refl).gives entry x l h m at taken)
-goes_to k (op.Restart a) v b next w core entry x l h low high m at taken hl =
+goes_to k g (op.Restart a) v b next w core entry x l h low high m at taken hl =
     goes_called k.setting.is_main k.setting.rules v next a entry _ ((target_of_sound (op.Restart a) next core _ refl).gives entry x l h m at taken)
-goes_to k o v b next w core entry x l h low high m at taken hl =
-    goes_either k.setting.is_main (stack_move k o v b) next entry _ ((target_of_sound o next core (target.At next) refl).gives entry x l h m at taken)
+goes_to k g o v b next w core entry x l h low high m at taken hl =
+    goes_either k.setting.is_main (stack_move k g o v b) next entry _ ((target_of_sound o next core (target.At next) refl).gives entry x l h m at taken)
 
 -- ---- what a word leads to is neither a call nor main begun anew
 
@@ -213,6 +216,7 @@ no_main a t h (move.Push w) next other e = h a e
 no_main a t h (move.Take n) next other e = h a e
 no_main a t h (move.Append n) next other e = h a e
 no_main a t h (move.Set n) next other e = h a e
+no_main a t h (move.Aside b) next other e = h a e
 no_main a t h move.Lost next other e = h a e
 
 pub main_restarts :
@@ -230,14 +234,14 @@ not_restart Simple m n k h e = cc
 not_restart Extended m n k h e = absurd (let bad : move.Take k ≡ move.Restart n = sym h ∙ e in cc)
 
 pub restart_target :
-    (k : Stack) (o : Op) (v : AbsWrite) (b : Option Bounds) (next : ℕ) (w : Halves) (core : Core) (n : ℕ) → stack_move k o v b ≡ move.Restart n
-    → extended_target k.setting o next w core b (stack_move k o v b) (target_of o next core) ≡ target.Main next
+    (k : Stack) (g : Around) (o : Op) (v : AbsWrite) (b : Option Bounds) (next : ℕ) (w : Halves) (core : Core) (n : ℕ) → stack_move k g o v b ≡ move.Restart n
+    → extended_target k.setting o next w core b (stack_move k g o v b) (target_of o next core) ≡ target.Main next
 unfolding stack_move
-restart_target k (op.ReturnIf condition) v b next w core n e = absurd (not_restart k.setting.rules (move.Take 2) n 2 refl e)
-restart_target k op.Return v b next w core n e = absurd (not_restart k.setting.rules (move.Take 2) n 2 refl e)
-restart_target k op.ReturnFromInterrupt v b next w core n e = absurd (not_restart k.setting.rules (move.Take 2) n 2 refl e)
-restart_target k op.JumpHl v b next w core n e = cc
-restart_target k o v b next w core n e = ap (λ m. moved_target m next (target_of o next core)) e
+restart_target k g (op.ReturnIf condition) v b next w core n e = absurd (not_restart k.setting.rules (move.Take 2) n 2 refl e)
+restart_target k g op.Return v b next w core n e = absurd (not_restart k.setting.rules (move.Take 2) n 2 refl e)
+restart_target k g op.ReturnFromInterrupt v b next w core n e = absurd (not_restart k.setting.rules (move.Take 2) n 2 refl e)
+restart_target k g op.JumpHl v b next w core n e = cc
+restart_target k g o v b next w core n e = ap (λ m. moved_target m next (target_of o next core)) e
 
 -- ---- calls
 
@@ -248,6 +252,7 @@ no_call a t h (move.Push w) next e = h a e
 no_call a t h (move.Take n) next e = h a e
 no_call a t h (move.Append n) next e = h a e
 no_call a t h (move.Set n) next e = h a e
+no_call a t h (move.Aside b) next e = h a e
 no_call a t h move.Lost next e = h a e
 
 pub call_is :
@@ -288,14 +293,14 @@ top_reads (op.Set n which) core e = absurd (operand_no_top which core e)
 top_reads o core e = cc
 
 -- what it does to the stack
-pub takes_two : (k : Stack) (o : Op) (v : AbsWrite) (b : Option Bounds) → k.setting.rules ≡ Extended → (is_pop o ≡ true) ⊎ (is_return o ≡ true) → stack_move k o v b ≡ move.Take 2
+pub takes_two : (k : Stack) (g : Around) (o : Op) (v : AbsWrite) (b : Option Bounds) → k.setting.rules ≡ Extended → (is_pop o ≡ true → g.aside ≡ None) → (is_pop o ≡ true) ⊎ (is_return o ≡ true) → stack_move k g o v b ≡ move.Take 2
 unfolding stack_move
-takes_two k (op.Pop to) v b r h = refl
-takes_two k (op.ReturnIf condition) v b r h = extended_is k.setting.rules _ r
-takes_two k op.Return v b r h = extended_is k.setting.rules _ r
-takes_two k op.ReturnFromInterrupt v b r h = extended_is k.setting.rules _ r
-takes_two k o v b r (inl h) = absurd (no_such h)
-takes_two k o v b r (inr h) = absurd (no_such h)
+takes_two k g (op.Pop to) v b r none h = popped_none k.setting.rules g.aside (none refl)
+takes_two k g (op.ReturnIf condition) v b r none h = extended_is k.setting.rules _ r
+takes_two k g op.Return v b r none h = extended_is k.setting.rules _ r
+takes_two k g op.ReturnFromInterrupt v b r none h = extended_is k.setting.rules _ r
+takes_two k g o v b r none (inl h) = absurd (no_such h)
+takes_two k g o v b r none (inr h) = absurd (no_such h)
 
 -- a return of which the word isn't known is lost
 pub return_target : (z : Setting) (o : Op) (next : ℕ) (w : Halves) (core : Core) (b : Option Bounds) (m : StackMove) (t : Target) → is_return o ≡ true → extended_target z o next w core b m t ≡ popped_target z.is_main w

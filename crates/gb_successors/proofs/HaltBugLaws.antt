@@ -17,7 +17,6 @@ use Rattle.gb_ops.specs.Memory.{stored, passed}
 use Rattle.gb_ops.specs.Play.{MState, within, outside}
 use Rattle.gb_domain.specs.declared.pairs.Bounds.{Bounds}
 use Rattle.gb_domain.specs.declared.relations.Relations.{Relations}
-use Rattle.gb_domain.specs.declared.rules.Rules.TheVariants.{Extended}
 use Rattle.gb_domain.specs.declared.setting.Setting.{Setting}
 use Rattle.gb_domain.specs.declared.types.Cell.{Cell}
 use Rattle.gb_domain.specs.declared.types.Core.{Core}
@@ -39,31 +38,35 @@ use Rattle.gb_product.specs.Below.gb_abs_effects.Sound.{HasBytes}
 use Rattle.gb_product.specs.Below.gb_abs_effects.Targets.{moves_sp, target_of}
 use Rattle.gb_product.specs.Below.gb_abs_effects.Transfer.{transfer}
 use Rattle.gb_product.proofs.Below.gb_abs_effects_laws.SideLaws.{is_taken-without}
-use Rattle.gb_code.specs.Below.gb_abs_memory.Sound.{view}
+use Rattle.gb_abs_memory.specs.Sound.{view}
 use Rattle.gb_product.specs.declared.parts.Product.{Product}
 use Rattle.gb_product.specs.Below.gb_relations.Sound.{IsByteFree}
 use Rattle.gb_product.specs.Sides.{side_where, taken_side}
 use Rattle.gb_domain.specs.declared.places.OneByte.{OneByte}
+use Rattle.gb_domain.specs.declared.rules.Rules.{Rules}
+use Rattle.gb_domain.specs.declared.rules.Rules.TheVariants.{Simple, Extended}
+use Rattle.gb_product.specs.Below.gb_abs_effects.declared.reads.AbsRead.{AbsRead}
 use Rattle.gb_successors.specs.declared.stacks.Stack.{Stack}
 use Rattle.gb_successors.specs.declared.stacks.StackMove.{StackMove}
 use Rattle.gb_successors.specs.declared.stacks.StackMove.TheVariants as move
-use Rattle.gb_successors.specs.Refined.{cut_read, cut_write, moved_target, extended_target}
+use Rattle.gb_successors.specs.Refined.{cut_read, cut_write, moved_target, extended_target, read_around}
 use Rattle.gb_successors.specs.Behind.{with_cell_if}
 use Rattle.gb_successors.specs.Refused.{is_unstorable, reads_closed_ram, writes_closed_ram, is_read_limited, is_write_limited, meets_closed, meets_oam_transfer}
+use Rattle.gb_successors.specs.Summaries.{enables_interrupts}
 use Rattle.gb_successors.specs.Way.{Successor}
 use Rattle.gb_successors.specs.Successors.{related_successor, relations_behind, said_successor, summary_behind, taken_successor, with_product, successors_of, memory_before}
 use Rattle.gb_successors.specs.Sound.{IsReady, IsFound, IsStackFit, bytes_moved, IsHalt, Leads, LeadsBy, LeadsWidely, StaysAt, Stands}
 use Rattle.gb_successors.proofs.PlainLaws.{Keeps-both, Keeps-settle, Keeps-cut}
 use Rattle.gb_successors.proofs.SaidLaws.{Leads-said}
 use Rattle.gb_successors.proofs.SettledLaws.{HoldSummary-settled}
-use Rattle.gb_successors.proofs.SummaryLaws.{said_at, said_holds}
+use Rattle.gb_successors.proofs.SummaryLaws.{said_aside, said_at, said_holds}
 use Rattle.gb_successors.proofs.RelatedLaws.{related_begun}
 use Rattle.gb_successors.proofs.SuccessorLaws.{begun, begun_core, given, effect, left_by}
 use Rattle.gb_successors.proofs.SpMoveLaws.{still_stays}
-use Rattle.gb_successors.proofs.Situations.{Situation, next_at, pointer_at, word_at, transferred, effect_at, move_at, parts_at, given_at, left_at, IsTakenIn}
+use Rattle.gb_successors.proofs.Situations.{Situation, next_at, pointer_at, known_at, word_at, transferred, effect_at, move_at, parts_at, given_at, left_at, IsTakenIn}
 use Rattle.gb_successors.proofs.SituationLaws.{write_is}
 use Rattle.gb_successors.proofs.LandingLaws.{part_read, part_write, given_by}
-use Rattle.gb_successors.proofs.LeadingLaws.{target_is, move_is}
+use Rattle.gb_successors.proofs.LeadingLaws.{target_is, move_is, around_at}
 use Rattle.gb_successors.proofs.LedLaws.{IsAllowedAt, done_at}
 use Rattle.gb_successors.proofs.PossibleLaws.{possible, pairs_behind, bytes_behind_it}
 use Rattle.gb_successors.proofs.ExtendedWayLaws.{before_of, Leads-narrowed, LeadsWidely-related, taken_way, reduced_way}
@@ -97,7 +100,7 @@ unfolding taken_side Flags.sides_of
 halt_side o memory p e = ap (λ (q : Op). side_where (Flags.condition_of q) memory p.relations (Flags.sides_by (Flags.condition_of q) p.core).taken) e
 
 halt_stays_put : (c : Situation) → c.row.op ≡ op.Halt → move_at c ≡ move.Stay
-halt_stays_put c e = move_is c ∙ still_stays c.stack c.row.op (effect_at c).write (pointer_at c) (halt_still c.row.op e)
+halt_stays_put c e = move_is c ∙ still_stays c.stack (around_at c) c.row.op (effect_at c).write (pointer_at c) (halt_still c.row.op e)
 
 -- nothing is against it
 quiet_closed : (rom : List ℕ) (core : Core) (t : Successor) → t.read ≡ read.Nothing → t.write ≡ write.Nothing → meets_closed rom core t ≡ false
@@ -115,10 +118,19 @@ quiet_store c w = ap (is_unstorable c.stack.setting (kind_of c.rom) c.stack.regi
 halt_goes : (c : Situation) → IsTakenIn c → c.row.op ≡ op.Halt → (parts_at c).target ≡ target.At (next_at c)
 halt_goes c k e = target_is c k ∙ halt_target c.stack.setting c.row.op (next_at c) (word_at c) c.product.core (pointer_at c) _ e (sym (move_is c) ∙ halt_stays_put c e)
 
+around_halt : (r : Rules) (a : Option Bounds) (o : Op) (w : AbsRead) → o ≡ op.Halt → read_around r a o w ≡ w
+around_halt Simple a o w e = refl
+around_halt Extended None o w e = refl
+around_halt Extended (Some b) o w e = subst (λ (q : Op). read_around Extended (Some b) q w ≡ w) (sym e) refl
+
+halt_quiet : {X : Type 0} (o : Op) → o ≡ op.Halt → enables_interrupts o ≡ true → X
+halt_quiet o e h = absurd (let bad : false ≡ true = sym (ap enables_interrupts e) ∙ h in cc)
+
 halt_allowed : (c : Situation) → IsTakenIn c → c.row.op ≡ op.Halt → IsAllowedAt c
 halt_allowed c k e =
-    let r : (parts_at c).read ≡ read.Nothing = part_read c ∙ ap (cut_read (pointer_at c)) (halt_reads c.row.op c.product.core e) in
-    let w : (parts_at c).write ≡ write.Nothing = part_write c ∙ (write_is c ∙ ap (cut_write (pointer_at c)) (halt_writes c e)) in
+    let r : (parts_at c).read ≡ read.Nothing =
+    part_read c ∙ (around_halt c.stack.setting.rules c.state.summary.aside c.row.op _ e ∙ ap (cut_read (pointer_at c)) (halt_reads c.row.op c.product.core e)) in
+    let w : (parts_at c).write ≡ write.Nothing = part_write c ∙ (write_is c ∙ ap (cut_write (pointer_at c) (known_at c)) (halt_writes c e)) in
     record {
       stores = quiet_store c w;
       ram = quiet_closed c.rom c.state.core (parts_at c) r w;
@@ -210,9 +222,10 @@ repeats_widely k rom row a s ranges entry base x extended stands halt off mark =
       extended = extended;
       operands = halt_bytes row.op halt.op_is;
       runs = halt_runs row.op halt.op_is;
-      ready = λ meant. subst (λ m. IsReady k row.op m s base) (sym (halt_stays_put c halt.op_is)) tt;
+      ready = λ meant. subst (λ m. IsReady k row.op m s base) (sym (halt_stays_put c halt.op_is)) (λ enables. halt_quiet row.op halt.op_is enables);
       mark = mark;
       byte = omega arith;
+      second = omega arith;
       keeps = Keeps-both s.core (core_settle s.core) p.core (Keeps-settle s.core) (Keeps-cut (core_settle s.core) p.core before.cut.core);
       means = before.means.core;
       related = before.means.related;
@@ -225,7 +238,7 @@ repeats_widely k rom row a s ranges entry base x extended stands halt off mark =
     let some = possible c t in
     let r : Relations = relations_behind k entry.program rom row.op s p in
     let related : Successor = related_successor r (parts_at c) in
-    let m : SummaryParts = summary_behind k entry.program row.op s p (parts_at c) in
+    let m : SummaryParts = summary_behind k entry.program row.op s p (move_at c) (parts_at c) in
     let parts : Successor = said_successor m related in
     let goes : (parts_at c).target ≡ target.At (next_at c) = halt_goes c t halt.op_is in
     let led : StaysAt k.region (next_at c) (parts_at c) entry base (left_at c) = subst (λ w. LeadsWidely k.setting k.region w (parts_at c) entry base (left_at c)) goes done.to in
@@ -239,7 +252,7 @@ repeats_widely k rom row a s ranges entry base x extended stands halt off mark =
           (reduced_way k.setting.rules parts some.product some.is);
       held = as_many (subst (λ m. length (parts_at c).state.items ≡ bytes_moved m (length s.items)) (halt_stays_put c halt.op_is) done.bytes);
       leads = subst (λ y. Leads k.setting k.region ranges (with_product parts some.product) entry base x y) (sym (left_is rom row x [] halt off mark))
-          (Leads-said k.setting k.region ranges m (with_product related some.product) entry base x (marked (left_at c))
+          (Leads-said k.setting k.region ranges m (with_product related some.product) entry base x (marked (left_at c)) (said_aside c t)
           (Leads-narrowed k.setting k.region ranges related some.product entry base x (marked (left_at c)) extended some.is (pairs_behind c t) bytes done.leaves.related
           (LeadsWidely-related k.setting k.region (parts_at c).target r (parts_at c) entry base (marked (left_at c)) to) done.leaves.kept)
           (HoldSummary-settled entry.program (parts_at c).state.cells (said_at c) (left_at c).processor (marked (left_at c)).processor (peek (left_at c).storage) (left_at c).storage.banks refl refl (λ e. e)

@@ -13,7 +13,7 @@ use Rattle.gb_product.specs.Covering.{byte_in}
 use Rattle.gb_product.proofs.ByteLaws.{byte_in-small}
 use Rattle.gb_product.proofs.Below.gb_summaries_laws.Below.gb_ram_bounds_laws.JoinedLaws.{joined_soon}
 pub use Rattle.gb_product.proofs.Below.gb_summaries_laws.Below.gb_ram_bounds_laws.JoinedLaws.{joined_more, joined_same}
-use Rattle.gb_code.specs.Below.gb_abs_memory.Access.{home_of}
+use Rattle.gb_abs_memory.specs.Access.{home_of}
 
 cell_small : (cells : List Cell) (a : ℕ) → AllByRecursion (λ c. c.val.hi < 256) cells → (cell_at a cells).hi < 256
 cell_small [] a h = omega arith

@@ -26,8 +26,8 @@ use Rattle.gb_product.specs.Below.gb_abs_effects.declared.writes.AbsWrite.TheVar
 use Rattle.gb_product.specs.Below.gb_abs_effects.Sound.{HoldsWrite, IsWrite}
 use Rattle.gb_product.specs.Below.gb_abs_effects.Targets.{moves_sp}
 use Rattle.gb_product.proofs.Below.gb_abs_effects_laws.TargetLaws.{sp-kept, sp-pushed}
-use Rattle.gb_code.specs.Below.gb_abs_memory.Kept.{IsKept}
-use Rattle.gb_code.specs.Below.gb_abs_memory.Sound.{view}
+use Rattle.gb_abs_memory.specs.Kept.{IsKept}
+use Rattle.gb_abs_memory.specs.Sound.{view}
 use Rattle.gb_product.specs.Below.gb_relations.Sound as relations
 use Rattle.gb_product.specs.Below.gb_relations.Transfer.{values_of}
 use Rattle.gb_product.specs.Meaning.{AreRelated}
@@ -38,6 +38,7 @@ use Rattle.gb_successors.specs.Refused.{reads_closed_ram, writes_closed_ram, is_
 use Rattle.gb_successors.specs.Sound.{HasRoomFor, bytes_moved}
 use Rattle.gb_successors.specs.Stacks.{with_stack_moved, moved_core}
 use Rattle.gb_successors.specs.Successors.{taken_move, taken_parts, relations_behind}
+use Rattle.gb_successors.proofs.AroundLaws.{located-same}
 use Rattle.gb_successors.proofs.AccessLaws.{WritesInTurn, Loads, Loads-read, Stores, Stores-write, IsSameGate, AtWrite, closed_same, limited_same, writes_same, write_limited_same, clear_stack}
 use Rattle.gb_successors.proofs.LoadedLaws.{Reads-loaded, Loads-by}
 use Rattle.gb_successors.proofs.MovedLaws.{written_by}
@@ -46,7 +47,7 @@ use Rattle.gb_successors.proofs.RamLaws.{ram_at, ram_same, ram_is, differs, Hold
 use Rattle.gb_successors.proofs.SuccessorLaws.{begun_sp, faults_are, MeansParts-ended, passed_peek}
 use Rattle.gb_successors.proofs.StackWayLaws.{push_of, small_word, not_pushed, same_but_sp, nothing_stored, no_store_faults}
 use Rattle.gb_successors.proofs.WordLaws.{pushed-if_room}
-use Rattle.gb_successors.proofs.Situations.{Situation, next_at, pointer_at, read_at, bits_at, word_at, transferred, effect_at, carry_at, move_at, parts_at, begun_at, given_at, acted_at, left_at, IsTakenIn, means_begun, related_at}
+use Rattle.gb_successors.proofs.Situations.{Situation, next_at, pointer_at, read_at, bits_at, known_at, word_at, transferred, effect_at, carry_at, move_at, parts_at, begun_at, given_at, acted_at, left_at, IsTakenIn, means_begun, related_at}
 use Rattle.gb_successors.proofs.SituationLaws.{AreGiven, values_hold, said_begun, follows, related_behind, read_holds, read_has, read_placed, transferred_is, write_is, core_is, IsWrite-cut, sp_below}
 use Rattle.gb_successors.specs.Refined.{with_carry}
 use Rattle.gb_successors.proofs.RelatedLaws.{has_operands}
@@ -83,7 +84,7 @@ pub loads_plainly :
     (c : Situation) → IsTakenIn c → IsPlainRead (read_at c) → reads_closed_ram c.rom c.state.core (read_at c) ≡ false → is_read_limited c.stack.region c.state.core (read_at c) ≡ false → LoadsAt c
 loads_plainly c k plain ram limited =
     Loads-by c.stack.setting.rules c.stack.setting c.stack.region c.rom (with_core c.state c.product.core) (values_of c.product.core.registers c.product.relations.pairs) (bits_at c) c.entry c.base
-    (begun_at c) (begun_at c).processor.sp (read_at c) _ c.reads k.stands.cartridge (means_begun c k) (said_begun c k) (values_hold c k) k.core.ie k.byte (read_placed c k) (read_holds c k) (read_has c k)
+    (begun_at c) (begun_at c).processor.sp (read_at c) _ c.reads k.stands.cartridge (means_begun c k) (said_begun c k) (values_hold c k) k.core.ie k.byte plain (read_placed c k) (read_holds c k) (read_has c k)
     (Loads-read c.stack.setting c.rom c.stack.region (with_core c.state c.product.core) c.entry c.base (begun_at c) c.reads (begun_at c).processor.sp (read_at c) _
     k.stands.cartridge k.stands.based (means_begun c k) k.core.ie k.byte plain (read_holds c k)
     (closed_same c.rom c.state.core c.product.core (read_at c) k.keeps ∙ ram)
@@ -141,7 +142,7 @@ keeps_effect c k =
     (Keeps-both c.state.core c.product.core _ k.keeps (Keeps-transfer c.stack.setting.is_whole c.row.op (next_at c) _ c.product.core (word_at c).low (word_at c).high)))
 
 pub is_write_at : (c : Situation) → IsTakenIn c → IsWrite (effect_at c).write
-is_write_at c k = subst IsWrite (sym (write_is c)) (IsWrite-cut (pointer_at c) (transferred c).write (transferred_is c k).write)
+is_write_at c k = subst IsWrite (sym (write_is c)) (IsWrite-cut (pointer_at c) (known_at c) (transferred c).write (transferred_is c k).write)
 
 -- ---- the machine behind it
 
@@ -305,9 +306,9 @@ puts c i k l is has limited =
     let means : MeansParts (with_core c.state core) c.entry c.base before =
     MeansParts-with_core c.state core c.entry c.base x before k.stands.means.parts (same_but_sp core c.entry (acting c) before x.processor.sp f.core refl) refl refl refl (λ on. sym keeps.stack ∙ on) in
     let done =
-    MeansParts-pushed region (with_core c.state core) c.entry c.base before m i held.value means refl (keeps.stack ∙ has.stack_set) has.room k.stands.is_region k.stands.placed
+    MeansParts-pushed region (with_core c.state core) c.entry c.base before m i held.value means refl (located-same c.state.summary.aside core.stack_set c.state.core.stack_set keeps.stack has.located) has.room k.stands.is_region k.stands.placed
     (IsRegionOpen-bound c.state.core c.entry x region k.stands.means.parts.core (clear_stack region c.state.core limited)) held.high_held held.low_held small in
-    let top = k.stands.means.parts.stack has.stack_set in
+    let top = k.stands.means.parts.stack has.located in
     let after : Storage = (stored m (machine_write.Push x.processor.sp held.value)).storage in
     let changed : (b : ℕ) → ((region.first ≤ b) × (b ≤ region.last) → ⊥) → ram_at after b ≡ ram_at x.storage b =
     λ b out.

@@ -1,5 +1,5 @@
 -- An instruction that is taken leads by its successor, by the rules of version 3.
-use Rattle.std.proofs.Common.{◌≡◌, ℕ, ◌+◌, ◌≤◌, Bool, true, false, nat_lt, ◌⊎◌, inl, inr, length, Option, Some, None, refl, sym, ◌∙◌, ap, subst, arith}
+use Rattle.std.proofs.Common.{◌≡◌, ℕ, ◌+◌, ◌≤◌, Bool, true, false, nat_lt, ◌⊎◌, inl, inr, length, Option, Some, None, refl, sym, ◌∙◌, ap, subst, arith, ◌<◌}
 use Rattle.std.proofs.lemmas.Bool.Decides.{nat_tests}
 use Rattle.gb_ops.specs.declared.machine.Read.{Read}
 use Rattle.gb_ops.specs.declared.machine.Read.TheVariants as machine_read
@@ -31,18 +31,26 @@ use Rattle.gb_product.specs.Below.gb_abs_effects.Accesses.{read_of}
 use Rattle.gb_product.specs.Below.gb_abs_effects.Pairs.{any_word}
 use Rattle.gb_product.specs.Below.gb_abs_effects.Sound.{HoldsRead, IsReadAt}
 use Rattle.gb_product.specs.Below.gb_abs_effects.Targets.{target_of, is_pop, is_return}
-use Rattle.gb_code.specs.Below.gb_abs_memory.Sound.{view}
+use Rattle.gb_abs_memory.specs.Sound.{view}
 use Rattle.gb_product.specs.Below.gb_relations.Pointers.{WithinIf, PointsWithin, pointer_of}
 use Rattle.gb_product.proofs.Below.gb_relations_laws.PointerLaws.{pointer_bounds_sound}
+use Rattle.gb_product.specs.Below.gb_abs.declared.span.Span.{Span}
+use Rattle.gb_product.specs.Below.gb_pairs.declared.values.Values.{Values}
+use Rattle.gb_product.specs.Below.gb_relations.Transfer.{values_of}
+use Rattle.gb_successors.proofs.LoadedLaws.{Loads-word, extended_word}
+use Rattle.gb_successors.specs.declared.stacks.Around.{Around}
 use Rattle.gb_successors.specs.declared.stacks.StackMove.{StackMove}
 use Rattle.gb_successors.specs.declared.stacks.StackMove.TheVariants as move
 use Rattle.gb_successors.specs.Behind.{ended}
-use Rattle.gb_successors.specs.Refined.{cut_read, extended_target, refined_target, popped_target}
+use Rattle.gb_successors.specs.Refined.{cut_read, extended_target, refined_target, popped_target, read_around}
 use Rattle.gb_successors.specs.Refused.{reads_closed_ram, is_read_limited, is_stack_limited}
 use Rattle.gb_successors.specs.Sound.{IsFound, IsReady, HoldsBytes, bytes_moved}
-use Rattle.gb_successors.specs.Stacks.{stack_move}
+use Rattle.gb_successors.specs.Stacks.{stack_move, around_of}
 use Rattle.gb_successors.specs.Successors.{taken_move, taken_parts}
-use Rattle.gb_successors.proofs.AccessLaws.{clear_stack}
+use Rattle.gb_successors.proofs.AroundLaws.{around_top, top_none, located-same}
+use Rattle.gb_product.proofs.Below.gb_abs_laws.LocationLaws.{is_located-of}
+use Rattle.gb_product.specs.Below.gb_abs.Located.{IsSpWithin}
+use Rattle.gb_successors.proofs.AccessLaws.{clear_stack, closed_same, limited_same, Loads}
 use Rattle.gb_successors.proofs.PlainLaws.{IsPlainRead}
 use Rattle.gb_successors.proofs.SuccessorLaws.{begun_pc, begun_sp}
 use Rattle.gb_successors.proofs.StackWayLaws.{is_word_read, word_top, top_held}
@@ -51,8 +59,8 @@ use Rattle.gb_successors.proofs.StackMovedLaws.{IsMoved}
 use Rattle.gb_successors.proofs.GoingLaws.{GoesTo, goes_to, top_reads, takes_two, return_target}
 use Rattle.gb_successors.proofs.PossibleLaws.{ready_at}
 use Rattle.gb_successors.proofs.LandingLaws.{few_words, set_by_items}
-use Rattle.gb_successors.proofs.Situations.{Situation, next_at, pointer_at, read_at, word_at, effect_at, move_at, parts_at, begun_at, given_at, acted_at, left_at, IsTakenIn, means_begun}
-use Rattle.gb_successors.proofs.SituationLaws.{values_hold, read_holds, read_placed}
+use Rattle.gb_successors.proofs.Situations.{Situation, next_at, pointer_at, read_at, word_at, effect_at, move_at, parts_at, begun_at, given_at, acted_at, left_at, IsTakenIn, means_begun, bits_at}
+use Rattle.gb_successors.proofs.SituationLaws.{values_hold, read_holds, read_placed, sp_within, said_begun}
 use Rattle.gb_successors.proofs.LandingLaws.{LoadsAt, loads_plainly, state_by, state_is, moved_at, quiet_state, Landed, ended_quietly, acting}
 
 no_such : false ≡ true → ⊥
@@ -67,14 +75,22 @@ unfolding refined_target
 refined_is Extended z o next w core b m t h = refl
 refined_is Simple z o next w core b m t h = absurd (let bad : Simple ≡ Extended = h in cc)
 
+-- where the stack is put aside, and may be
+abbrev pub around_at : Situation → Around
+around_at c = around_of c.stack.setting c.state
+
+aside_at : (c : Situation) → (around_at c).aside ≡ c.state.summary.aside
+unfolding around_of
+aside_at c = refl
+
 abbrev pub extended_at : Situation → Target
-extended_at c = extended_target c.stack.setting c.row.op (next_at c) (word_at c) c.product.core (pointer_at c) (stack_move c.stack c.row.op (effect_at c).write (pointer_at c)) (target_of c.row.op (next_at c) c.product.core)
+extended_at c = extended_target c.stack.setting c.row.op (next_at c) (word_at c) c.product.core (pointer_at c) (stack_move c.stack (around_at c) c.row.op (effect_at c).write (pointer_at c)) (target_of c.row.op (next_at c) c.product.core)
 
 pub target_is : (c : Situation) → IsTakenIn c → (parts_at c).target ≡ extended_at c
 unfolding taken_parts
 target_is c k = refined_is c.stack.setting.rules c.stack.setting c.row.op (next_at c) (word_at c) c.product.core (pointer_at c) _ _ k.extended
 
-pub move_is : (c : Situation) → move_at c ≡ stack_move c.stack c.row.op (effect_at c).write (pointer_at c)
+pub move_is : (c : Situation) → move_at c ≡ stack_move c.stack (around_at c) c.row.op (effect_at c).write (pointer_at c)
 unfolding taken_move
 move_is c = refl
 
@@ -89,15 +105,17 @@ pub goes_at : (c : Situation) → IsTakenIn c → LoadsAt c → GoesTo c.stack.s
 unfolding pointer_of
 goes_at c k l =
     subst (λ t. GoesTo c.stack.setting.is_main t c.entry (acted_at c).processor.pc) (sym (target_is c k))
-    (goes_to c.stack c.row.op (effect_at c).write (pointer_at c) (next_at c) (word_at c) c.product.core c.entry (begun_at c) (given_at c).low (given_at c).high l.low l.high k.means
+    (goes_to c.stack (around_at c) c.row.op (effect_at c).write (pointer_at c) (next_at c) (word_at c) c.product.core c.entry (begun_at c) (given_at c).low (given_at c).high l.low l.high k.means
     (begun_pc c.row c.machine c.address k.runs k.mark k.stands.at) k.taken (λ e. hl_within c k (ap pointer_of e)))
 
 pub moves_at : (c : Situation) → IsTakenIn c → IsMovedTo c.stack (move_at c) c.machine.processor.sp (acted_at c).processor.sp
 unfolding pointer_of
 moves_at c k =
     subst (λ m. IsMovedTo c.stack m c.machine.processor.sp (acted_at c).processor.sp) (sym (move_is c))
-    (subst (λ sp. IsMovedTo c.stack (stack_move c.stack c.row.op (effect_at c).write (pointer_at c)) sp (acted_at c).processor.sp) (begun_sp c.row c.machine)
-    (sp_moves c.stack c.row.op (effect_at c).write (pointer_at c) (advanced c.machine.processor c.row) (given_at c).low (given_at c).high k.extended k.operands k.taken (λ e. hl_within c k (ap pointer_of e))))
+    (subst (λ sp. IsMovedTo c.stack (stack_move c.stack (around_at c) c.row.op (effect_at c).write (pointer_at c)) sp (acted_at c).processor.sp) (begun_sp c.row c.machine)
+    (sp_moves c.stack (around_at c) c.row.op (effect_at c).write (pointer_at c) (advanced c.machine.processor c.row) (given_at c).low (given_at c).high k.extended k.operands
+    (subst (λ n. n < 65536) (sym (begun_sp c.row c.machine)) k.stands.means.parts.sp)
+    (subst (IsSpWithin (around_at c).aside) (sym (begun_sp c.row c.machine)) (subst (λ a. IsSpWithin a c.machine.processor.sp) (sym (aside_at c)) (sp_within c k))) k.taken (λ e. hl_within c k (ap pointer_of e))))
 
 -- ---- what its reads give
 
@@ -106,6 +124,7 @@ cut_top None (read.Byte span) e = cc
 cut_top (Some b) (read.Byte span) e = cc
 cut_top b read.Nothing e = cc
 cut_top b read.Top e = refl
+cut_top b (read.Word span) e = cc
 
 no_return : (o : Op) → is_pop o ≡ true → is_return o ≡ false
 no_return (op.Pop to) h = refl
@@ -115,8 +134,20 @@ lost_any : (b : Bool) → popped_target b any_word ≡ target.Lost
 lost_any true = refl
 lost_any false = refl
 
+no_pop : {X : Type 0} (o : Op) → is_return o ≡ true → is_pop o ≡ true → X
+no_pop (op.Pop to) h pop = cc
+no_pop o h pop = cc
+
+-- two bytes are taken off
+ready_two :
+    (c : Situation) → IsTakenIn c → (is_pop c.row.op ≡ true) ⊎ (is_return c.row.op ≡ true) → (is_pop c.row.op ≡ true → (around_at c).aside ≡ None)
+    → (is_return c.row.op ≡ false → HoldsBytes 2 c.state) × (is_return c.row.op ≡ true → c.state.summary.aside ≡ None)
+ready_two c k which none =
+    subst (λ m. IsReady c.stack c.row.op m c.state c.base) (move_is c ∙ takes_two c.stack (around_at c) c.row.op (effect_at c).write (pointer_at c) k.extended none which) (ready_at c k)
+
 holds_two : (c : Situation) → IsTakenIn c → IsFound (parts_at c).target → read_at c ≡ read.Top → HoldsBytes 2 c.state
-holds_two c k found top = by (top_reads c.row.op c.product.core (cut_top (pointer_at c) (read_of c.row.op c.product.core) top))
+holds_two c k found top =
+    by (top_reads c.row.op c.product.core (cut_top (pointer_at c) (read_of c.row.op c.product.core) (around_top c.stack.setting.rules c.state.summary.aside c.row.op _ top)))
   where
     word_any : nat_lt (length c.state.items) 2 ≡ true → word_at c ≡ any_word
     word_any few = word_top c.stack.setting.rules c.stack.setting c.stack.region c.entry.program c.rom _ _ (with_core c.state c.product.core) (read_at c) None top (few_words c.state c.product.core few)
@@ -124,14 +155,15 @@ holds_two c k found top = by (top_reads c.row.op c.product.core (cut_top (pointe
     by_length : (b : Bool) → nat_lt (length c.state.items) 2 ≡ b → is_return c.row.op ≡ true → HoldsBytes 2 c.state
     by_length false e h =
         let some : 2 ≤ length c.state.items = grind (arith, nat_tests) in
-        record { stack_set = set_by_items c.state.core.stack_set c.state.items some k.stands.unset; held = some }
+        let none : c.state.summary.aside ≡ None = (ready_two c k (inr h) (λ pop. no_pop c.row.op h pop)).1 h in
+        record { located = is_located-of c.state.summary.aside c.state.core.stack_set none (set_by_items c.state.core.stack_set c.state.items some k.stands.unset); held = some }
     by_length true e h =
         absurd (subst IsFound (target_is c k ∙ (return_target c.stack.setting c.row.op (next_at c) (word_at c) c.product.core (pointer_at c) _ _ h
         ∙ (ap (popped_target c.stack.setting.is_main) (word_any e) ∙ lost_any c.stack.setting.is_main))) found)
 
     by : (is_pop c.row.op ≡ true) ⊎ (is_return c.row.op ≡ true) → HoldsBytes 2 c.state
     by (inl pop) =
-        subst (λ m. IsReady c.stack c.row.op m c.state c.base) (move_is c ∙ takes_two c.stack c.row.op (effect_at c).write (pointer_at c) k.extended (inl pop)) (ready_at c k) (no_return c.row.op pop)
+        (ready_two c k (inl pop) (λ pops. aside_at c ∙ top_none c.stack.setting.rules c.state.summary.aside c.row.op _ k.extended pops top)).0 (no_return c.row.op pop)
     by (inr returns) = by_length (nat_lt (length c.state.items) 2) refl returns
 
 loads_top : (c : Situation) → IsTakenIn c → read_at c ≡ read.Top → HoldsBytes 2 c.state → is_stack_limited c.stack.region c.state.core ≡ false → LoadsAt c
@@ -142,7 +174,7 @@ loads_top c k top two limited =
     let reads : r ≡ machine_read.Word sp = is_word_read sp r (subst (λ v. HoldsRead v sp r) top (read_holds c k)) in
     let word : word_at c ≡ held.0 = word_top c.stack.setting.rules c.stack.setting c.stack.region c.entry.program c.rom _ _ (with_core c.state c.product.core) (read_at c) (Some held.0) top held.1 in
     let p =
-    Pops-popped c.stack.region (with_core c.state c.product.core) c.entry c.base (begun_at c) (view c.rom c.machine false) held.0 c.reads (means_begun c k) refl (k.keeps.stack ∙ two.stack_set) held.1 k.stands.room k.stands.is_region
+    Pops-popped c.stack.region (with_core c.state c.product.core) c.entry c.base (begun_at c) (view c.rom c.machine false) held.0 c.reads (means_begun c k) refl (located-same c.state.summary.aside c.product.core.stack_set c.state.core.stack_set k.keeps.stack two.located) held.1 k.stands.room k.stands.is_region
     (IsRegionOpen-bound c.state.core c.entry c.machine c.stack.region k.stands.means.parts.core (clear_stack c.stack.region c.state.core limited)) in
     record {
       low = subst (λ (i : Halves). Holds i.low c.entry (loaded (view c.rom c.machine false) r c.reads).low) (sym word)
@@ -152,6 +184,25 @@ loads_top c k top two limited =
       faults = ap (load_faults (view c.rom c.machine false)) reads ∙ p.faults;
     }
 
+-- a word that isn't on the stack
+loads_word :
+    (c : Situation) → IsTakenIn c → (span : Span) → read_at c ≡ read.Word span → IsReadAt (read.Word span) → reads_closed_ram c.rom c.state.core (read.Word span) ≡ false
+    → is_read_limited c.stack.region c.state.core (read.Word span) ≡ false → LoadsAt c
+loads_word c k span e small ram limited = by (Effects.read_of c.row.op (advanced c.machine.processor c.row)) refl (subst (λ w. HoldsRead w (begun_at c).processor.sp (Effects.read_of c.row.op (advanced c.machine.processor c.row))) e (read_holds c k))
+  where
+    v : Values
+    v = values_of c.product.core.registers c.product.relations.pairs
+
+    by : (r : Read) → Effects.read_of c.row.op (advanced c.machine.processor c.row) ≡ r → HoldsRead (read.Word span) (begun_at c).processor.sp r → LoadsAt c
+    by machine_read.Nothing is h = absurd h
+    by (machine_read.Byte a) is h = absurd h
+    by (machine_read.Word a) is h =
+        subst (λ r. Loads (word_at c) c.entry (view c.rom c.machine false) r c.reads) (sym is)
+        (subst (λ w. Loads w c.entry (view c.rom c.machine false) (machine_read.Word a) c.reads)
+        (sym (extended_word c.stack.setting.rules c.stack.setting c.stack.region c.entry.program c.rom v (bits_at c) (with_core c.state c.product.core) (read_at c) (read.Word span) k.extended e))
+        (Loads-word c.stack.setting c.stack.region c.rom (with_core c.state c.product.core) v (bits_at c) span c.entry c.base (begun_at c) a c.reads k.stands.cartridge k.stands.based (means_begun c k) (said_begun c k) (values_hold c k) k.core.ie
+        k.byte k.second h small (closed_same c.rom c.state.core c.product.core (read.Word span) k.keeps ∙ ram) (limited_same c.stack.region c.state.core c.product.core (read.Word span) k.keeps ∙ limited)))
+
 pub loads_at :
     (c : Situation) → IsTakenIn c → IsFound (parts_at c).target → reads_closed_ram c.rom c.state.core (read_at c) ≡ false → is_read_limited c.stack.region c.state.core (read_at c) ≡ false → LoadsAt c
 unfolding is_read_limited
@@ -160,6 +211,8 @@ loads_at c k found ram limited = by (read_at c) refl (read_placed c k)
     by : (r : AbsRead) → read_at c ≡ r → IsReadAt r → LoadsAt c
     by read.Nothing e at = loads_plainly c k (subst IsPlainRead (sym e) tt) ram limited
     by (read.Byte span) e at = loads_plainly c k (subst IsPlainRead (sym e) at) ram limited
+    by (read.Word span) e at =
+        loads_word c k span e at (subst (λ r. reads_closed_ram c.rom c.state.core r ≡ false) e ram) (subst (λ r. is_read_limited c.stack.region c.state.core r ≡ false) e limited)
     by read.Top e at = loads_top c k e (holds_two c k found e) (subst (λ r. is_read_limited c.stack.region c.state.core r ≡ false) e limited)
 
 -- ---- what a move asks for
@@ -171,8 +224,15 @@ return_reads op.Return core h = refl
 return_reads op.ReturnFromInterrupt core h = refl
 return_reads o core h = absurd (no_such h)
 
+around_return : (r : Rules) (a : Option Bounds) (o : Op) (w : AbsRead) → is_return o ≡ true → read_around r a o w ≡ w
+around_return Simple a o w h = refl
+around_return Extended None o w h = refl
+around_return Extended (Some b) (op.Pop to) w h = absurd (no_such h)
+around_return Extended (Some b) o w h = refl
+
 reads_top : (c : Situation) → is_return c.row.op ≡ true → read_at c ≡ read.Top
-reads_top c h = ap (cut_read (pointer_at c)) (return_reads c.row.op c.product.core h)
+reads_top c h =
+    around_return c.stack.setting.rules c.state.summary.aside c.row.op _ h ∙ ap (cut_read (pointer_at c)) (return_reads c.row.op c.product.core h)
 
 -- so many bytes are held as are taken off
 pub holds_taken : (c : Situation) (n : ℕ) → IsTakenIn c → IsFound (parts_at c).target → move_at c ≡ move.Take n → HoldsBytes n c.state
@@ -182,9 +242,9 @@ holds_taken c n k found e = by (is_return c.row.op) refl
     same i j f = cc
 
     by : (b : Bool) → is_return c.row.op ≡ b → HoldsBytes n c.state
-    by false h = subst (λ m. IsReady c.stack c.row.op m c.state c.base) e (ready_at c k) h
+    by false h = (subst (λ m. IsReady c.stack c.row.op m c.state c.base) e (ready_at c k)).0 h
     by true h =
-        subst (λ i. HoldsBytes i c.state) (same 2 n (sym (move_is c ∙ takes_two c.stack c.row.op (effect_at c).write (pointer_at c) k.extended (inr h)) ∙ e))
+        subst (λ i. HoldsBytes i c.state) (same 2 n (sym (move_is c ∙ takes_two c.stack (around_at c) c.row.op (effect_at c).write (pointer_at c) k.extended (λ pop. no_pop c.row.op h pop) (inr h)) ∙ e))
         (holds_two c k found (reads_top c h))
 
 ended_items : (b : Bool) (n : ℕ) (s : AbsState) → (ended b n s).items ≡ s.items

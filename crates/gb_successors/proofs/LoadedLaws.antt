@@ -1,5 +1,5 @@
 -- What is known of what is read, by facts and fills too, holds of it, and is a value.
-use Rattle.std.proofs.Common.{◌≡◌, ℕ, ◌≤◌, ◌<◌, ◌==◌, nat_lt, Bool, true, false, cond, not, ◌||◌, List, slice_index, Option, Some, None, refl, sym, ◌∙◌, ap, subst, arith}
+use Rattle.std.proofs.Common.{◌≡◌, ℕ, ◌≤◌, ◌<◌, ◌==◌, nat_lt, Bool, true, false, cond, not, ◌||◌, List, [], ◌∷◌, ◌+◌, ◌%◌, ◌&&◌, slice_index, Option, Some, None, refl, sym, ◌∙◌, ap, subst, arith}
 use Rattle.std.proofs.lemmas.Bool.{and_parts}
 use Rattle.std.proofs.lemmas.Bool.Decides.{nat_tests}
 use Rattle.std.specs.Prelude.{IfSome}
@@ -21,14 +21,16 @@ use Rattle.gb_ops.specs.Registers.{get}
 use Rattle.gb_ops.specs.Memory.{rom_byte, View, Storage, mapped_at, place_by, place_of, is_free_place, is_free, byte_by, byte_at, is_closed}
 use Rattle.gb_ops.specs.Machine as Machine
 use Rattle.gb_ops.specs.Machine.{loaded}
-use Rattle.gb_ops.specs.Faults.{no_faults, access_faults, load_faults}
+use Rattle.gb_ops.specs.Faults.{no_faults, access_faults, load_faults, either_faults}
 use Rattle.gb_ops.specs.Play.{MState}
 use Rattle.gb_domain.specs.declared.rules.Rules.{Rules}
 use Rattle.gb_domain.specs.declared.rules.Rules.TheVariants.{Simple, Extended}
 use Rattle.gb_domain.specs.declared.setting.Setting.{Setting}
 use Rattle.gb_domain.specs.declared.types.Core.{Core}
 use Rattle.gb_domain.specs.declared.types.Val.{Val}
+use Rattle.gb_domain.specs.LowBits.{no_low_bits}
 use Rattle.gb_domain.specs.Rules.{IsVal, IsWord}
+use Rattle.gb_domain.specs.Settings.{IsBase}
 use Rattle.gb_domain.specs.Summaries.{Program}
 use Rattle.gb_domain.specs.Areas.{meets}
 use Rattle.gb_domain.specs.Interval.{bounds}
@@ -62,16 +64,31 @@ use Rattle.gb_product.proofs.CoveringLaws.{Holds-uncopied, Holds-byte_in_state}
 use Rattle.gb_product.proofs.Below.gb_abs_effects_laws.CoreLaws.{In-from}
 use Rattle.gb_product.proofs.Below.gb_summaries_laws.KnownLaws.{In-interval}
 use Rattle.gb_product.proofs.Below.gb_summaries_laws.Below.gb_ram_bounds_laws.JoinedLaws.{In-joined_over, IsOfBytes-joined_over}
-use Rattle.gb_code.specs.Below.gb_abs_memory.Access.{home_of, rom_val, val_at, is_table, loaded_val}
-use Rattle.gb_code.specs.Below.gb_abs_memory.Shown.{known_bank}
-use Rattle.gb_code.specs.Below.gb_abs_memory.Sound.{view, IsRom, AreVals}
-use Rattle.gb_code.proofs.Below.gb_abs_memory_laws.LoadLaws.{read_open, answer, read_byte, Holds-val_at, in_table, known_bank-half, IsVal-cell, IsVal-loaded_val, one_address}
-use Rattle.gb_successors.specs.Loads.{read_word, is_plain_ram, told_at, is_stretch, addresses_of, table_among, joined_in, loaded_whole, loaded_in, word_by}
+use Rattle.gb_abs_memory.specs.Access.{home_of, rom_val, val_at, is_table, loaded_val, meets_closed_ram, is_limited}
+use Rattle.gb_abs_memory.specs.Shown.{known_bank}
+use Rattle.gb_abs_memory.specs.Sound.{view, IsRom, AreVals}
+use Rattle.gb_abs_memory.proofs.LoadLaws.{IsLoaded-loaded_val, read_open, answer, read_byte, Holds-val_at, in_table, known_bank-half, IsVal-cell, IsVal-loaded_val, one_address}
+use Rattle.gb_successors.specs.Loads.{read_word, span_behind, is_plain_ram, told_at, is_stretch, addresses_of, table_among, joined_in, loaded_whole, loaded_in, word_by}
+use Rattle.gb_successors.specs.Refused.{reads_closed_ram, is_read_limited}
 use Rattle.gb_successors.specs.Summaries.{pointed_bits}
 use Rattle.gb_successors.proofs.AccessLaws.{Loads}
+use Rattle.gb_successors.proofs.PlainLaws.{IsPlainRead}
 use Rattle.gb_successors.proofs.RamLaws.{ram_at, ram_is}
-use Rattle.gb_successors.proofs.StoredLaws.{among, Has-none, Has-pointer}
+use Rattle.gb_product.proofs.Below.gb_abs_laws.SpanLaws.{Has-none}
+use Rattle.gb_successors.proofs.StoredLaws.{among, Has-pointer}
 use Rattle.gb_successors.proofs.SuccessorLaws.{IsVal-any, is_word}
+
+or_false : (b c : Bool) → (b || c) ≡ false → (b ≡ false) × (c ≡ false)
+or_false true c h = cc
+or_false false c h = (refl, h)
+
+pub less_is : (n m : ℕ) → nat_lt n m ≡ true → n < m
+less_is n m h = grind (arith, nat_tests)
+
+in_small : (span : Span) (a : ℕ) → IsIn span a → span.last < 65536 → a < 65536
+in_small span a i h =
+    let most = i.last in
+    omega arith
 
 -- ---- a byte of RAM that is read
 
@@ -269,21 +286,82 @@ HasRead low m = Unit {0}
 pub Loads-by :
     (r : Rules) (z : Setting) (region : Region) (rom : List ℕ) (s : AbsState) (v : Values) (low : LowBits) (entry : Activation) (base : ℕ) (x : MState) (sp : ℕ) (what : AbsRead) (m : Read) (reads : List ℕ)
     → IsRom rom → MeansParts s entry base x → IsSummarized s entry x → HoldValues v x.processor.registers → IsVal s.core.ie → slice_index reads 0 ≤ 255
-    → IsReadAt what → HoldsRead what sp m → HasRead low m
+    → IsPlainRead what → IsReadAt what → HoldsRead what sp m → HasRead low m
     → Loads (read_word z rom s what) entry (view rom x false) m reads → Loads (word_by r z region entry.program rom v low s what) entry (view rom x false) m reads
 unfolding read_word
-Loads-by Simple z region rom s v low entry base x sp what m reads c means said values ie byte at h bits l = l
-Loads-by Extended z region rom s v low entry base x sp read.Nothing m reads c means said values ie byte at h bits l = l
-Loads-by Extended z region rom s v low entry base x sp read.Top m reads c means said values ie byte at h bits l = l
-Loads-by Extended z region rom s v low entry base x sp (read.Byte span) (machine_read.Byte a) reads c means said values ie byte at h bits l =
+Loads-by Simple z region rom s v low entry base x sp what m reads c means said values ie byte plain at h bits l = l
+Loads-by Extended z region rom s v low entry base x sp read.Nothing m reads c means said values ie byte plain at h bits l = l
+Loads-by Extended z region rom s v low entry base x sp read.Top m reads c means said values ie byte plain at h bits l = l
+Loads-by Extended z region rom s v low entry base x sp (read.Word span) m reads c means said values ie byte plain at h bits l = absurd plain
+Loads-by Extended z region rom s v low entry base x sp (read.Byte span) (machine_read.Byte a) reads c means said values ie byte plain at h bits l =
     let last = h.last in
     record {
       low = Holds-loaded_in z region rom s v low span entry base x a reads c means said values ie byte h (omega arith) bits l.faults l.low;
       high = l.high;
       faults = l.faults;
     }
-Loads-by Extended z region rom s v low entry base x sp (read.Byte span) machine_read.Nothing reads c means said values ie byte at h bits l = absurd h
-Loads-by Extended z region rom s v low entry base x sp (read.Byte span) (machine_read.Word a) reads c means said values ie byte at h bits l = absurd h
+Loads-by Extended z region rom s v low entry base x sp (read.Byte span) machine_read.Nothing reads c means said values ie byte plain at h bits l = absurd h
+Loads-by Extended z region rom s v low entry base x sp (read.Byte span) (machine_read.Word a) reads c means said values ie byte plain at h bits l = absurd h
+
+-- a byte of a word that is read
+record IsByteRead (known : Val) (entry : Activation) (m : View) (a : ℕ) (reads : List ℕ) : Type 0 where
+  holds : Holds known entry (loaded m (machine_read.Byte a) reads).low
+  faults : load_faults m (machine_read.Byte a) ≡ no_faults
+
+byte_of_word :
+    (z : Setting) (region : Region) (rom : List ℕ) (s : AbsState) (v : Values) (span : Span) (entry : Activation) (base : ℕ) (x : MState) (a : ℕ) (reads : List ℕ)
+    → IsRom rom → IsBase z base → MeansParts s entry base x → IsSummarized s entry x → HoldValues v x.processor.registers → IsVal s.core.ie → slice_index reads 0 ≤ 255
+    → IsIn span a → a < 65536 → meets_closed_ram rom s.core span ≡ false → is_limited s.core span ≡ false
+    → IsByteRead (loaded_in z region entry.program rom v no_low_bits s span) entry (view rom x false) a reads
+unfolding load_faults access_faults loaded Machine.read_at
+byte_of_word z region rom s v span entry base x a reads c right means said values ie byte i small ram limited =
+    let l = IsLoaded-loaded_val z rom s span entry base x false a reads ram limited i small right means ie c byte in
+    record { holds = Holds-loaded_in z region rom s v no_low_bits span entry base x a reads c means said values ie byte i small (Has-none a) l.faults l.holds; faults = l.faults }
+
+pub behind_in : (span : Span) (a : ℕ) → IsIn span a → span.last < 65536 → IsIn (span_behind span) ((a + 1) % 65536)
+behind_in span a i small = by (nat_lt span.first 0xFFFF && nat_lt span.last 0xFFFF) refl
+  where
+    by : (t : Bool) → (nat_lt span.first 0xFFFF && nat_lt span.last 0xFFFF) ≡ t
+        → IsIn (cond {A = Span} t (record { first = span.first + 1; last = span.last + 1; low = no_low_bits }) (record { first = 0; last = 0xFFFF; low = no_low_bits })) ((a + 1) % 65536)
+    by true e =
+        let first = i.first in
+        let last = i.last in
+        let near : span.last < 65535 = less_is span.last 65535 (and_parts (nat_lt span.first 0xFFFF) (nat_lt span.last 0xFFFF) e).1 in
+        record { first = omega arith; last = omega arith; low = Has-none _ }
+    by false e = record { first = omega arith; last = omega arith; low = Has-none _ }
+
+-- what is left of the free bytes begins with a byte
+rest_byte : (m : View) (a : ℕ) (reads : List ℕ) → slice_index reads 0 ≤ 255 → slice_index reads 1 ≤ 255 → slice_index (Machine.read_at m a reads).rest 0 ≤ 255
+unfolding Machine.read_at
+rest_byte m a reads first second = by (is_free m a) reads first second
+  where
+    by : (b : Bool) (free : List ℕ) → slice_index free 0 ≤ 255 → slice_index free 1 ≤ 255 → slice_index (Machine.read_by b (byte_at m a) free).rest 0 ≤ 255
+    by true [] h g = h
+    by true (n ∷ free) h g = g
+    by false free h g = h
+
+-- a word at one of several addresses
+pub Loads-word :
+    (z : Setting) (region : Region) (rom : List ℕ) (s : AbsState) (v : Values) (low : LowBits) (span : Span) (entry : Activation) (base : ℕ) (x : MState) (a : ℕ) (reads : List ℕ)
+    → IsRom rom → IsBase z base → MeansParts s entry base x → IsSummarized s entry x → HoldValues v x.processor.registers → IsVal s.core.ie
+    → slice_index reads 0 ≤ 255 → slice_index reads 1 ≤ 255 → IsIn span a → span.last < 65536
+    → reads_closed_ram rom s.core (read.Word span) ≡ false → is_read_limited region s.core (read.Word span) ≡ false
+    → Loads (word_by Extended z region entry.program rom v low s (read.Word span)) entry (view rom x false) (machine_read.Word a) reads
+unfolding loaded load_faults either_faults reads_closed_ram is_read_limited
+Loads-word z region rom s v low span entry base x a reads c right means said values ie first second i small ram limited =
+    let closed = or_false (meets_closed_ram rom s.core span) (meets_closed_ram rom s.core (span_behind span)) ram in
+    let open_all = or_false (is_limited s.core span) (is_limited s.core (span_behind span)) limited in
+    let near = byte_of_word z region rom s v span entry base x a reads c right means said values ie first i (in_small span a i small) closed.0 open_all.0 in
+    let far =
+    byte_of_word z region rom s v (span_behind span) entry base x ((a + 1) % 65536) (Machine.read_at (view rom x false) a reads).rest c right means said values ie
+    (rest_byte (view rom x false) a reads first second) (behind_in span a i small) (omega arith) closed.1 open_all.1 in
+    record { low = near.holds; high = far.holds; faults = rw (near.faults, far.faults) refl }
+
+-- by the rules of version 3
+pub extended_word :
+    (r : Rules) (z : Setting) (region : Region) (program : Program) (rom : List ℕ) (v : Values) (low : LowBits) (s : AbsState) (what w : AbsRead) → r ≡ Extended → what ≡ w
+    → word_by r z region program rom v low s what ≡ word_by Extended z region program rom v low s w
+extended_word r z region program rom v low s what w extended e = ap (λ q. word_by q z region program rom v low s what) extended ∙ ap (word_by Extended z region program rom v low s) e
 
 -- the address of an instruction's pointer does
 pub HasRead-pointed :
@@ -333,5 +411,10 @@ pub is_word_by :
 is_word_by Simple z region program rom v low s c what ie cells items bytes = is_word z rom s c what ie cells items bytes
 is_word_by Extended z region program rom v low s c (read.Byte span) ie cells items bytes =
     record { high = IsVal-any; low = IsVal-loaded_in z region program rom v low (with_core s c) span ie cells items bytes }
+is_word_by Extended z region program rom v low s c (read.Word span) ie cells items bytes =
+    record {
+      high = IsVal-loaded_in z region program rom v no_low_bits (with_core s c) (span_behind span) ie cells items bytes;
+      low = IsVal-loaded_in z region program rom v no_low_bits (with_core s c) span ie cells items bytes;
+    }
 is_word_by Extended z region program rom v low s c read.Nothing ie cells items bytes = is_word z rom s c read.Nothing ie cells items bytes
 is_word_by Extended z region program rom v low s c read.Top ie cells items bytes = is_word z rom s c read.Top ie cells items bytes

@@ -19,16 +19,17 @@ use Rattle.gb_product.specs.Below.gb_abs.Span.{one}
 use Rattle.gb_product.specs.Below.gb_abs.Operations.{core_end, with_core}
 use Rattle.gb_product.specs.Below.gb_abs_effects.declared.writes.AbsWrite.{AbsWrite}
 use Rattle.gb_product.specs.Below.gb_abs_effects.declared.writes.AbsWrite.TheVariants as write
-use Rattle.gb_code.specs.Below.gb_abs_memory.declared.store.Area.{Area}
-use Rattle.gb_code.specs.Below.gb_abs_memory.declared.store.Area.TheVariants as area
-use Rattle.gb_code.specs.Below.gb_abs_memory.Access.{area_of, ram_stored, stored_in, stored_state, stored_core_in, stored_core}
-use Rattle.gb_code.specs.Below.gb_abs_memory.Items.{items_stored}
+use Rattle.gb_abs_memory.specs.declared.store.Area.{Area}
+use Rattle.gb_abs_memory.specs.declared.store.Area.TheVariants as area
+use Rattle.gb_abs_memory.specs.Access.{area_of, ram_stored, stored_in, stored_state, stored_core_in, stored_core}
+use Rattle.gb_abs_memory.specs.Items.{items_stored}
 use Rattle.gb_product.specs.Below.gb_abs.Located.{stack_base}
 use Rattle.gb_successors.specs.declared.stacks.Stack.{Stack}
 use Rattle.gb_successors.specs.declared.stacks.StackMove.{StackMove}
 use Rattle.gb_successors.specs.declared.stacks.StackMove.TheVariants as move
 use Rattle.gb_successors.specs.declared.way.Moved.{Moved}
-use Rattle.gb_successors.specs.Stacks.{pushed_if_room, appended_if_room, set_if_room, begun_anew, with_stack_moved}
+use Rattle.gb_successors.specs.Stacks.{pushed_if_room, appended_if_room, set_if_room, begun_anew, with_aside as stack_aside, with_stack_moved}
+use Rattle.gb_successors.specs.Summaries.{aside_behind, with_aside}
 use Rattle.gb_successors.specs.Behind.{behind, written, ended, moves_stack, is_in_ram, changes_cells, move_of, with_cell_if, moved_state, moved_by, with_relations, with_summary, summary_or, state_behind, written_core}
 
 -- ---- the core apart
@@ -88,6 +89,7 @@ same_stack z (move.Push i) s h = absurd cc
 same_stack z (move.Take n) s h = absurd cc
 same_stack z (move.Append n) s h = absurd cc
 same_stack z (move.Set n) s h = absurd cc
+same_stack z (move.Aside b) s h = absurd cc
 same_stack z (move.Restart n) s h = absurd cc
 same_stack z move.Lost s h = absurd cc
 
@@ -170,14 +172,18 @@ summary_either : (b : Bool) (s t : AbsState) (m : SummaryParts) → s.summary �
 summary_either true s t m e f = e
 summary_either false s t m e f = f
 
-stacked_summary : (z : Setting) (m : StackMove) (s : AbsState) → (with_stack_moved z m s).summary ≡ s.summary
+abbrev unset : AbsState → AbsState
+unset s = stack_aside None s
+
+stacked_summary : (z : Setting) (m : StackMove) (s : AbsState) → (with_stack_moved z m s).summary ≡ with_aside (aside_behind m s.summary.aside) s.summary
 unfolding with_stack_moved pushed_if_room appended_if_room set_if_room pushed with_any_bytes without_newest resized
 stacked_summary z move.Stay s = refl
 stacked_summary z (move.Push w) s = summary_either (nat_lt (item_room z.rules) (length s.items + 2)) s (pushed w s) s.summary refl refl
 stacked_summary z (move.Take n) s = refl
 stacked_summary z (move.Append n) s = summary_either (nat_lt (item_room z.rules) (length s.items + n)) s (with_any_bytes n s) s.summary refl refl
-stacked_summary z (move.Set n) s = summary_either (nat_lt (item_room z.rules) n) s (resized n s) s.summary refl refl
-stacked_summary z (move.Restart n) s = summary_either (nat_lt (item_room z.rules) n) (begun_anew s) (resized n (begun_anew s)) s.summary refl refl
+stacked_summary z (move.Set n) s = summary_either (nat_lt (item_room z.rules) n) (unset s) (resized n (unset s)) (with_aside None s.summary) refl refl
+stacked_summary z (move.Restart n) s = summary_either (nat_lt (item_room z.rules) n) (begun_anew (unset s)) (resized n (begun_anew (unset s))) (with_aside None s.summary) refl refl
+stacked_summary z (move.Aside b) s = refl
 stacked_summary z move.Lost s = refl
 
 stored_summary : (z : Setting) (region : Region) (k : Kind) (span : Span) (v : Val) (s : AbsState) → (stored_state z region k span v s).summary ≡ s.summary
@@ -191,7 +197,7 @@ stored_summary z region k span v s = by (area_of k span)
     by (Some _) = refl
     by None = refl
 
-written_summary : (z : Setting) (region : Region) (k : Kind) (w : AbsWrite) (s : AbsState) → (written z region k w s).summary ≡ s.summary
+pub written_summary : (z : Setting) (region : Region) (k : Kind) (w : AbsWrite) (s : AbsState) → (written z region k w s).summary ≡ s.summary
 unfolding written
 written_summary z region k (write.Byte span v) s = stored_summary z region k span v s
 written_summary z region k (write.Word a low high) s = stored_summary z region k (one (behind a)) high (stored_state z region k (one a) low s) ∙ stored_summary z region k (one a) low s
@@ -202,9 +208,9 @@ unfolding with_cell_if
 told_summary z None s = refl
 told_summary z (Some c) s = refl
 
--- items and cells alone move
-pub moved_summary : (m : Moved) (w : AbsWrite) (s : AbsState) → (moved_state m.stack m.kind m.cell m.stack_move w s).summary ≡ s.summary
+-- beside items and cells it is told where SP is put aside
+pub moved_summary : (k : Stack) (kind : Kind) (cell : Option Cell) (m : StackMove) (w : AbsWrite) (s : AbsState) → (moved_state k kind cell m w s).summary ≡ with_aside (aside_behind m s.summary.aside) s.summary
 unfolding moved_state
-moved_summary m w s =
-    written_summary m.stack.setting m.stack.region m.kind w (with_stack_moved m.stack.setting m.stack_move (with_cell_if m.stack.setting m.cell s))
-    ∙ (stacked_summary m.stack.setting m.stack_move (with_cell_if m.stack.setting m.cell s) ∙ told_summary m.stack.setting m.cell s)
+moved_summary k kind cell m w s =
+    written_summary k.setting k.region kind w (with_stack_moved k.setting m (with_cell_if k.setting cell s))
+    ∙ (stacked_summary k.setting m (with_cell_if k.setting cell s) ∙ ap (λ t. with_aside (aside_behind m t.aside) t) (told_summary k.setting cell s))

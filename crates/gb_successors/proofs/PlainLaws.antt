@@ -120,11 +120,12 @@ Keeps-transfer whole o next sp s low high = record { ctl = refl; bound = refl; i
 
 -- ---- addresses
 
--- the addresses of a read are addresses, and it isn't a word of the stack
+-- the addresses of a read are addresses, and it is no word
 abbrev pub IsPlainRead : AbsRead → Type 0
 IsPlainRead read.Nothing = Unit {0}
 IsPlainRead (read.Byte span) = span.last < 65536
 IsPlainRead read.Top = ⊥
+IsPlainRead (read.Word span) = ⊥
 
 abbrev pub IsPlainWrite : AbsWrite → Type 0
 IsPlainWrite write.Nothing = Unit {0}

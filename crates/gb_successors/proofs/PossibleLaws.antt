@@ -1,7 +1,7 @@
 -- Reducing loses no successor of the machine's own side, whether its accesses are refused or not: there are bytes that its reads
 -- might have given, by which the states behind hold registers.
-use Rattle.std.proofs.Common.{◌≡◌, ℕ, ◌≤◌, Bool, true, false, cond, not, ◌&&◌, ◌==◌, nat_lt, inl, List, length, Option, Some, None, refl, sym, ◌∙◌, ap, subst, arith}
-use Rattle.std.proofs.lemmas.Bool.{eq-eqb}
+use Rattle.std.proofs.Common.{◌≡◌, ℕ, ◌≤◌, Bool, true, false, cond, not, ◌&&◌, ◌==◌, nat_lt, inl, List, length, Option, Some, None, refl, sym, ◌∙◌, ap, subst, arith, ◌<◌, ◌+◌, ◌-◌, ◌%◌, slice_get}
+use Rattle.std.proofs.lemmas.Bool.{eq-eqb, and_parts}
 use Rattle.std.proofs.lemmas.Bool.Decides.{nat_tests}
 use Rattle.gb_ops.specs.declared.machine.Kind.{Kind}
 use Rattle.gb_ops.specs.declared.machine.Region.{Region}
@@ -52,11 +52,11 @@ use Rattle.gb_product.specs.Below.gb_abs_effects.Sides as Flags
 use Rattle.gb_product.specs.Below.gb_abs_effects.Sound.{HoldsRead, IsReadAt}
 use Rattle.gb_product.proofs.Below.gb_abs_effects_laws.CoreLaws.{In-from, byte-of}
 use Rattle.gb_product.proofs.Below.gb_abs_effects_laws.SideLaws.{is_taken-without, is_taken-with}
-use Rattle.gb_code.specs.Below.gb_abs_memory.declared.store.Area.{Area}
-use Rattle.gb_code.specs.Below.gb_abs_memory.declared.store.Area.TheVariants as area
-use Rattle.gb_code.specs.Below.gb_abs_memory.Access.{meets_closed_ram, may_be_closed, is_limited, home_of, val_at, item_or, val_or_item, is_table, table_by, several_by, loaded_val, area_of, stored_core_in, stored_core}
-use Rattle.gb_code.specs.Below.gb_abs_memory.Shown.{known_bank}
-use Rattle.gb_code.specs.Below.gb_abs_memory.Sound.{view}
+use Rattle.gb_abs_memory.specs.declared.store.Area.{Area}
+use Rattle.gb_abs_memory.specs.declared.store.Area.TheVariants as area
+use Rattle.gb_abs_memory.specs.Access.{meets_closed_ram, may_be_closed, is_limited, home_of, val_at, item_or, val_or_item, is_table, table_by, several_by, loaded_val, area_of, stored_core_in, stored_core}
+use Rattle.gb_abs_memory.specs.Shown.{known_bank}
+use Rattle.gb_abs_memory.specs.Sound.{view}
 use Rattle.gb_product.specs.declared.parts.Product.{Product}
 use Rattle.gb_product.specs.Below.gb_pairs.Meaning.{AreBytes}
 use Rattle.gb_product.specs.Below.gb_pairs.Meaning as pair_meaning
@@ -71,6 +71,16 @@ use Rattle.gb_product.specs.Reduced.{product_of, with_values_if, reduced}
 use Rattle.gb_product.proofs.Below.gb_relations_laws.MachineLaws.{effect_of-bytes}
 use Rattle.gb_product.proofs.Below.gb_relations_laws.TransferLaws.{relations_after_kept}
 use Rattle.gb_product.proofs.Below.gb_relations_laws.Below.gb_pairs_laws.ReducedLaws as pair_laws
+use Rattle.std.proofs.lemmas.Option.{same_Some}
+use Rattle.gb_ops.specs.Memory.{Storage}
+use Rattle.gb_domain.specs.LowBits.{no_low_bits}
+use Rattle.gb_product.specs.Below.gb_abs.Meaning.{AreItems}
+use Rattle.gb_product.specs.Below.gb_abs.Span.{IsIn}
+use Rattle.gb_product.specs.Below.gb_abs.Stack.{word_of, last_word}
+use Rattle.gb_product.proofs.Below.gb_abs_laws.LocatedLaws.{AreItems-at}
+use Rattle.gb_successors.specs.Loads.{span_behind}
+use Rattle.gb_successors.proofs.LoadedLaws.{behind_in, extended_word, less_is}
+use Rattle.gb_product.proofs.Below.gb_abs_laws.SpanLaws.{Has-none}
 use Rattle.gb_successors.specs.declared.stacks.StackMove.{StackMove}
 use Rattle.gb_successors.specs.declared.stacks.StackMove.TheVariants as move
 use Rattle.gb_successors.specs.Behind.{starts, written_core, core_behind}
@@ -346,7 +356,7 @@ given_byte c span k e =
         let core : Core = core_at_rest c.product.core in
         let l =
         Loads-by Extended c.stack.setting c.stack.region c.rom (with_core c.state core) v (bits_at c) c.entry c.base x (begun_at c).processor.sp (read.Byte span) (machine_read.Byte a) c.reads
-        k.stands.cartridge (means_rest c k) (said_rest c k) (values_hold c k) k.core.ie k.byte (subst IsReadAt e (read_placed c k)) h (subst (HasRead (bits_at c)) is (read_has c k))
+        k.stands.cartridge (means_rest c k) (said_rest c k) (values_hold c k) k.core.ie k.byte (subst IsReadAt e (read_placed c k)) (subst IsReadAt e (read_placed c k)) h (subst (HasRead (bits_at c)) is (read_has c k))
         (Loads-read c.stack.setting c.rom c.stack.region (with_core c.state core) c.entry c.base x c.reads (begun_at c).processor.sp (read.Byte span) (machine_read.Byte a)
         k.stands.cartridge k.stands.based (means_rest c k) k.core.ie k.byte (subst IsReadAt e (read_placed c k)) h (closed_rest c.rom c.product.core span ∙ closed) (not_limited c.stack.region c.product.core span)) in
         of_byte a (loaded (view c.rom x false) (machine_read.Byte a) c.reads).low is
@@ -354,7 +364,87 @@ given_byte c span k e =
         (told_rest c.stack.setting c.stack.region c.entry.program c.rom v (bits_at c) c.state c.product.core span) l.low)
         (ram_rest c.machine (machine_read.Byte a) _ (Reads-loaded (view c.rom x false) (machine_read.Byte a) c.reads l.faults))
 
+-- a byte of a word that isn't on the stack
+byte_given :
+    (c : Situation) (span : Span) (a : ℕ) → IsTakenIn c → IsIn span a → span.last < 65536
+    → (n : ℕ) × Holds (loaded_in c.stack.setting c.stack.region c.entry.program c.rom (values_of c.product.core.registers c.product.relations.pairs) no_low_bits (with_core c.state c.product.core) span) c.entry n
+byte_given c span a k i small = by (reads_closed_ram c.rom c.product.core (read.Byte span)) refl
+  where
+    v : Values
+    v = values_of c.product.core.registers c.product.relations.pairs
+
+    by : (b : Bool) → reads_closed_ram c.rom c.product.core (read.Byte span) ≡ b → (n : ℕ) × Holds (loaded_in c.stack.setting c.stack.region c.entry.program c.rom v no_low_bits (with_core c.state c.product.core) span) c.entry n
+    by true closed =
+        (0, subst (λ u. Holds u c.entry 0) (sym (closed_told c.stack.setting c.stack.region c.entry.program c.rom v no_low_bits (with_core c.state c.product.core) c.product.core span closed)) (holds_any c.entry 0 (omega arith)))
+    by false closed =
+        let x : MState = at_rest (begun_at c) in
+        let core : Core = core_at_rest c.product.core in
+        let l =
+        Loads-by Extended c.stack.setting c.stack.region c.rom (with_core c.state core) v no_low_bits c.entry c.base x (begun_at c).processor.sp (read.Byte span) (machine_read.Byte a) c.reads
+        k.stands.cartridge (means_rest c k) (said_rest c k) (values_hold c k) k.core.ie k.byte small small i (Has-none a)
+        (Loads-read c.stack.setting c.rom c.stack.region (with_core c.state core) c.entry c.base x c.reads (begun_at c).processor.sp (read.Byte span) (machine_read.Byte a)
+        k.stands.cartridge k.stands.based (means_rest c k) k.core.ie k.byte small i (closed_rest c.rom c.product.core span ∙ closed) (not_limited c.stack.region c.product.core span)) in (
+          (loaded (view c.rom x false) (machine_read.Byte a) c.reads).low,
+          subst (λ u. Holds u c.entry (loaded (view c.rom x false) (machine_read.Byte a) c.reads).low) (told_rest c.stack.setting c.stack.region c.entry.program c.rom v no_low_bits c.state c.product.core span) l.low,
+        )
+
+behind_small : (span : Span) → (span_behind span).last < 65536
+behind_small span = by (nat_lt span.first 0xFFFF && nat_lt span.last 0xFFFF) refl
+  where
+    by : (t : Bool) → (nat_lt span.first 0xFFFF && nat_lt span.last 0xFFFF) ≡ t → (cond {A = Span} t (record { first = span.first + 1; last = span.last + 1; low = no_low_bits }) (record { first = 0; last = 0xFFFF; low = no_low_bits })).last < 65536
+    by true e = let near : span.last < 65535 = less_is span.last 65535 (and_parts (nat_lt span.first 0xFFFF) (nat_lt span.last 0xFFFF) e).1 in omega arith
+    by false e = omega arith
+
+given_word : (c : Situation) (span : Span) → IsTakenIn c → read_at c ≡ read.Word span → IsGiven c
+given_word c span k e =
+    by (Effects.read_of c.row.op (advanced c.machine.processor c.row)) refl (subst (λ r. HoldsRead r (begun_at c).processor.sp (Effects.read_of c.row.op (advanced c.machine.processor c.row))) e (read_holds c k))
+  where
+    small : span.last < 65536
+    small = subst IsReadAt e (read_placed c k)
+
+    word : word_at c ≡ word_by Extended c.stack.setting c.stack.region c.entry.program c.rom (values_of c.product.core.registers c.product.relations.pairs) (bits_at c) (with_core c.state c.product.core) (read.Word span)
+    word = extended_word c.stack.setting.rules c.stack.setting c.stack.region c.entry.program c.rom _ (bits_at c) (with_core c.state c.product.core) (read_at c) (read.Word span) k.extended e
+
+    by : (r : Read) → Effects.read_of c.row.op (advanced c.machine.processor c.row) ≡ r → HoldsRead (read.Word span) (begun_at c).processor.sp r → IsGiven c
+    by machine_read.Nothing is h = absurd h
+    by (machine_read.Byte a) is h = absurd h
+    by (machine_read.Word a) is h =
+        let near = byte_given c span a k h small in
+        let far = byte_given c (span_behind span) ((a + 1) % 65536) k (behind_in span a h small) (behind_small span) in
+        record {
+          low = near.0;
+          high = far.0;
+          given = record {
+            low = subst (λ (w : Halves). Holds w.low c.entry near.0) (sym word) near.1;
+            high = subst (λ (w : Halves). Holds w.high c.entry far.0) (sym word) far.1;
+            reads = subst (λ r. relations.Reads r (ram_at c.machine.storage) near.0) (sym is) tt;
+            taken = taken_by c.row.op (advanced c.machine.processor c.row) (given_at c).low (given_at c).high near.0 far.0 k.taken;
+          };
+        }
+
+parts_of_word : (a b : Option Val) (i : Halves) → word_of a b ≡ Some i → (a ≡ Some i.high) × (b ≡ Some i.low)
+parts_of_word None b i e = cc
+parts_of_word (Some high) None i e = cc
+parts_of_word (Some high) (Some low) i e =
+    let same = same_Some _ _ e in
+    (ap (λ (w : Halves). Some w.high) same, ap (λ (w : Halves). Some w.low) same)
+
+-- the items' own bytes are such
+newest_held :
+    (items : List Val) (i : Halves) (entry : Activation) (top : ℕ) (s : Storage) → last_word items ≡ Some i → AreItems items entry top s
+    → (l : ℕ) × ((h : ℕ) × (Holds i.low entry l × Holds i.high entry h))
+newest_held items i entry top s e are = by (nat_lt (length items) 2) e
+  where
+    by :
+        (b : Bool) → cond b None (word_of (slice_get items (length items - 2)) (slice_get items (length items - 1))) ≡ Some i
+        → (l : ℕ) × ((h : ℕ) × (Holds i.low entry l × Holds i.high entry h))
+    by true e = cc
+    by false e =
+        let p = parts_of_word _ _ i e in
+        (_, (_, (AreItems-at items entry top (length items - 1) s i.low p.1 are, AreItems-at items entry top (length items - 2) s i.high p.0 are)))
+
 given_top : (c : Situation) → IsTakenIn c → read_at c ≡ read.Top → IsGiven c
+unfolding youngest
 given_top c k e = by (nat_lt (length c.state.items) 2) refl
   where
     sp : ℕ
@@ -382,12 +472,9 @@ given_top c k e = by (nat_lt (length c.state.items) 2) refl
         (holds_any c.entry 0 (omega arith)) (holds_any c.entry 0 (omega arith))
     by false few =
         let some : 2 ≤ length c.state.items = grind (arith, nat_tests) in
-        let set : c.state.core.stack_set ≡ true = set_by_items c.state.core.stack_set c.state.items some k.stands.unset in
         let held = top_held c.state (core_at_rest c.product.core) some in
-        let x : MState = at_rest (begun_at c) in
-        let p =
-        Pops-popped c.stack.region (with_core c.state (core_at_rest c.product.core)) c.entry c.base x (view c.rom x false) held.0 c.reads (means_rest c k) refl (k.keeps.stack ∙ set) held.1 k.stands.room k.stands.is_region (inl refl) in
-        of_word held.0 _ _ (word_top c.stack.setting.rules c.stack.setting c.stack.region c.entry.program c.rom _ _ (with_core c.state c.product.core) (read_at c) (Some held.0) e (same_youngest c.state c.product.core (core_at_rest c.product.core) ∙ held.1)) p.low p.high
+        let two = newest_held c.state.items held.0 c.entry c.base c.machine.storage held.1 k.stands.means.parts.items in
+        of_word held.0 two.0 two.1.0 (word_top c.stack.setting.rules c.stack.setting c.stack.region c.entry.program c.rom _ _ (with_core c.state c.product.core) (read_at c) (Some held.0) e (same_youngest c.state c.product.core (core_at_rest c.product.core) ∙ held.1)) two.1.1.0 two.1.1.1
 
 is_given : (c : Situation) → IsTakenIn c → IsGiven c
 is_given c k = by (read_at c) refl
@@ -395,6 +482,7 @@ is_given c k = by (read_at c) refl
     by : (r : AbsRead) → read_at c ≡ r → IsGiven c
     by read.Nothing e = given_nothing c k e
     by (read.Byte span) e = given_byte c span k e
+    by (read.Word span) e = given_word c span k e
     by read.Top e = given_top c k e
 
 -- ---- registers that the states behind hold
@@ -452,6 +540,7 @@ moved_registers move.Stay r core n h = h
 moved_registers (move.Push w) r core n h = h
 moved_registers (move.Take k) r core n h = h
 moved_registers (move.Append k) r core n h = h
+moved_registers (move.Aside b) r core n h = h
 moved_registers move.Lost r core n h = h
 
 In-behind : (whole : Bool) (k : Kind) (m : StackMove) (cycles : ℕ) (w : AbsWrite) (core : Core) (r : Register) (n : ℕ) → In (get r core.registers) n → In (get r (core_behind whole k m cycles w core).registers) n

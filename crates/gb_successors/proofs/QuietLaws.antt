@@ -11,10 +11,19 @@ use Rattle.gb_domain.specs.Types.{AbsState}
 use Rattle.gb_product.specs.declared.parts.Branch.{Branch}
 use Rattle.gb_product.specs.declared.parts.Product.{Product}
 use Rattle.gb_product.specs.Reduced.{product_of, reduced}
+use Rattle.gb_domain.specs.declared.pairs.Bounds.{Bounds}
+use Rattle.gb_domain.specs.Summaries.{SummaryParts}
+use Rattle.std.specs.Prelude.{◌&&◌, ◌⊎◌, is_some}
+use Rattle.std.proofs.Common.{sym, ◌∙◌, ap, refl}
+use Rattle.gb_successors.specs.declared.stacks.StackMove.{StackMove}
+use Rattle.gb_successors.specs.declared.stacks.StackMove.TheVariants as move
+use Rattle.gb_successors.specs.Stacks.{around_of}
+use Rattle.gb_successors.specs.Summaries.{puts_aside}
+use Rattle.gb_successors.proofs.AsideLaws.{left_where}
 use Rattle.gb_successors.specs.declared.stacks.Stack.{Stack}
 use Rattle.gb_successors.specs.Behind.{ended, with_cell_if}
 use Rattle.gb_successors.specs.Sound.{IsOneOf}
-use Rattle.gb_successors.specs.Successors.{summary_behind, taken_successor, untaken_successor, with_product, reduced_successor, staying_successor, may_stay, stays, product_before, taken_from, not_taken_from, successors_of}
+use Rattle.gb_successors.specs.Successors.{summary_behind, taken_successor, untaken_successor, with_product, reduced_successor, staying_successor, may_stay, stays, product_before, taken_from, not_taken_from, successors_of, taken_move}
 use Rattle.gb_successors.specs.Way.{Successor}
 use Rattle.gb_successors.proofs.SilentLaws.{silent_by}
 use Rattle.gb_successors.proofs.SimpleLaws.{behind_row}
@@ -50,11 +59,27 @@ quiet_stays : (row : Row) (a : ℕ) (s : AbsState) (w : Successor) → s.summary
 unfolding stays
 quiet_stays row a s w q e = quiet_staying (may_stay row.op s.core) a s w q e
 
+not_put : (m : StackMove) → ((b : Bounds) → m ≡ move.Aside b → ⊥) → puts_aside m ≡ false
+not_put (move.Aside b) h = absurd (h b refl)
+not_put m h = refl
+
+-- by the rules of versions 1 to 3 SP isn't put aside
+nowhere : (z : Setting) (s : AbsState) → z.is_whole ≡ false → s.summary ≡ no_summary → ((around_of z s).may_leave ≡ true) ⊎ (is_some (around_of z s).aside ≡ true) → ⊥
+unfolding around_of
+nowhere z s older q (inl may) = by z.is_whole _ older may
+  where
+    by : (b c : Bool) → b ≡ false → (b && c) ≡ true → ⊥
+    by true c e h = cc
+    by false c e h = cc
+nowhere z s older q (inr some) = absurd (let bad : false ≡ true = sym (ap (λ (m : SummaryParts). is_some m.aside) q) ∙ some in cc)
+
 quiet_taken :
     (k : Stack) (program : Program) (rom : List ℕ) (row : Row) (next : ℕ) (s : AbsState) (b : Branch)
-    → program.kind ≡ kind.Rom → s.summary ≡ no_summary → IsQuiet (taken_successor k program rom row next s b)
-unfolding taken_successor summary_behind
-quiet_taken k program rom row next s b unknown q = silent_by k.setting.rules k program row.op s (product_of b.core b.relations) _ _ unknown q
+    → k.setting.is_whole ≡ false → program.kind ≡ kind.Rom → s.summary ≡ no_summary → IsQuiet (taken_successor k program rom row next s b)
+unfolding taken_successor summary_behind taken_move
+quiet_taken k program rom row next s b older unknown q =
+    silent_by k.setting.rules k program row.op s (product_of b.core b.relations) _ _ _ unknown
+    (not_put _ (λ bounds e. nowhere k.setting s older q (left_where k (around_of k.setting s) row.op _ _ bounds e))) q
 
 told_quietly : (z : Setting) (cell : Option Cell) (s : AbsState) → s.summary ≡ no_summary → (with_cell_if z cell s).summary ≡ no_summary
 unfolding with_cell_if
@@ -68,13 +93,13 @@ quiet_untaken k row next s b q = told_quietly k.setting b.cell (record s { core 
 -- each of them
 pub quiet_successor :
     (k : Stack) (program : Program) (rom : List ℕ) (row : Row) (a : ℕ) (s : AbsState) (t : Successor)
-    → program.kind ≡ kind.Rom → s.summary ≡ no_summary → IsOneOf (successors_of k program rom row a s) t → t.state.summary ≡ no_summary
+    → k.setting.is_whole ≡ false → program.kind ≡ kind.Rom → s.summary ≡ no_summary → IsOneOf (successors_of k program rom row a s) t → t.state.summary ≡ no_summary
 unfolding successors_of
-quiet_successor k program rom row a s t unknown q (inl e) =
+quiet_successor k program rom row a s t older unknown q (inl e) =
     quiet_ways (taken_from k program rom row (behind_row a row) s) (product_before k.setting.rules s) t
-    (λ p. quiet_sides k.setting.rules (taken_successor k program rom row (behind_row a row) s) _ t (λ b. quiet_taken k program rom row (behind_row a row) s b unknown q)) e
-quiet_successor k program rom row a s t unknown q (inr (inl e)) =
+    (λ p. quiet_sides k.setting.rules (taken_successor k program rom row (behind_row a row) s) _ t (λ b. quiet_taken k program rom row (behind_row a row) s b older unknown q)) e
+quiet_successor k program rom row a s t older unknown q (inr (inl e)) =
     quiet_ways (not_taken_from k program row (behind_row a row) s) (product_before k.setting.rules s) t
     (λ p. quiet_sides k.setting.rules (untaken_successor k row (behind_row a row) s) _ t (λ b. quiet_untaken k row (behind_row a row) s b q)) e
-quiet_successor k program rom row a s t unknown q (inr (inr e)) =
+quiet_successor k program rom row a s t older unknown q (inr (inr e)) =
     quiet_ways (λ p. stays row a s) (product_before k.setting.rules s) t (λ p. quiet_stays row a s t q) e

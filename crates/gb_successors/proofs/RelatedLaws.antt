@@ -33,8 +33,8 @@ use Rattle.gb_product.specs.Below.gb_abs_effects.declared.writes.AbsWrite.TheVar
 use Rattle.gb_product.specs.Below.gb_abs_effects.Sound as effects
 use Rattle.gb_product.specs.Below.gb_abs_effects.Sound.{IsWrite}
 use Rattle.gb_product.proofs.Below.gb_abs_effects_laws.RangeLaws.{transfer_inhabited}
-use Rattle.gb_code.specs.Below.gb_abs_memory.Access.{stored_state}
-use Rattle.gb_code.proofs.Below.gb_abs_memory_laws.AfterStoreLaws.{IsCore-stored_state}
+use Rattle.gb_abs_memory.specs.Access.{stored_state}
+use Rattle.gb_abs_memory.proofs.AfterStoreLaws.{IsCore-stored_state}
 use Rattle.gb_product.specs.Below.gb_pairs.Meaning.{AreBytes, Holds as HoldValues}
 use Rattle.gb_product.specs.Below.gb_copies.Meaning.{HoldOneByte}
 use Rattle.gb_product.specs.Below.gb_relations.Meaning.{HoldRelations}
@@ -51,6 +51,7 @@ use Rattle.gb_successors.specs.Refused.{meets_closed, meets_oam_transfer}
 use Rattle.gb_successors.specs.Successors.{related_successor}
 use Rattle.gb_successors.specs.Way.{Successor}
 use Rattle.gb_successors.specs.Sound.{is_followed, IsAllowed, IsStackFit, LeadsSimply, LeadsTo, LeadsParts}
+use Rattle.gb_successors.proofs.AroundLaws.{IsSpWithin-aside}
 use Rattle.gb_successors.proofs.SaidLaws.{LeadsRelated}
 use Rattle.gb_successors.proofs.SimpleLaws.{behind_row, low_of, high_of, abs_effect, with_stack_of, simple_parts}
 use Rattle.gb_successors.proofs.SuccessorLaws.{begun, given, effect, left_by, is_word, IsWord-sp, state_is, executed_taken, IsTaken, is_write, leads_simply}
@@ -73,7 +74,7 @@ IsAllowed-parts z rom region ranges s base r t h =
     fit Extended w k = k
     fit Simple (target.At a) k = k
     fit Simple (target.Call a) k = k
-    fit Simple target.Return k = record { stack_set = k.stack_set; held = k.held; return_word = k.return_word }
+    fit Simple target.Return k = record { located = k.located; held = k.held; return_word = k.return_word }
     fit Simple (target.Main a) k = k
     fit Simple target.Unknown k = k
     fit Simple target.Lost k = k
@@ -84,7 +85,7 @@ pub LeadsSimply-related :
 unfolding pushed
 LeadsSimply-related region (target.At a) r t entry base x y h = record { means = MeansParts-related r t.state entry base y h.means; goes = h.goes; room = h.room }
 LeadsSimply-related region (target.Call a) r t entry base x y h =
-    record { means = MeansParts-related r _ entry base y h.means; next = h.next; goes = h.goes; stack_set = h.stack_set; placed = h.placed }
+    record { means = MeansParts-related r _ entry base y h.means; next = h.next; goes = h.goes; located = h.located; placed = h.placed }
 LeadsSimply-related region target.Return r t entry base x y h = record { means = MeansParts-related r t.state entry (base + 2) y h.means; goes = h.goes }
 LeadsSimply-related region (target.Main a) r t entry base x y h = tt
 LeadsSimply-related region target.Unknown r t entry base x y h = tt
@@ -153,7 +154,7 @@ IsCore-taken z rom region ranges row a s entry base x reads c k =
     core_of : IsTaken z rom region ranges row a s entry base x reads c → IsCore (abs_effect z rom row a s c).core
     core_of k =
         let word = is_word z rom s c _ k.core.ie k.stands.vals k.stands.items k.stands.cartridge.bytes in
-        (transfer_inhabited z.is_whole row.op (behind_row a row) (sp_halves z s) c (low_of z rom row s c) (high_of z rom row s c) (abs_effect z rom row a s c) refl k.operands (omega arith) k.core word.low word.high (IsWord-sp z s entry base x k.stands.based k.stands.means.parts)).core
+        (transfer_inhabited z.is_whole row.op (behind_row a row) (sp_halves z s) c (low_of z rom row s c) (high_of z rom row s c) (abs_effect z rom row a s c) refl k.operands (omega arith) k.core word.low word.high (IsWord-sp z s entry base x k.stands.based k.stands.means.parts (IsSpWithin-aside s.summary.aside x.processor k.stands.means.summary.aside))).core
 
 -- ---- taken
 

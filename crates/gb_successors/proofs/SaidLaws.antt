@@ -1,5 +1,5 @@
 -- Where a successor leads doesn't hang on what its states say of the whole program; what they say holds by itself.
-use Rattle.std.proofs.Common.{◌≡◌, ℕ, ◌+◌, true, List}
+use Rattle.std.proofs.Common.{◌≡◌, ℕ, ◌+◌, true, List, Bool, Option, sym, ◌∙◌, ap}
 use Rattle.gb_ops.specs.declared.machine.Region.{Region}
 use Rattle.gb_ops.specs.Play.{MState}
 use Rattle.gb_domain.specs.declared.rules.Rules.{Rules}
@@ -15,7 +15,9 @@ use Rattle.gb_product.specs.Below.gb_abs.Storage.{peek}
 use Rattle.gb_product.specs.Below.gb_abs_effects.declared.targets.Target.{Target}
 use Rattle.gb_product.specs.Below.gb_abs_effects.declared.targets.Target.TheVariants as target
 use Rattle.gb_product.specs.Meaning.{AreRelated, IsSummarized}
-use Rattle.gb_code.specs.Below.gb_abs_memory.Kept.{IsKept}
+use Rattle.gb_abs_memory.specs.Kept.{IsKept}
+use Rattle.gb_domain.specs.declared.pairs.Bounds.{Bounds}
+use Rattle.gb_product.specs.Below.gb_abs.Meaning.{located_by}
 use Rattle.gb_successors.specs.Behind.{with_summary}
 use Rattle.gb_successors.specs.Refused.{meets_closed, meets_oam_transfer}
 use Rattle.gb_successors.specs.Sound.{IsStackFit, IsAllowed, is_followed, LeadsSimply, LeadsWidely, LeadsTo, Leads}
@@ -35,45 +37,50 @@ Leads-summarized z region ranges t entry base x y h said = record { to = h.to; k
 
 -- ---- something else is said
 
-MeansParts-said : (m : SummaryParts) (s : AbsState) (entry : Activation) (base : ℕ) (x : MState) → MeansParts s entry base x → MeansParts (with_summary m s) entry base x
-MeansParts-said m s entry base x h = record { core = h.core; memory = h.memory; sp = h.sp; stack = h.stack; items = h.items; cells = h.cells }
+-- which tells the same of where SP is put aside
+same_located : (a b : Option Bounds) (set : Bool) → a ≡ b → located_by b set ≡ true → located_by a set ≡ true
+same_located a b set e h = ap (λ o. located_by o set) e ∙ h
+
+MeansParts-said : (m : SummaryParts) (s : AbsState) (entry : Activation) (base : ℕ) (x : MState) → m.aside ≡ s.summary.aside → MeansParts s entry base x → MeansParts (with_summary m s) entry base x
+MeansParts-said m s entry base x same h =
+    record { core = h.core; memory = h.memory; sp = h.sp; stack = λ e. h.stack (same_located s.summary.aside m.aside s.core.stack_set (sym same) e); items = h.items; cells = h.cells }
 
 LeadsSimply-said :
     (region : Region) (w : Target) (m : SummaryParts) (t : Successor) (entry : Activation) (base : ℕ) (x y : MState)
-    → LeadsSimply region w t entry base x y → LeadsSimply region w (said_successor m t) entry base x y
+    → m.aside ≡ t.state.summary.aside → LeadsSimply region w t entry base x y → LeadsSimply region w (said_successor m t) entry base x y
 unfolding pushed
-LeadsSimply-said region (target.At a) m t entry base x y h = record { means = MeansParts-said m t.state entry base y h.means; goes = h.goes; room = h.room }
-LeadsSimply-said region (target.Call a) m t entry base x y h =
-    record { means = MeansParts-said m _ entry base y h.means; next = h.next; goes = h.goes; stack_set = h.stack_set; placed = h.placed }
-LeadsSimply-said region target.Return m t entry base x y h = record { means = MeansParts-said m t.state entry (base + 2) y h.means; goes = h.goes }
-LeadsSimply-said region (target.Main a) m t entry base x y h = tt
-LeadsSimply-said region target.Unknown m t entry base x y h = tt
-LeadsSimply-said region target.Lost m t entry base x y h = tt
+LeadsSimply-said region (target.At a) m t entry base x y same h = record { means = MeansParts-said m t.state entry base y same h.means; goes = h.goes; room = h.room }
+LeadsSimply-said region (target.Call a) m t entry base x y same h =
+    record { means = MeansParts-said m _ entry base y same h.means; next = h.next; goes = h.goes; located = same_located m.aside t.state.summary.aside t.state.core.stack_set same h.located; placed = h.placed }
+LeadsSimply-said region target.Return m t entry base x y same h = record { means = MeansParts-said m t.state entry (base + 2) y same h.means; goes = h.goes }
+LeadsSimply-said region (target.Main a) m t entry base x y same h = tt
+LeadsSimply-said region target.Unknown m t entry base x y same h = tt
+LeadsSimply-said region target.Lost m t entry base x y same h = tt
 
 LeadsWidely-said :
     (z : Setting) (region : Region) (w : Target) (m : SummaryParts) (t : Successor) (entry : Activation) (base : ℕ) (y : MState)
-    → LeadsWidely z region w t entry base y → LeadsWidely z region w (said_successor m t) entry base y
-LeadsWidely-said z region (target.At a) m t entry base y h = record { means = MeansParts-said m t.state entry base y h.means; goes = h.goes; room = h.room }
-LeadsWidely-said z region (target.Call a) m t entry base y h =
-    record { means = MeansParts-said m t.state entry base y h.means; goes = h.goes; room = h.room; stack_set = h.stack_set; next = h.next; top = h.top; placed = h.placed }
-LeadsWidely-said z region target.Return m t entry base y h = record { means = MeansParts-said m t.state entry base y h.means; goes = h.goes; room = h.room; procedure = h.procedure }
-LeadsWidely-said z region (target.Main a) m t entry base y h =
-    record { means = λ other same. MeansParts-said m t.state other (region.last + 1) y (h.means other same); goes = h.goes; room = h.room }
-LeadsWidely-said z region target.Unknown m t entry base y h = tt
-LeadsWidely-said z region target.Lost m t entry base y h = tt
+    → m.aside ≡ t.state.summary.aside → LeadsWidely z region w t entry base y → LeadsWidely z region w (said_successor m t) entry base y
+LeadsWidely-said z region (target.At a) m t entry base y same h = record { means = MeansParts-said m t.state entry base y same h.means; goes = h.goes; room = h.room }
+LeadsWidely-said z region (target.Call a) m t entry base y same h =
+    record { means = MeansParts-said m t.state entry base y same h.means; goes = h.goes; room = h.room; located = same_located m.aside t.state.summary.aside t.state.core.stack_set same h.located; next = h.next; top = h.top; placed = h.placed }
+LeadsWidely-said z region target.Return m t entry base y same h = record { means = MeansParts-said m t.state entry base y same h.means; goes = h.goes; room = h.room; procedure = h.procedure }
+LeadsWidely-said z region (target.Main a) m t entry base y same h =
+    record { means = λ other part. MeansParts-said m t.state other (region.last + 1) y same (h.means other part); goes = h.goes; room = h.room }
+LeadsWidely-said z region target.Unknown m t entry base y same h = tt
+LeadsWidely-said z region target.Lost m t entry base y same h = tt
 
 LeadsTo-said :
     (r : Rules) (z : Setting) (region : Region) (w : Target) (m : SummaryParts) (t : Successor) (entry : Activation) (base : ℕ) (x y : MState)
-    → LeadsTo r z region w t entry base x y → LeadsTo r z region w (said_successor m t) entry base x y
-LeadsTo-said Simple z region w m t entry base x y h = LeadsSimply-said region w m t entry base x y h
-LeadsTo-said Extended z region w m t entry base x y h = LeadsWidely-said z region w m t entry base y h
+    → m.aside ≡ t.state.summary.aside → LeadsTo r z region w t entry base x y → LeadsTo r z region w (said_successor m t) entry base x y
+LeadsTo-said Simple z region w m t entry base x y same h = LeadsSimply-said region w m t entry base x y same h
+LeadsTo-said Extended z region w m t entry base x y same h = LeadsWidely-said z region w m t entry base y same h
 
 pub Leads-said :
     (z : Setting) (region : Region) (ranges : List Range) (m : SummaryParts) (t : Successor) (entry : Activation) (base : ℕ) (x y : MState)
-    → LeadsRelated z region ranges t entry base x y → HoldSummary entry.program t.state.cells m y.processor (peek y.storage) y.storage.banks
+    → m.aside ≡ t.state.summary.aside → LeadsRelated z region ranges t entry base x y → HoldSummary entry.program t.state.cells m y.processor (peek y.storage) y.storage.banks
     → Leads z region ranges (said_successor m t) entry base x y
-Leads-said z region ranges m t entry base x y h said =
-    record { to = LeadsTo-said z.rules z region t.target m t entry base x y h.to; kept = h.kept; related = h.related; summary = said }
+Leads-said z region ranges m t entry base x y same h said =
+    record { to = LeadsTo-said z.rules z region t.target m t entry base x y same h.to; kept = h.kept; related = h.related; summary = said }
 
 pub IsAllowed-said :
     (z : Setting) (rom : List ℕ) (region : Region) (ranges : List Range) (s : AbsState) (base : ℕ) (m : SummaryParts) (t : Successor)
@@ -86,7 +93,7 @@ IsAllowed-said z rom region ranges s base m t h =
     fit Extended w k = k
     fit Simple (target.At a) k = k
     fit Simple (target.Call a) k = k
-    fit Simple target.Return k = record { stack_set = k.stack_set; held = k.held; return_word = k.return_word }
+    fit Simple target.Return k = record { located = k.located; held = k.held; return_word = k.return_word }
     fit Simple (target.Main a) k = k
     fit Simple target.Unknown k = k
     fit Simple target.Lost k = k

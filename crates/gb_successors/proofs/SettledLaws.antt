@@ -34,6 +34,10 @@ off_after : (i : Ime) → i ≡ ime.Off → ime_after i ≡ ime.Off
 unfolding ime_after
 off_after i e = ap ime_after e
 
+pub off_begun : (row : Row) (p : Processor) → p.ime ≡ ime.Off → (advanced p row).ime ≡ ime.Off
+unfolding advanced
+off_begun row p e = off_after p.ime e
+
 -- as an instruction begins its work
 pub HoldSummary-begun :
     (program : Program) (cells : List Cell) (s : SummaryParts) (row : Row) (x : MState)

@@ -46,8 +46,10 @@ use Rattle.gb_product.specs.Below.gb_abs_effects.declared.writes.AbsWrite.{AbsWr
 use Rattle.gb_product.specs.Below.gb_abs.Located.{sp_bounds}
 use Rattle.gb_product.specs.Below.gb_relations.Transfer.{values_of}
 use Rattle.gb_product.specs.declared.parts.Product.{Product}
+use Rattle.gb_successors.specs.declared.stacks.StackMove.{StackMove}
+use Rattle.gb_successors.specs.declared.stacks.StackMove.TheVariants as move
 use Rattle.gb_successors.specs.declared.stacks.Stack.{Stack}
-use Rattle.gb_successors.specs.Summaries.{aside_kept, keeps_aside, stored_by, tells_nothing, stays_silent, summary_by}
+use Rattle.gb_successors.specs.Summaries.{aside_behind, with_aside, puts_aside, stored_by, tells_nothing, stays_silent, summary_by}
 
 -- ---- what is silent
 
@@ -223,37 +225,36 @@ unfolding summary_after
 silent_after program region cells o sp v b w e =
     ap (after_registers region o sp v) (silent_write program region cells o b w e) ∙ silent_registers region o sp v
 
-silent_aside : (o : Op) → aside_kept o no_summary ≡ no_summary
-silent_aside o = by (keeps_aside o)
-  where
-    by : (b : Bool) → record no_summary { aside = cond b None None } ≡ no_summary
-    by true = refl
-    by false = refl
+silent_aside : (m : StackMove) → puts_aside m ≡ false → aside_behind m None ≡ None
+silent_aside (move.Aside b) h = cc
+silent_aside m h = refl
 
 -- by any rules
 pub silent_by :
-    (rules : Rules) (k : Stack) (program : Program) (o : Op) (s : AbsState) (p : Product) (what : AbsWrite) (cells : List Cell)
-    → program.kind ≡ kind.Rom → s.summary ≡ no_summary → summary_by rules k program o s p what cells ≡ no_summary
+    (rules : Rules) (k : Stack) (program : Program) (o : Op) (s : AbsState) (p : Product) (m : StackMove) (what : AbsWrite) (cells : List Cell)
+    → program.kind ≡ kind.Rom → puts_aside m ≡ false → s.summary ≡ no_summary → summary_by rules k program o s p m what cells ≡ no_summary
 unfolding summary_by
-silent_by Simple k program o s p what cells e quiet = refl
-silent_by Extended k program o s p what cells e quiet =
+silent_by Simple k program o s p m what cells e none quiet = refl
+silent_by Extended k program o s p m what cells e none quiet =
     let sp = sp_bounds k.setting s in
     let values = values_of p.core.registers p.relations.pairs in
     let stores = stored_by o p.core.registers what in
-    ap (summary_after program k.region cells o sp values p.relations.byte stores) (ap (aside_kept o) quiet ∙ silent_aside o)
-    ∙ silent_after program k.region cells o sp values p.relations.byte stores e
+    ap (λ (t : SummaryParts). with_aside (aside_behind m t.aside) (summary_after program k.region cells o sp values p.relations.byte stores (with_aside None t))) quiet
+    ∙ (ap (λ a. with_aside a (summary_after program k.region cells o sp values p.relations.byte stores no_summary)) (silent_aside m none)
+    ∙ ap (with_aside None) (silent_after program k.region cells o sp values p.relations.byte stores e))
 
-silent_simply : (k : Stack) (program : Program) (o : Op) (s : AbsState) (p : Product) (what : AbsWrite) (cells : List Cell) → summary_by Simple k program o s p what cells ≡ no_summary
+silent_simply : (k : Stack) (program : Program) (o : Op) (s : AbsState) (p : Product) (m : StackMove) (what : AbsWrite) (cells : List Cell) → summary_by Simple k program o s p m what cells ≡ no_summary
 unfolding summary_by
-silent_simply k program o s p what cells = refl
+silent_simply k program o s p m what cells = refl
 
 pub silent_behind :
-    (rules : Rules) (k : Stack) (program : Program) (o : Op) (s : AbsState) (p : Product) (what : AbsWrite) (cells : List Cell)
-    → stays_silent rules program s.summary ≡ true → summary_by rules k program o s p what cells ≡ s.summary
+    (rules : Rules) (k : Stack) (program : Program) (o : Op) (s : AbsState) (p : Product) (m : StackMove) (what : AbsWrite) (cells : List Cell)
+    → stays_silent rules program m s.summary ≡ true → summary_by rules k program o s p m what cells ≡ s.summary
 unfolding stays_silent
-silent_behind rules k program o s p what cells h =
-    let both = both_of (tells_nothing rules program.kind) (is_silent s.summary) h in
-    by rules both.0 (silent_is s.summary both.1)
+silent_behind rules k program o s p m what cells h =
+    let both = both_of (tells_nothing rules program.kind) (not (puts_aside m) && is_silent s.summary) h in
+    let more = both_of (not (puts_aside m)) (is_silent s.summary) both.1 in
+    by rules both.0 (not_of (puts_aside m) more.0) (silent_is s.summary more.1)
   where
     rom : (q : Kind) → tells_nothing Extended q ≡ true → q ≡ kind.Rom
     rom kind.Rom e = refl
@@ -261,6 +262,6 @@ silent_behind rules k program o s p what cells h =
     rom kind.Mbc3 e = cc
     rom kind.Mbc5 e = cc
 
-    by : (r : Rules) → tells_nothing r program.kind ≡ true → s.summary ≡ no_summary → summary_by r k program o s p what cells ≡ s.summary
-    by Simple e quiet = silent_simply k program o s p what cells ∙ sym quiet
-    by Extended e quiet = silent_by Extended k program o s p what cells (rom program.kind e) quiet ∙ sym quiet
+    by : (r : Rules) → tells_nothing r program.kind ≡ true → puts_aside m ≡ false → s.summary ≡ no_summary → summary_by r k program o s p m what cells ≡ s.summary
+    by Simple e none quiet = silent_simply k program o s p m what cells ∙ sym quiet
+    by Extended e none quiet = silent_by Extended k program o s p m what cells (rom program.kind e) none quiet ∙ sym quiet

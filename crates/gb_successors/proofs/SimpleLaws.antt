@@ -33,9 +33,11 @@ use Rattle.gb_product.specs.Below.gb_abs_effects.declared.writes.AbsWrite.TheVar
 use Rattle.gb_product.specs.Below.gb_abs_effects.Accesses.{read_of}
 use Rattle.gb_product.specs.Below.gb_abs_effects.Targets.{target_of}
 use Rattle.gb_product.specs.Below.gb_abs_effects.Transfer.{transfer}
+use Rattle.gb_product.specs.Below.gb_relations.PointedBits.{known_bits}
 use Rattle.gb_product.specs.Below.gb_relations.Pointers.{pointer_bounds, known_carry}
 use Rattle.gb_product.specs.Below.gb_relations.Transfer.{values_of}
 use Rattle.gb_product.specs.declared.parts.Product.{Product}
+use Rattle.gb_successors.specs.declared.stacks.Around.{Around}
 use Rattle.gb_successors.specs.declared.stacks.Stack.{Stack}
 use Rattle.gb_successors.specs.declared.stacks.StackMove.{StackMove}
 use Rattle.gb_successors.specs.declared.stacks.StackMove.TheVariants as move
@@ -44,9 +46,10 @@ use Rattle.gb_successors.specs.Loads.{read_word, word_by}
 use Rattle.gb_ops.specs.Pointers.{pointer_of}
 use Rattle.gb_successors.specs.Summaries.{pointed_bits}
 use Rattle.gb_successors.specs.Refined.{cut_read, cut_write, refined, refined_target}
-use Rattle.gb_successors.specs.Stacks.{set_to, extended, stack_move, pushed_if_room, set_if_room, with_stack_moved, moved_core}
-use Rattle.gb_successors.specs.Successors.{pointer_in, read_in, word_in, effect_in, taken_parts}
+use Rattle.gb_successors.specs.Stacks.{around_of, aside_if, popped_by, set_to, extended, stack_move, pushed_if_room, set_if_room, with_aside, with_stack_moved, moved_core}
+use Rattle.gb_successors.specs.Successors.{pointer_in, read_in, word_in, effect_in, taken_parts, bits_in}
 use Rattle.gb_successors.specs.Way.{Successor}
+use Rattle.gb_successors.proofs.AroundLaws.{around_simply}
 use Rattle.gb_successors.proofs.MovedLaws.{written_by}
 
 -- ---- what these rules make of an instruction
@@ -74,7 +77,7 @@ abs_effect z rom row a s c = effect_at z rom row (behind_row a row) s c
 
 -- LD SP,n16 sets the stack, with nothing on it; PUSH pushes what it writes, and POP pops; all else leaves it
 unfoldable pub with_stack_of : Setting → Op → AbsWrite → AbsState → AbsState
-with_stack_of z (op.LoadPair pair.Sp w) what s = record s { core = record s.core { stack_set = true }; items = [] }
+with_stack_of z (op.LoadPair pair.Sp w) what s = record s { core = record s.core { stack_set = true }; summary = record s.summary { aside = None }; items = [] }
 with_stack_of z (op.Push from) (write.Push high low) s = pushed_if_room z (record { high = high; low = low }) s
 with_stack_of z (op.Pop to) what s = popped s
 with_stack_of z _ what s = s
@@ -103,18 +106,24 @@ unfolding known_carry
 carry_none Simple o sp vals s h = refl
 carry_none Extended o sp vals s h = absurd cc
 
+bits_none : (r : Rules) (whole : Bool) (o : Op) (vals : Registers Val) → r ≡ Simple → known_bits r whole o vals ≡ None
+unfolding known_bits
+bits_none Simple whole o vals h = refl
+bits_none Extended whole o vals h = absurd cc
+
 read_whole : (r : AbsRead) → cut_read None r ≡ r
 read_whole (read.Byte span) = refl
 read_whole read.Nothing = refl
 read_whole read.Top = refl
+read_whole (read.Word span) = refl
 
-write_whole : (w : AbsWrite) → cut_write None w ≡ w
+write_whole : (w : AbsWrite) → cut_write None None w ≡ w
 write_whole (write.Byte span v) = refl
 write_whole (write.Word a low high) = refl
 write_whole (write.Push high low) = refl
 write_whole write.Nothing = refl
 
-refined_whole : (e : AbsEffect) → refined None None e ≡ e
+refined_whole : (e : AbsEffect) → refined None None None e ≡ e
 unfolding refined
 refined_whole e = ap (λ w. record e { write = w }) (write_whole e.write)
 
@@ -149,11 +158,11 @@ none_taken items =
     let none : 0 - length items ≡ 0 = omega arith in
     rw none refl
 
-set_empty : (z : Setting) (s : AbsState) (c : Core) → moved_with z (move.Set 0) s c ≡ record s { core = record c { stack_set = true }; items = [] }
+set_empty : (z : Setting) (s : AbsState) (c : Core) → moved_with z (move.Set 0) s c ≡ record s { core = record c { stack_set = true }; summary = record s.summary { aside = None }; items = [] }
 unfolding with_stack_moved moved_core set_if_room resized
 set_empty z s c =
-    ap (λ b. with_core (cond b s (resized 0 s)) (record c { stack_set = true })) (some_room z.rules)
-    ∙ ap (λ (items : List Val). record s { core = record c { stack_set = true }; items = items }) (none_taken s.items)
+    ap (λ b. with_core (cond b (with_aside None s) (resized 0 (with_aside None s))) (record c { stack_set = true })) (some_room z.rules)
+    ∙ ap (λ (items : List Val). record s { core = record c { stack_set = true }; summary = record s.summary { aside = None }; items = items }) (none_taken s.items)
 
 pushed_with : (z : Setting) (i : Halves) (s : AbsState) (c : Core) → with_core (pushed_if_room z i s) c ≡ pushed_if_room z i (with_core s c)
 unfolding pushed_if_room pushed
@@ -168,34 +177,34 @@ unfolding with_stack_moved moved_core
 moved_still z m s c e = ap (λ n. moved_with z n s c) e
 
 moved_simply :
-    (k : Stack) (o : Op) (w : AbsWrite) (s : AbsState) (c : Core) → k.setting.rules ≡ Simple
-    → moved_with k.setting (stack_move k o w None) s c ≡ with_stack_of k.setting o w (with_core s c)
+    (k : Stack) (g : Around) (o : Op) (w : AbsWrite) (s : AbsState) (c : Core) → k.setting.rules ≡ Simple
+    → moved_with k.setting (stack_move k g o w None) s c ≡ with_stack_of k.setting o w (with_core s c)
 unfolding stack_move with_stack_of with_stack_moved moved_core without_newest popped
-moved_simply k (op.LoadPair pair.Sp a) w s c h = ap (λ m. moved_with k.setting m s c) (set_simply k.setting.rules k a h) ∙ set_empty k.setting s c
-moved_simply k (op.LoadPair pair.Bc a) w s c h = refl
-moved_simply k (op.LoadPair pair.De a) w s c h = refl
-moved_simply k (op.LoadPair pair.Hl a) w s c h = refl
-moved_simply k (op.Push from) (write.Push high low) s c h = pushed_with k.setting (record { high = high; low = low }) s c
-moved_simply k (op.Push from) (write.Byte span v) s c h = refl
-moved_simply k (op.Push from) (write.Word a low high) s c h = refl
-moved_simply k (op.Push from) write.Nothing s c h = refl
-moved_simply k (op.Pop to) w s c h = refl
-moved_simply k (op.IncrementPair pair.Sp) w s c h = moved_still k.setting _ s c (no_extended k.setting.rules _ h)
-moved_simply k (op.IncrementPair pair.Bc) w s c h = refl
-moved_simply k (op.IncrementPair pair.De) w s c h = refl
-moved_simply k (op.IncrementPair pair.Hl) w s c h = refl
-moved_simply k (op.DecrementPair pair.Sp) w s c h = moved_still k.setting _ s c (no_extended k.setting.rules _ h)
-moved_simply k (op.DecrementPair pair.Bc) w s c h = refl
-moved_simply k (op.DecrementPair pair.De) w s c h = refl
-moved_simply k (op.DecrementPair pair.Hl) w s c h = refl
-moved_simply k (op.AddSp e8) w s c h = moved_still k.setting _ s c (no_extended k.setting.rules _ h)
-moved_simply k (op.CallIf condition a) w s c h = moved_still k.setting _ s c (no_extended k.setting.rules _ h)
-moved_simply k (op.Call a) w s c h = moved_still k.setting _ s c (no_extended k.setting.rules _ h)
-moved_simply k (op.Restart a) w s c h = moved_still k.setting _ s c (no_extended k.setting.rules _ h)
-moved_simply k (op.ReturnIf condition) w s c h = moved_still k.setting _ s c (no_extended k.setting.rules _ h)
-moved_simply k op.Return w s c h = moved_still k.setting _ s c (no_extended k.setting.rules _ h)
-moved_simply k op.ReturnFromInterrupt w s c h = moved_still k.setting _ s c (no_extended k.setting.rules _ h)
-moved_simply k o w s c h = refl
+moved_simply k g (op.LoadPair pair.Sp a) w s c h = ap (λ m. moved_with k.setting (aside_if m g.may_leave (record { first = a; last = a })) s c) (set_simply k.setting.rules k a h) ∙ set_empty k.setting s c
+moved_simply k g (op.LoadPair pair.Bc a) w s c h = refl
+moved_simply k g (op.LoadPair pair.De a) w s c h = refl
+moved_simply k g (op.LoadPair pair.Hl a) w s c h = refl
+moved_simply k g (op.Push from) (write.Push high low) s c h = pushed_with k.setting (record { high = high; low = low }) s c
+moved_simply k g (op.Push from) (write.Byte span v) s c h = refl
+moved_simply k g (op.Push from) (write.Word a low high) s c h = refl
+moved_simply k g (op.Push from) write.Nothing s c h = refl
+moved_simply k g (op.Pop to) w s c h = ap (λ r. moved_with k.setting (popped_by r g.aside) s c) h
+moved_simply k g (op.IncrementPair pair.Sp) w s c h = moved_still k.setting _ s c (no_extended k.setting.rules _ h)
+moved_simply k g (op.IncrementPair pair.Bc) w s c h = refl
+moved_simply k g (op.IncrementPair pair.De) w s c h = refl
+moved_simply k g (op.IncrementPair pair.Hl) w s c h = refl
+moved_simply k g (op.DecrementPair pair.Sp) w s c h = moved_still k.setting _ s c (no_extended k.setting.rules _ h)
+moved_simply k g (op.DecrementPair pair.Bc) w s c h = refl
+moved_simply k g (op.DecrementPair pair.De) w s c h = refl
+moved_simply k g (op.DecrementPair pair.Hl) w s c h = refl
+moved_simply k g (op.AddSp e8) w s c h = moved_still k.setting _ s c (no_extended k.setting.rules _ h)
+moved_simply k g (op.CallIf condition a) w s c h = moved_still k.setting _ s c (no_extended k.setting.rules _ h)
+moved_simply k g (op.Call a) w s c h = moved_still k.setting _ s c (no_extended k.setting.rules _ h)
+moved_simply k g (op.Restart a) w s c h = moved_still k.setting _ s c (no_extended k.setting.rules _ h)
+moved_simply k g (op.ReturnIf condition) w s c h = moved_still k.setting _ s c (no_extended k.setting.rules _ h)
+moved_simply k g op.Return w s c h = moved_still k.setting _ s c (no_extended k.setting.rules _ h)
+moved_simply k g op.ReturnFromInterrupt w s c h = moved_still k.setting _ s c (no_extended k.setting.rules _ h)
+moved_simply k g o w s c h = refl
 
 -- ---- a condition's cell
 
@@ -203,6 +212,7 @@ moved_simply k o w s c h = refl
 abbrev pub IsTold : Option Cell → AbsRead → Type 0
 IsTold None what = Unit {0}
 IsTold (Some c) (read.Byte span) = ⊥
+IsTold (Some c) (read.Word span) = ⊥
 IsTold (Some c) _ = Unit {0}
 
 pub same_word :
@@ -212,6 +222,7 @@ unfolding read_word with_cell_if youngest
 same_word z rom None s c what h = refl
 same_word z rom (Some d) s c (read.Byte span) h = absurd h
 same_word z rom (Some d) s c read.Top h = refl
+same_word z rom (Some d) s c (read.Word span) h = absurd h
 same_word z rom (Some d) s c read.Nothing h = refl
 
 pub same_sp : (z : Setting) (cell : Option Cell) (s : AbsState) → sp_halves z s ≡ sp_halves z (with_cell_if z cell s)
@@ -221,15 +232,17 @@ same_sp z (Some c) s = refl
 
 -- ---- each part of a successor
 
-read_simply : (k : Stack) (o : Op) (p : Product) → k.setting.rules ≡ Simple → read_in k o p ≡ read_of o p.core
-read_simply k o p h = ap (λ b. cut_read b (read_of o p.core)) (pointer_none k.setting.rules o p.core.registers p.relations.pairs h) ∙ read_whole (read_of o p.core)
+read_simply : (k : Stack) (o : Op) (s : AbsState) (p : Product) → k.setting.rules ≡ Simple → read_in k o s p ≡ read_of o p.core
+read_simply k o s p h =
+    around_simply k.setting.rules s.summary.aside o _ h
+    ∙ ap (λ b. cut_read b (read_of o p.core)) (pointer_none k.setting.rules o p.core.registers p.relations.pairs h) ∙ read_whole (read_of o p.core)
 
 word_simply :
     (k : Stack) (program : Program) (rom : List ℕ) (row : Row) (s : AbsState) (p : Product) (cell : Option Cell) → k.setting.rules ≡ Simple → IsTold cell (read_of row.op p.core)
     → word_in k program rom row.op s p ≡ known_read k.setting rom row (with_cell_if k.setting cell s) p.core
 word_simply k program rom row s p cell h told =
-    ap (λ r. word_by r k.setting k.region program rom (values_of p.core.registers p.relations.pairs) (pointed_bits (pointer_of row.op) p.core.registers) (with_core s p.core) (read_in k row.op p)) h
-    ∙ (ap (read_word k.setting rom (with_core s p.core)) (read_simply k row.op p h) ∙ same_word k.setting rom cell s p.core (read_of row.op p.core) told)
+    ap (λ r. word_by r k.setting k.region program rom (values_of p.core.registers p.relations.pairs) (pointed_bits (pointer_of row.op) p.core.registers) (with_core s p.core) (read_in k row.op s p)) h
+    ∙ (ap (read_word k.setting rom (with_core s p.core)) (read_simply k row.op s p h) ∙ same_word k.setting rom cell s p.core (read_of row.op p.core) told)
 
 effect_simply :
     (k : Stack) (program : Program) (rom : List ℕ) (row : Row) (next : ℕ) (s : AbsState) (p : Product) (cell : Option Cell) → k.setting.rules ≡ Simple → IsTold cell (read_of row.op p.core)
@@ -238,26 +251,28 @@ unfolding effect_in
 effect_simply k program rom row next s p cell h told =
     let z = k.setting in
     let word = word_in k program rom row.op s p in
-    ap (λ b. refined b (known_carry z.rules row.op (sp_bounds z s) p.core.registers p.relations.pairs) (transfer z.is_whole row.op next (sp_halves z s) p.core word.low word.high))
+    ap (λ b. refined b (bits_in k row.op p) (known_carry z.rules row.op (sp_bounds z s) p.core.registers p.relations.pairs) (transfer z.is_whole row.op next (sp_halves z s) p.core word.low word.high))
     (pointer_none z.rules row.op p.core.registers p.relations.pairs h)
-    ∙ (ap (λ c. refined None c (transfer z.is_whole row.op next (sp_halves z s) p.core word.low word.high))
+    ∙ (ap (λ i. refined None i (known_carry z.rules row.op (sp_bounds z s) p.core.registers p.relations.pairs) (transfer z.is_whole row.op next (sp_halves z s) p.core word.low word.high))
+    (bits_none z.rules z.is_whole row.op p.core.registers h)
+    ∙ (ap (λ c. refined None None c (transfer z.is_whole row.op next (sp_halves z s) p.core word.low word.high))
     (carry_none z.rules row.op (sp_bounds z s) p.core.registers p.relations.pairs h)
     ∙ (refined_whole (transfer z.is_whole row.op next (sp_halves z s) p.core word.low word.high)
     ∙ (ap (λ (w : Halves). transfer z.is_whole row.op next (sp_halves z s) p.core w.low w.high) (word_simply k program rom row s p cell h told)
-    ∙ ap (λ sp. transfer z.is_whole row.op next sp p.core (low_of z rom row (with_cell_if z cell s) p.core) (high_of z rom row (with_cell_if z cell s) p.core)) (same_sp z cell s))))
+    ∙ ap (λ sp. transfer z.is_whole row.op next sp p.core (low_of z rom row (with_cell_if z cell s) p.core) (high_of z rom row (with_cell_if z cell s) p.core)) (same_sp z cell s)))))
 
 -- the states behind it, by its effect
 state_simply :
     (k : Stack) (rom : List ℕ) (row : Row) (s : AbsState) (cell : Option Cell) (e : AbsEffect) → k.setting.rules ≡ Simple
-    → with_core (moved_state k (kind_of rom) cell (stack_move k row.op e.write None) e.write s) (core_behind k.setting.is_whole (kind_of rom) (stack_move k row.op e.write None) row.cycles e.write e.core)
+    → with_core (moved_state k (kind_of rom) cell (stack_move k (around_of k.setting s) row.op e.write None) e.write s) (core_behind k.setting.is_whole (kind_of rom) (stack_move k (around_of k.setting s) row.op e.write None) row.cycles e.write e.core)
     ≡ ended (starts e.write) row.cycles (written k.setting k.region (kind_of rom) e.write (with_stack_of k.setting row.op e.write (with_core (with_cell_if k.setting cell s) e.core)))
 unfolding moved_state core_behind ended
 state_simply k rom row s cell e h =
     let z = k.setting in
-    let m = stack_move k row.op e.write None in
+    let m = stack_move k (around_of k.setting s) row.op e.write None in
     let told = with_cell_if z cell s in
     sym (ap (λ t. ended (starts e.write) row.cycles t)
-    (ap (written z k.region (kind_of rom) e.write) (sym (moved_simply k row.op e.write told e.core h))
+    (ap (written z k.region (kind_of rom) e.write) (sym (moved_simply k (around_of k.setting s) row.op e.write told e.core h))
     ∙ written_by z k.region (kind_of rom) e.write (with_stack_moved z m told) (moved_core m e.core) (inl h)))
 
 same_parts : (t u : Successor) → t.read ≡ u.read → t.write ≡ u.write → t.target ≡ u.target → t.next ≡ u.next → t.state ≡ u.state → t ≡ u
@@ -277,12 +292,12 @@ taken_simply k program rom row next s p cell h told =
     let kind = kind_of rom in
     let effect = effect_simply k program rom row next s p cell h told in
     same_parts _ _
-    (read_simply k row.op p h)
+    (read_simply k row.op s p h)
     (ap (λ (e : AbsEffect). e.write) effect)
     (target_whole z.rules z row.op next (word_in k program rom row.op s p) p.core (pointer_in k row.op p) _ _ h)
     refl
-    (ap (λ b. with_core (moved_state k kind cell (stack_move k row.op (effect_in k program rom row.op next s p).write b) (effect_in k program rom row.op next s p).write s)
-    (core_behind k.setting.is_whole kind (stack_move k row.op (effect_in k program rom row.op next s p).write b) row.cycles (effect_in k program rom row.op next s p).write (effect_in k program rom row.op next s p).core))
+    (ap (λ b. with_core (moved_state k kind cell (stack_move k (around_of k.setting s) row.op (effect_in k program rom row.op next s p).write b) (effect_in k program rom row.op next s p).write s)
+    (core_behind k.setting.is_whole kind (stack_move k (around_of k.setting s) row.op (effect_in k program rom row.op next s p).write b) row.cycles (effect_in k program rom row.op next s p).write (effect_in k program rom row.op next s p).core))
     (pointer_none z.rules row.op p.core.registers p.relations.pairs h)
-    ∙ (ap (λ (e : AbsEffect). with_core (moved_state k kind cell (stack_move k row.op e.write None) e.write s) (core_behind k.setting.is_whole kind (stack_move k row.op e.write None) row.cycles e.write e.core)) effect
+    ∙ (ap (λ (e : AbsEffect). with_core (moved_state k kind cell (stack_move k (around_of k.setting s) row.op e.write None) e.write s) (core_behind k.setting.is_whole kind (stack_move k (around_of k.setting s) row.op e.write None) row.cycles e.write e.core)) effect
     ∙ state_simply k rom row s cell (effect_at z rom row next (with_cell_if z cell s) p.core) h))

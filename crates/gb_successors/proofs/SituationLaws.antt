@@ -6,11 +6,14 @@ use Rattle.gb_ops.specs.declared.machine.Read.{Read}
 use Rattle.gb_ops.specs.declared.machine.Read.TheVariants as machine_read
 use Rattle.gb_ops.specs.declared.machine.Write.{Write}
 use Rattle.gb_ops.specs.declared.machine.Write.TheVariants as machine_write
+use Rattle.gb_ops.specs.declared.op.Register.{Register}
 use Rattle.gb_ops.specs.declared.registers.Registers.{Registers}
 use Rattle.gb_ops.specs.declared.op.Op.{Op}
 use Rattle.gb_ops.specs.Effects as Effects
 use Rattle.gb_ops.specs.Machine.{advanced}
 use Rattle.gb_ops.specs.Play.{MState}
+use Rattle.gb_domain.specs.declared.low_bits.LowBits.{LowBits}
+use Rattle.gb_product.specs.Below.gb_abs.declared.span.Span.{Span}
 use Rattle.gb_domain.specs.declared.pairs.Bounds.{Bounds}
 use Rattle.gb_domain.specs.declared.pairs.Pairs.{Pairs}
 use Rattle.gb_domain.specs.declared.pairs.WordPair.{WordPair}
@@ -24,7 +27,7 @@ use Rattle.gb_domain.specs.Rules.{IsVal, IsWord}
 use Rattle.gb_product.specs.Below.gb_vals.Flags.{known}
 use Rattle.gb_product.specs.Below.gb_vals.Meaning.{may_be}
 use Rattle.gb_product.specs.Below.gb_abs.Storage.{peek}
-use Rattle.gb_product.specs.Below.gb_abs.Located.{sp_halves, sp_bounds, bounds_by, stack_base}
+use Rattle.gb_product.specs.Below.gb_abs.Located.{sp_halves, sp_bounds, bounds_by, sp_bounds_by, stack_base, IsSpWithin}
 use Rattle.gb_product.specs.Below.gb_abs.Meaning.{Activation, Holds, MeansCore}
 use Rattle.gb_product.proofs.Below.gb_abs_laws.LocatedLaws.{halves_sound, bounds_sound}
 use Rattle.gb_product.specs.Below.gb_abs_effects.declared.reads.AbsRead.{AbsRead}
@@ -35,6 +38,9 @@ use Rattle.gb_product.specs.Below.gb_abs_effects.declared.writes.AbsEffect.{AbsE
 use Rattle.gb_product.specs.Below.gb_abs_effects.Accesses.{read_of}
 use Rattle.gb_product.specs.Below.gb_abs_effects.Sound as effects
 use Rattle.gb_product.specs.Below.gb_abs_effects.Sound.{HoldsRead, HoldsWrite, IsReadAt, IsWrite, IsWrittenAt, IsAbsEffect, Follows, Begins}
+use Rattle.gb_ops.specs.Registers.{get}
+use Rattle.gb_product.specs.Below.gb_abs.Span.{IsIn}
+use Rattle.gb_product.specs.Below.gb_vals.Meaning.{In}
 use Rattle.gb_product.proofs.Below.gb_abs_effects_laws.CoreLaws.{In-from, byte-of}
 use Rattle.gb_product.proofs.Below.gb_abs_effects_laws.ReadLaws.{read_of_sound, read_of_at}
 use Rattle.gb_product.proofs.Below.gb_abs_effects_laws.RangeLaws.{transfer_inhabited}
@@ -42,7 +48,9 @@ use Rattle.gb_product.proofs.Below.gb_abs_effects_laws.TransferLaws.{transfer_so
 use Rattle.gb_product.specs.Below.gb_pairs.Meaning.{AreBytes}
 use Rattle.gb_product.specs.Below.gb_pairs.Meaning as pair_meaning
 use Rattle.gb_product.specs.Below.gb_relations.Meaning.{HoldRelations}
-use Rattle.gb_product.specs.Below.gb_relations.Pointers.{pointer_of as pair_of, bounds_if, pointer_bounds, ReadsWithin, WritesWithin, IsIfKnown}
+use Rattle.gb_product.specs.Below.gb_relations.Pointers.{pointer_of as pair_of, bounds_if, pointer_bounds, WithinIf, ReadsWithin, WritesWithin, IsIfKnown}
+use Rattle.gb_product.specs.Below.gb_relations.PointedBits.{HasIf, WritesHas}
+use Rattle.gb_product.proofs.Below.gb_relations_laws.PointedBitsLaws.{known_bits_sound}
 use Rattle.gb_product.specs.Below.gb_relations.Sound as relations
 use Rattle.gb_product.specs.Below.gb_relations.Transfer.{values_of}
 use Rattle.gb_product.proofs.Below.gb_relations_laws.PointerLaws.{pointer_bounds_sound, known_carry_sound}
@@ -52,36 +60,47 @@ use Rattle.gb_product.specs.Below.gb_abs.Operations.{with_core}
 use Rattle.gb_product.specs.Meaning.{IsSummarized}
 use Rattle.gb_product.proofs.MeaningLaws.{AreBytes-core}
 use Rattle.gb_product.proofs.ReducedLaws.{Holds-values}
-use Rattle.gb_successors.specs.Refined.{cut_read, cut_write, with_carry, refined}
+use Rattle.gb_successors.specs.Refined.{span_within, with_bits, cut_read, cut_write, with_carry, refined}
 use Rattle.gb_successors.specs.Successors.{effect_in, relations_behind}
 use Rattle.gb_ops.specs.Pointers.{pointer_of}
 use Rattle.gb_ops.proofs.PointerLaws.{follows as follows_pointers}
+use Rattle.gb_successors.proofs.AroundLaws.{IsSpWithin-aside, HoldsRead-around, IsReadAt-around}
 use Rattle.gb_successors.proofs.LoadedLaws.{HasRead, HasRead-pointed, is_word_by}
 use Rattle.gb_successors.proofs.RamLaws.{ram_at, ram_is, HoldRelations-ram}
 use Rattle.gb_successors.proofs.SettledLaws.{HoldSummary-begun}
 use Rattle.gb_successors.proofs.RelatedLaws.{has_operands}
 use Rattle.gb_successors.proofs.SuccessorLaws.{begun_pc, begun_sp, IsWord-sp}
-use Rattle.gb_successors.proofs.Situations.{Situation, next_at, pointer_at, read_at, bits_at, word_at, transferred, effect_at, carry_at, begun_at, given_at, effect_by, IsTakenIn, next_small, related_at}
+use Rattle.gb_successors.proofs.Situations.{Situation, next_at, pointer_at, read_at, bits_at, known_at, word_at, transferred, effect_at, carry_at, begun_at, given_at, effect_by, IsTakenIn, next_small, related_at}
 
 -- ---- addresses within a pair's bounds
 
 HoldsRead-cut : (b : Option Bounds) (r : AbsRead) (sp : ℕ) (m : Read) → HoldsRead r sp m → ReadsWithin b m → HoldsRead (cut_read b r) sp m
 HoldsRead-cut None (read.Byte span) sp m h w = h
-HoldsRead-cut (Some b) (read.Byte span) sp (machine_read.Byte a) h w = record { first = w.least; last = w.most }
+HoldsRead-cut (Some b) (read.Byte span) sp (machine_read.Byte a) h w = record { first = w.least; last = w.most; low = h.low }
 HoldsRead-cut (Some b) (read.Byte span) sp machine_read.Nothing h w = h
 HoldsRead-cut (Some b) (read.Byte span) sp (machine_read.Word a) h w = h
 HoldsRead-cut b read.Nothing sp m h w = h
 HoldsRead-cut b read.Top sp m h w = h
+HoldsRead-cut b (read.Word span) sp m h w = h
 
-HoldsWrite-cut : (b : Option Bounds) (w : AbsWrite) (entry : Activation) (sp : ℕ) (m : Write) → HoldsWrite w entry sp m → WritesWithin b m → HoldsWrite (cut_write b w) entry sp m
-HoldsWrite-cut None (write.Byte span v) entry sp m h n = h
-HoldsWrite-cut (Some b) (write.Byte span v) entry sp (machine_write.Byte a n) h w = (record { first = w.least; last = w.most }, h.1, h.2)
-HoldsWrite-cut (Some b) (write.Byte span v) entry sp machine_write.Nothing h w = absurd h
-HoldsWrite-cut (Some b) (write.Byte span v) entry sp (machine_write.Word a n) h w = absurd h
-HoldsWrite-cut (Some b) (write.Byte span v) entry sp (machine_write.Push a n) h w = absurd h
-HoldsWrite-cut b write.Nothing entry sp m h w = h
-HoldsWrite-cut b (write.Word a low high) entry sp m h w = h
-HoldsWrite-cut b (write.Push high low) entry sp m h w = h
+IsIn-within : (b : Option Bounds) (span : Span) (a : ℕ) → IsIn span a → WithinIf b a → IsIn (span_within b span) a
+IsIn-within None span a i w = i
+IsIn-within (Some b) span a i w = record { first = w.least; last = w.most; low = i.low }
+
+IsIn-bits : (k : Option LowBits) (span : Span) (a : ℕ) → IsIn span a → HasIf k a → IsIn (with_bits k span) a
+IsIn-bits None span a i h = i
+IsIn-bits (Some k) span a i h = record { first = i.first; last = i.last; low = h }
+
+HoldsWrite-cut :
+    (b : Option Bounds) (k : Option LowBits) (w : AbsWrite) (entry : Activation) (sp : ℕ) (m : Write)
+    → HoldsWrite w entry sp m → WritesWithin b m → WritesHas k m → HoldsWrite (cut_write b k w) entry sp m
+HoldsWrite-cut b k (write.Byte span v) entry sp (machine_write.Byte a n) h w has = (IsIn-bits k (span_within b span) a (IsIn-within b span a h.0 w) has, h.1, h.2)
+HoldsWrite-cut b k (write.Byte span v) entry sp machine_write.Nothing h w has = absurd h
+HoldsWrite-cut b k (write.Byte span v) entry sp (machine_write.Word a n) h w has = absurd h
+HoldsWrite-cut b k (write.Byte span v) entry sp (machine_write.Push a n) h w has = absurd h
+HoldsWrite-cut b k write.Nothing entry sp m h w has = h
+HoldsWrite-cut b k (write.Word a low high) entry sp m h w has = h
+HoldsWrite-cut b k (write.Push high low) entry sp m h w has = h
 
 -- the bounds are words
 abbrev pub AreWordsIf : Option Bounds → Type 0
@@ -101,12 +120,13 @@ IsReadAt-cut None (read.Byte span) h k = k
 IsReadAt-cut (Some b) (read.Byte span) h k = h
 IsReadAt-cut b read.Nothing h k = k
 IsReadAt-cut b read.Top h k = k
+IsReadAt-cut b (read.Word span) h k = k
 
-pub IsWrite-cut : (b : Option Bounds) (w : AbsWrite) → IsWrite w → IsWrite (cut_write b w)
-IsWrite-cut b (write.Byte span v) k = k
-IsWrite-cut b write.Nothing k = k
-IsWrite-cut b (write.Word a low high) k = k
-IsWrite-cut b (write.Push high low) k = k
+pub IsWrite-cut : (b : Option Bounds) (bits : Option LowBits) (w : AbsWrite) → IsWrite w → IsWrite (cut_write b bits w)
+IsWrite-cut b bits (write.Byte span v) k = k
+IsWrite-cut b bits write.Nothing k = k
+IsWrite-cut b bits (write.Word a low high) k = k
+IsWrite-cut b bits (write.Push high low) k = k
 
 -- ---- as it begins
 
@@ -121,12 +141,18 @@ bytes_begun c k = AreBytes-core c.product.core c.entry (begun_at c) k.core k.mea
 pub said_begun : (c : Situation) → IsTakenIn c → IsSummarized (with_core c.state c.product.core) c.entry (begun_at c)
 said_begun c k = HoldSummary-begun c.entry.program c.state.cells c.state.summary c.row c.machine k.stands.means.summary
 
+-- SP lies within its bounds, where it is put aside
+pub sp_within : (c : Situation) → IsTakenIn c → IsSpWithin c.state.summary.aside c.machine.processor.sp
+sp_within c k = IsSpWithin-aside c.state.summary.aside c.machine.processor k.stands.means.summary.aside
+
 -- what the machine reads
 pub read_holds : (c : Situation) → IsTakenIn c → HoldsRead (read_at c) (begun_at c).processor.sp (Effects.read_of c.row.op (advanced c.machine.processor c.row))
 read_holds c k =
-    HoldsRead-cut (pointer_at c) (read_of c.row.op c.product.core) (begun_at c).processor.sp _
+    HoldsRead-around c.stack.setting.rules c.state.summary.aside c.row.op (pointer_at c) c.product.core (begun_at c).processor.sp _
+    (subst (IsSpWithin c.state.summary.aside) (sym (begun_sp c.row c.machine)) (sp_within c k))
+    (HoldsRead-cut (pointer_at c) (read_of c.row.op c.product.core) (begun_at c).processor.sp _
     ((read_of_sound c.row.op c.product.core _ refl).gives c.entry (begun_at c) (given_at c).low (given_at c).high k.means k.taken)
-    ((pointer_bounds_sound c.stack.setting.rules c.row.op c.product.core.registers c.product.relations.pairs _ refl).reads (advanced c.machine.processor c.row) (values_hold c k))
+    ((pointer_bounds_sound c.stack.setting.rules c.row.op c.product.core.registers c.product.relations.pairs _ refl).reads (advanced c.machine.processor c.row) (values_hold c k)))
 
 -- it has the low bits of its pointer
 pub read_has : (c : Situation) → IsTakenIn c → HasRead (bits_at c) (Effects.read_of c.row.op (advanced c.machine.processor c.row))
@@ -136,8 +162,9 @@ read_has c k =
 
 pub read_placed : (c : Situation) → IsTakenIn c → IsReadAt (read_at c)
 read_placed c k =
-    IsReadAt-cut (pointer_at c) (read_of c.row.op c.product.core) (pointer_below c.stack.setting.rules c.row.op c.product.core.registers c.product.relations.pairs k.pairs)
-    (read_of_at c.row.op c.product.core _ refl k.operands k.core)
+    IsReadAt-around c.stack.setting.rules c.state.summary.aside c.row.op _ k.stands.aside
+    (IsReadAt-cut (pointer_at c) (read_of c.row.op c.product.core) (pointer_below c.stack.setting.rules c.row.op c.product.core.registers c.product.relations.pairs k.pairs)
+    (read_of_at c.row.op c.product.core _ refl k.operands k.core))
 
 pub is_word_at : (c : Situation) → IsTakenIn c → IsWord (word_at c)
 is_word_at c k =
@@ -148,27 +175,27 @@ pub transferred_is : (c : Situation) → IsTakenIn c → IsAbsEffect (transferre
 transferred_is c k =
     let word = is_word_at c k in
     transfer_inhabited c.stack.setting.is_whole c.row.op (next_at c) (sp_halves c.stack.setting c.state) c.product.core (word_at c).low (word_at c).high (transferred c) refl k.operands (next_small c) k.core word.low word.high
-    (IsWord-sp c.stack.setting c.state c.entry c.base c.machine k.stands.based k.stands.means.parts)
+    (IsWord-sp c.stack.setting c.state c.entry c.base c.machine k.stands.based k.stands.means.parts (sp_within c k))
 
 -- ---- the effect, by pairs too
 
-pub effect_is : (c : Situation) → effect_at c ≡ refined (pointer_at c) (carry_at c) (transferred c)
+pub effect_is : (c : Situation) → effect_at c ≡ refined (pointer_at c) (known_at c) (carry_at c) (transferred c)
 unfolding effect_in
 effect_is c = refl
 
-pub refined_core : (b : Option Bounds) (carry : Option Bool) (t : AbsEffect) → (refined b carry t).core ≡ with_carry carry t.core
+pub refined_core : (b : Option Bounds) (k : Option LowBits) (carry : Option Bool) (t : AbsEffect) → (refined b k carry t).core ≡ with_carry carry t.core
 unfolding refined
-refined_core b carry t = refl
+refined_core b k carry t = refl
 
-pub refined_write : (b : Option Bounds) (carry : Option Bool) (t : AbsEffect) → (refined b carry t).write ≡ cut_write b t.write
+pub refined_write : (b : Option Bounds) (k : Option LowBits) (carry : Option Bool) (t : AbsEffect) → (refined b k carry t).write ≡ cut_write b k t.write
 unfolding refined
-refined_write b carry t = refl
+refined_write b k carry t = refl
 
-pub write_is : (c : Situation) → (effect_at c).write ≡ cut_write (pointer_at c) (transferred c).write
-write_is c = ap (λ (t : AbsEffect). t.write) (effect_is c) ∙ refined_write (pointer_at c) (carry_at c) (transferred c)
+pub write_is : (c : Situation) → (effect_at c).write ≡ cut_write (pointer_at c) (known_at c) (transferred c).write
+write_is c = ap (λ (t : AbsEffect). t.write) (effect_is c) ∙ refined_write (pointer_at c) (known_at c) (carry_at c) (transferred c)
 
 pub core_is : (c : Situation) → (effect_at c).core ≡ with_carry (carry_at c) (transferred c).core
-core_is c = ap (λ (t : AbsEffect). t.core) (effect_is c) ∙ refined_core (pointer_at c) (carry_at c) (transferred c)
+core_is c = ap (λ (t : AbsEffect). t.core) (effect_is c) ∙ refined_core (pointer_at c) (known_at c) (carry_at c) (transferred c)
 
 carry_known : (b : Bool) → may_be (known b) b ≡ true
 carry_known true = refl
@@ -199,11 +226,17 @@ pub sp_below : (c : Situation) → IsTakenIn c → (sp_bounds c.stack.setting c.
 unfolding sp_bounds
 sp_below c k =
     let known = bounds_sound c.stack.setting c.state (sp_bounds c.stack.setting c.state) refl in
-    by (stack_base c.stack.setting c.state.core) (known.first c.entry c.base c.machine k.stands.based k.stands.means.parts)
+    by_aside c.state.summary.aside k.stands.aside (known.first c.entry c.base c.machine k.stands.based k.stands.means.parts (sp_within c k))
   where
     by : (o : Option ℕ) → (bounds_by o (length c.state.items)).first ≤ c.machine.processor.sp → (bounds_by o (length c.state.items)).last < 65536
     by None h = omega arith
     by (Some b) h = let small = k.stands.means.parts.sp in omega arith
+
+    by_aside :
+        (a : Option Bounds) → IfSome a (λ b. b.last < 65536) → (sp_bounds_by a (stack_base c.stack.setting c.state.core) (length c.state.items)).first ≤ c.machine.processor.sp
+        → (sp_bounds_by a (stack_base c.stack.setting c.state.core) (length c.state.items)).last < 65536
+    by_aside None e h = by (stack_base c.stack.setting c.state.core) h
+    by_aside (Some b) e h = e
 
 -- bytes that what is known of its reads stands for
 pub record AreGiven (c : Situation) (l h : ℕ) : Type 0 where
@@ -221,8 +254,8 @@ begins c l h k g =
       high_read = g.high;
       pc = begun_pc c.row c.machine c.address k.runs k.mark k.stands.at;
       sp = subst (λ n. n < 65536) (sym (begun_sp c.row c.machine)) k.stands.means.parts.sp;
-      sp_high = subst (λ n. Holds (sp_halves c.stack.setting c.state).high c.entry (n / 256)) (sym (begun_sp c.row c.machine)) (sp_known.high c.entry c.base c.machine k.stands.based k.stands.means.parts);
-      sp_low = subst (λ n. Holds (sp_halves c.stack.setting c.state).low c.entry (n % 256)) (sym (begun_sp c.row c.machine)) (sp_known.low c.entry c.base c.machine k.stands.based k.stands.means.parts);
+      sp_high = subst (λ n. Holds (sp_halves c.stack.setting c.state).high c.entry (n / 256)) (sym (begun_sp c.row c.machine)) (sp_known.high c.entry c.base c.machine k.stands.based k.stands.means.parts (sp_within c k));
+      sp_low = subst (λ n. Holds (sp_halves c.stack.setting c.state).low c.entry (n % 256)) (sym (begun_sp c.row c.machine)) (sp_known.low c.entry c.base c.machine k.stands.based k.stands.means.parts (sp_within c k));
       taken = g.taken;
     }
 
@@ -230,14 +263,21 @@ sound_at : (c : Situation) → IsTakenIn c → effects.IsSoundTransfer c.row.op 
 sound_at c k =
     transfer_sound c.stack.setting.is_whole c.row.op (next_at c) (sp_halves c.stack.setting c.state) c.product.core (word_at c).low (word_at c).high (transferred c) refl k.operands k.core (is_word_at c k).low
 
+-- SP stays an address
+pub sp_small : (c : Situation) (l h : ℕ) → IsTakenIn c → AreGiven c l h → (effect_by c l h).processor.sp < 65536
+sp_small c l h k g = (sound_at c k).sp c.entry (begun_at c) l h (begins c l h k g)
+
 carry_given : (c : Situation) (l h : ℕ) → IsTakenIn c → IsIfKnown (carry_at c) (effect_by c l h).processor.flags.carry
 carry_given c l h k =
     let known = bounds_sound c.stack.setting c.state (sp_bounds c.stack.setting c.state) refl in
     (known_carry_sound c.stack.setting.rules c.row.op (sp_bounds c.stack.setting c.state) c.product.core.registers c.product.relations.pairs (carry_at c) refl (sp_below c k)
     (k.pairs.each pairs.Bc).last (k.pairs.each pairs.De).last (k.pairs.each pairs.Hl).last).gives
     (advanced c.machine.processor c.row) l h (bytes_begun c k) (values_hold c k)
-    (subst (λ n. (sp_bounds c.stack.setting c.state).first ≤ n) (sym (begun_sp c.row c.machine)) (known.first c.entry c.base c.machine k.stands.based k.stands.means.parts))
-    (subst (λ n. n ≤ (sp_bounds c.stack.setting c.state).last) (sym (begun_sp c.row c.machine)) (known.last c.entry c.base c.machine k.stands.based k.stands.means.parts))
+    (subst (λ n. (sp_bounds c.stack.setting c.state).first ≤ n) (sym (begun_sp c.row c.machine)) (known.first c.entry c.base c.machine k.stands.based k.stands.means.parts (sp_within c k)))
+    (subst (λ n. n ≤ (sp_bounds c.stack.setting c.state).last) (sym (begun_sp c.row c.machine)) (known.last c.entry c.base c.machine k.stands.based k.stands.means.parts (sp_within c k)))
+
+registers_in : (c : Situation) → IsTakenIn c → (r : Register) → In (get r c.product.core.registers) (get r (advanced c.machine.processor c.row).registers)
+registers_in c k r = In-from (get r c.product.core.registers) c.entry (get r (begun_at c).processor.registers) (k.means.registers r)
 
 -- its effect is followed, whatever of that its reads give
 pub follows : (c : Situation) (l h : ℕ) → IsTakenIn c → AreGiven c l h → Follows (effect_at c) c.entry (begun_at c) (effect_by c l h)
@@ -247,8 +287,9 @@ follows c l h k g =
       core = subst (λ (s : Core). MeansCore s c.entry (record (begun_at c) { processor = (effect_by c l h).processor })) (sym (core_is c))
           (MeansCore-carry (carry_at c) (transferred c).core c.entry (record (begun_at c) { processor = (effect_by c l h).processor }) (carry_given c l h k) f.core);
       write = subst (λ w. HoldsWrite w c.entry (begun_at c).processor.sp (effect_by c l h).write) (sym (write_is c))
-          (HoldsWrite-cut (pointer_at c) (transferred c).write c.entry (begun_at c).processor.sp (effect_by c l h).write f.write
-          ((pointer_bounds_sound c.stack.setting.rules c.row.op c.product.core.registers c.product.relations.pairs _ refl).writes (advanced c.machine.processor c.row) l h (values_hold c k)));
+          (HoldsWrite-cut (pointer_at c) (known_at c) (transferred c).write c.entry (begun_at c).processor.sp (effect_by c l h).write f.write
+          ((pointer_bounds_sound c.stack.setting.rules c.row.op c.product.core.registers c.product.relations.pairs _ refl).writes (advanced c.machine.processor c.row) l h (values_hold c k))
+          ((known_bits_sound c.stack.setting.rules c.stack.setting.is_whole c.row.op c.product.core.registers _ refl).writes (advanced c.machine.processor c.row) l h (bytes_begun c k) (registers_in c k)));
     }
 
 -- what is known together holds behind it, as far as memory is RAM
@@ -264,8 +305,8 @@ related_behind c l h written k g w =
     (record {
       registers = (values_hold c k).registers;
       bytes = bytes_begun c k;
-      sp_first = subst (λ n. (sp_bounds c.stack.setting c.state).first ≤ n) (sym (begun_sp c.row c.machine)) (known.first c.entry c.base c.machine k.stands.based k.stands.means.parts);
-      sp_last = subst (λ n. n ≤ (sp_bounds c.stack.setting c.state).last) (sym (begun_sp c.row c.machine)) (known.last c.entry c.base c.machine k.stands.based k.stands.means.parts);
+      sp_first = subst (λ n. (sp_bounds c.stack.setting c.state).first ≤ n) (sym (begun_sp c.row c.machine)) (known.first c.entry c.base c.machine k.stands.based k.stands.means.parts (sp_within c k));
+      sp_last = subst (λ n. n ≤ (sp_bounds c.stack.setting c.state).last) (sym (begun_sp c.row c.machine)) (known.last c.entry c.base c.machine k.stands.based k.stands.means.parts (sp_within c k));
       low_read = In-from (word_at c).low c.entry l g.low;
       low_small = small (word_at c).low l word.low g.low;
       high_small = small (word_at c).high h word.high g.high;

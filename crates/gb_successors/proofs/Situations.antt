@@ -31,7 +31,7 @@ use Rattle.gb_successors.specs.declared.stacks.StackMove.{StackMove}
 use Rattle.gb_product.specs.Reduced.{reduced}
 use Rattle.gb_domain.specs.declared.relations.Relations.{Relations}
 use Rattle.std.specs.Prelude.{is_some}
-use Rattle.gb_successors.specs.Successors.{pointer_in, read_in, word_in, effect_in, taken_move, taken_parts, relations_behind}
+use Rattle.gb_successors.specs.Successors.{pointer_in, bits_in, read_in, word_in, effect_in, taken_move, taken_parts, relations_behind}
 use Rattle.gb_domain.specs.declared.low_bits.LowBits.{LowBits}
 use Rattle.gb_ops.specs.Pointers.{pointer_of}
 use Rattle.gb_successors.specs.Summaries.{pointed_bits}
@@ -64,11 +64,15 @@ abbrev pub pointer_at : Situation → Option Bounds
 pointer_at c = pointer_in c.stack c.row.op c.product
 
 abbrev pub read_at : Situation → AbsRead
-read_at c = read_in c.stack c.row.op c.product
+read_at c = read_in c.stack c.row.op c.state c.product
 
 -- what is known of the low bits of its pointer
 abbrev pub bits_at : Situation → LowBits
 bits_at c = pointed_bits (pointer_of c.row.op) c.product.core.registers
+
+-- the same, where its store asks
+abbrev pub known_at : Situation → Option LowBits
+known_at c = bits_in c.stack c.row.op c.product
 
 abbrev pub word_at : Situation → Halves
 word_at c = word_in c.stack c.entry.program c.rom c.row.op c.state c.product
@@ -126,6 +130,7 @@ pub record IsTakenIn (c : Situation) : Type 0 where
   pub ready : is_meant c ≡ true → IsReady c.stack c.row.op (move_at c) c.state c.base
   pub mark : c.machine.processor.halt_mark ≡ false
   pub byte : slice_index c.reads 0 ≤ 255
+  pub second : slice_index c.reads 1 ≤ 255
   pub keeps : Keeps c.state.core c.product.core
   pub means : MeansCore c.product.core c.entry (begun_at c)
   pub related : AreRelated c.product.relations (begun_at c)

@@ -1,7 +1,8 @@
 -- What the rules of version 3 say of the stack's moves is what the machine's SP does.
 use Rattle.std.proofs.Common.{◌≡◌, ℕ, ◌+◌, ◌-◌, ◌%◌, ◌≤◌, ◌<◌, Bool, true, false, cond, ◌&&◌, nat_le, nat_lt, ◌⊎◌, inl, inr, Option, Some, None, refl, sym, ap, subst, arith}
 use Rattle.std.proofs.lemmas.Bool.Decides.{nat_tests}
-use Rattle.std.specs.Prelude.{is_some}
+use Rattle.std.proofs.lemmas.Bool.{and_parts}
+use Rattle.std.specs.Prelude.{is_some, IfSome}
 use Rattle.gb_ops.specs.declared.machine.Effect.{Effect}
 use Rattle.gb_ops.specs.declared.op.Pair.TheVariants as pair
 use Rattle.gb_ops.specs.declared.op.Op.{Op}
@@ -24,11 +25,14 @@ use Rattle.gb_product.specs.Below.gb_abs_effects.Accesses.{read_of}
 use Rattle.gb_product.specs.Below.gb_abs_effects.Sound.{HasBytes}
 use Rattle.gb_product.specs.Below.gb_abs_effects.Targets.{moves_sp}
 use Rattle.gb_product.specs.Below.gb_abs_effects.Transfer.{transfer}
+use Rattle.gb_product.specs.Below.gb_abs.Located.{IsSpWithin}
 use Rattle.gb_product.specs.Below.gb_relations.Pointers.{WithinIf}
+use Rattle.gb_successors.specs.declared.stacks.Around.{Around}
 use Rattle.gb_successors.specs.declared.stacks.Stack.{Stack}
 use Rattle.gb_successors.specs.declared.stacks.StackMove.{StackMove}
 use Rattle.gb_successors.specs.declared.stacks.StackMove.TheVariants as move
-use Rattle.gb_successors.specs.Stacks.{bytes_to, bytes_to_if, own_bytes, main_bytes, restart_by, set_by, set_to, set_within, extended, displaced_by, push_of, stack_move}
+use Rattle.gb_successors.specs.Stacks.{bytes_to, bytes_to_if, own_bytes, main_bytes, restart_by, set_by, set_to, set_within, extended, displaced_by, push_of, behind_word, stack_move}
+use Rattle.gb_successors.proofs.AroundLaws.{either_aside, either_within, either_popped}
 
 -- ---- what is written where SP moves
 
@@ -37,11 +41,14 @@ extended_is Extended m h = refl
 extended_is Simple m h = absurd (let bad : Simple ≡ Extended = h in cc)
 
 -- a word is put on
-pub record Puts (k : Stack) (o : Op) (next : ℕ) (sp : Halves) (c : Core) (low high : Val) : Type 0 where
+pub record Puts (k : Stack) (g : Around) (o : Op) (next : ℕ) (sp : Halves) (c : Core) (low high : Val) : Type 0 where
   pub value : Halves
   pub write_is : (transfer k.setting.is_whole o next sp c low high).write ≡ write.Push value.high value.low
   pub read_is : read_of o c ≡ read.Nothing
-  pub move_is : (b : Option Bounds) → stack_move k o (write.Push value.high value.low) b ≡ move.Push value
+  pub move_is : (b : Option Bounds) → stack_move k g o (write.Push value.high value.low) b ≡ move.Push value
+
+less_is : (n m : ℕ) → nat_lt n m ≡ true → n < m
+less_is n m h = grind (arith, nat_tests)
 
 no_move : false ≡ true → ⊥
 no_move h = cc
@@ -79,42 +86,47 @@ no_push_displaced e8 = choose (nat_lt e8 128)
     choose true = tt
     choose false = tt
 
+any_some : (b : Option Bounds) → IfSome b (λ (c : Bounds). Unit {0})
+any_some None = tt
+any_some (Some c) = tt
+
 -- where nothing is written no word is put on
-pub no_push : (k : Stack) (o : Op) (b : Option Bounds) → IsNoPush (stack_move k o write.Nothing b)
+pub no_push : (k : Stack) (g : Around) (o : Op) (b : Option Bounds) → IsNoPush (stack_move k g o write.Nothing b)
 unfolding stack_move
-no_push k (op.LoadPair pair.Sp a) b = no_push_to k.setting.rules k a
-no_push k op.LoadSpHl b = no_push_within k b
-no_push k (op.IncrementPair pair.Sp) b = no_push_extended k.setting.rules (move.Take 1) tt
-no_push k (op.DecrementPair pair.Sp) b = no_push_extended k.setting.rules (move.Append 1) tt
-no_push k (op.AddSp e8) b = no_push_extended k.setting.rules (displaced_by e8) (no_push_displaced e8)
-no_push k (op.CallIf condition a) b = no_push_extended k.setting.rules move.Stay tt
-no_push k (op.Call a) b = no_push_extended k.setting.rules move.Stay tt
-no_push k (op.Restart a) b = no_push_extended k.setting.rules move.Stay tt
-no_push k (op.ReturnIf condition) b = no_push_extended k.setting.rules (move.Take 2) tt
-no_push k op.Return b = no_push_extended k.setting.rules (move.Take 2) tt
-no_push k op.ReturnFromInterrupt b = no_push_extended k.setting.rules (move.Take 2) tt
-no_push k o b = tt
+no_push k g (op.LoadPair pair.Sp a) b = either_aside IsNoPush (set_to k.setting.rules k a) g.may_leave _ (no_push_to k.setting.rules k a) tt
+no_push k g op.LoadSpHl b = either_within IsNoPush (set_within k b) g.may_leave b (no_push_within k b) (any_some b)
+no_push k g (op.IncrementPair pair.Sp) b = no_push_extended k.setting.rules (move.Take 1) tt
+no_push k g (op.DecrementPair pair.Sp) b = no_push_extended k.setting.rules (move.Append 1) tt
+no_push k g (op.AddSp e8) b = no_push_extended k.setting.rules (displaced_by e8) (no_push_displaced e8)
+no_push k g (op.CallIf condition a) b = no_push_extended k.setting.rules move.Stay tt
+no_push k g (op.Call a) b = no_push_extended k.setting.rules move.Stay tt
+no_push k g (op.Restart a) b = no_push_extended k.setting.rules move.Stay tt
+no_push k g (op.ReturnIf condition) b = no_push_extended k.setting.rules (move.Take 2) tt
+no_push k g op.Return b = no_push_extended k.setting.rules (move.Take 2) tt
+no_push k g op.ReturnFromInterrupt b = no_push_extended k.setting.rules (move.Take 2) tt
+no_push k g (op.Pop to) b = either_popped IsNoPush k.setting.rules g.aside tt (any_some g.aside)
+no_push k g o b = tt
 
 -- what moves SP puts a word on, or writes nothing
 pub puts_or_nothing :
-    (k : Stack) (o : Op) (next : ℕ) (sp : Halves) (c : Core) (low high : Val) → k.setting.rules ≡ Extended → moves_sp o ≡ true
-    → Puts k o next sp c low high ⊎ ((transfer k.setting.is_whole o next sp c low high).write ≡ write.Nothing)
+    (k : Stack) (g : Around) (o : Op) (next : ℕ) (sp : Halves) (c : Core) (low high : Val) → k.setting.rules ≡ Extended → moves_sp o ≡ true
+    → Puts k g o next sp c low high ⊎ ((transfer k.setting.is_whole o next sp c low high).write ≡ write.Nothing)
 unfolding transfer read_of stack_move
-puts_or_nothing k (op.LoadPair to w) next sp c low high h moves = inr refl
-puts_or_nothing k (op.IncrementPair which) next sp c low high h moves = inr refl
-puts_or_nothing k (op.DecrementPair which) next sp c low high h moves = inr refl
-puts_or_nothing k (op.ReturnIf condition) next sp c low high h moves = inr refl
-puts_or_nothing k op.Return next sp c low high h moves = inr refl
-puts_or_nothing k op.ReturnFromInterrupt next sp c low high h moves = inr refl
-puts_or_nothing k (op.Pop to) next sp c low high h moves = inr refl
-puts_or_nothing k (op.Push from) next sp c low high h moves = inl (record { value = _; write_is = refl; read_is = refl; move_is = λ b. refl })
-puts_or_nothing k (op.CallIf condition w) next sp c low high h moves =
+puts_or_nothing k g (op.LoadPair to w) next sp c low high h moves = inr refl
+puts_or_nothing k g (op.IncrementPair which) next sp c low high h moves = inr refl
+puts_or_nothing k g (op.DecrementPair which) next sp c low high h moves = inr refl
+puts_or_nothing k g (op.ReturnIf condition) next sp c low high h moves = inr refl
+puts_or_nothing k g op.Return next sp c low high h moves = inr refl
+puts_or_nothing k g op.ReturnFromInterrupt next sp c low high h moves = inr refl
+puts_or_nothing k g (op.Pop to) next sp c low high h moves = inr refl
+puts_or_nothing k g (op.Push from) next sp c low high h moves = inl (record { value = _; write_is = refl; read_is = refl; move_is = λ b. refl })
+puts_or_nothing k g (op.CallIf condition w) next sp c low high h moves =
     inl (record { value = _; write_is = refl; read_is = refl; move_is = λ b. extended_is k.setting.rules _ h })
-puts_or_nothing k (op.Call w) next sp c low high h moves = inl (record { value = _; write_is = refl; read_is = refl; move_is = λ b. extended_is k.setting.rules _ h })
-puts_or_nothing k (op.Restart w) next sp c low high h moves = inl (record { value = _; write_is = refl; read_is = refl; move_is = λ b. extended_is k.setting.rules _ h })
-puts_or_nothing k (op.AddSp e8) next sp c low high h moves = inr refl
-puts_or_nothing k op.LoadSpHl next sp c low high h moves = inr refl
-puts_or_nothing k o next sp c low high h moves = absurd (no_move moves)
+puts_or_nothing k g (op.Call w) next sp c low high h moves = inl (record { value = _; write_is = refl; read_is = refl; move_is = λ b. extended_is k.setting.rules _ h })
+puts_or_nothing k g (op.Restart w) next sp c low high h moves = inl (record { value = _; write_is = refl; read_is = refl; move_is = λ b. extended_is k.setting.rules _ h })
+puts_or_nothing k g (op.AddSp e8) next sp c low high h moves = inr refl
+puts_or_nothing k g op.LoadSpHl next sp c low high h moves = inr refl
+puts_or_nothing k g o next sp c low high h moves = absurd (no_move moves)
 
 -- the stack moves
 abbrev pub IsNoStay : StackMove → Type 0
@@ -150,50 +162,50 @@ no_stay_extended r m e h = subst IsNoStay (sym (extended_is r m e)) h
 
 -- what moves SP, and writes nothing, moves the stack
 pub no_stay :
-    (k : Stack) (o : Op) (next : ℕ) (sp : Halves) (c : Core) (low high : Val) (b : Option Bounds) → k.setting.rules ≡ Extended → moves_sp o ≡ true
-    → (transfer k.setting.is_whole o next sp c low high).write ≡ write.Nothing → (o ≡ op.LoadSpHl → is_some b ≡ true) → IsNoStay (stack_move k o write.Nothing b)
+    (k : Stack) (g : Around) (o : Op) (next : ℕ) (sp : Halves) (c : Core) (low high : Val) (b : Option Bounds) → k.setting.rules ≡ Extended → moves_sp o ≡ true
+    → (transfer k.setting.is_whole o next sp c low high).write ≡ write.Nothing → (o ≡ op.LoadSpHl → is_some b ≡ true) → IsNoStay (stack_move k g o write.Nothing b)
 unfolding transfer stack_move
-no_stay k (op.LoadPair pair.Sp a) next sp c low high b r moves quiet hl = no_stay_to k.setting.rules k a
-no_stay k (op.IncrementPair pair.Sp) next sp c low high b r moves quiet hl = no_stay_extended k.setting.rules (move.Take 1) r tt
-no_stay k (op.DecrementPair pair.Sp) next sp c low high b r moves quiet hl = no_stay_extended k.setting.rules (move.Append 1) r tt
-no_stay k (op.AddSp e8) next sp c low high b r moves quiet hl = no_stay_extended k.setting.rules (displaced_by e8) r (no_stay_displaced e8)
-no_stay k op.LoadSpHl next sp c low high b r moves quiet hl = no_stay_within k b (hl refl)
-no_stay k (op.Pop to) next sp c low high b r moves quiet hl = tt
-no_stay k (op.ReturnIf condition) next sp c low high b r moves quiet hl = no_stay_extended k.setting.rules (move.Take 2) r tt
-no_stay k op.Return next sp c low high b r moves quiet hl = no_stay_extended k.setting.rules (move.Take 2) r tt
-no_stay k op.ReturnFromInterrupt next sp c low high b r moves quiet hl = no_stay_extended k.setting.rules (move.Take 2) r tt
-no_stay k (op.Push from) next sp c low high b r moves quiet hl = absurd (let bad : write.Push _ _ ≡ write.Nothing = quiet in cc)
-no_stay k (op.CallIf condition a) next sp c low high b r moves quiet hl = absurd (let bad : write.Push _ _ ≡ write.Nothing = quiet in cc)
-no_stay k (op.Call a) next sp c low high b r moves quiet hl = absurd (let bad : write.Push _ _ ≡ write.Nothing = quiet in cc)
-no_stay k (op.Restart a) next sp c low high b r moves quiet hl = absurd (let bad : write.Push _ _ ≡ write.Nothing = quiet in cc)
-no_stay k o next sp c low high b r moves quiet hl = absurd (no_move moves)
+no_stay k g (op.LoadPair pair.Sp a) next sp c low high b r moves quiet hl = either_aside IsNoStay (set_to k.setting.rules k a) g.may_leave _ (no_stay_to k.setting.rules k a) tt
+no_stay k g (op.IncrementPair pair.Sp) next sp c low high b r moves quiet hl = no_stay_extended k.setting.rules (move.Take 1) r tt
+no_stay k g (op.DecrementPair pair.Sp) next sp c low high b r moves quiet hl = no_stay_extended k.setting.rules (move.Append 1) r tt
+no_stay k g (op.AddSp e8) next sp c low high b r moves quiet hl = no_stay_extended k.setting.rules (displaced_by e8) r (no_stay_displaced e8)
+no_stay k g op.LoadSpHl next sp c low high b r moves quiet hl = either_within IsNoStay (set_within k b) g.may_leave b (no_stay_within k b (hl refl)) (any_some b)
+no_stay k g (op.Pop to) next sp c low high b r moves quiet hl = either_popped IsNoStay k.setting.rules g.aside tt (any_some g.aside)
+no_stay k g (op.ReturnIf condition) next sp c low high b r moves quiet hl = no_stay_extended k.setting.rules (move.Take 2) r tt
+no_stay k g op.Return next sp c low high b r moves quiet hl = no_stay_extended k.setting.rules (move.Take 2) r tt
+no_stay k g op.ReturnFromInterrupt next sp c low high b r moves quiet hl = no_stay_extended k.setting.rules (move.Take 2) r tt
+no_stay k g (op.Push from) next sp c low high b r moves quiet hl = absurd (let bad : write.Push _ _ ≡ write.Nothing = quiet in cc)
+no_stay k g (op.CallIf condition a) next sp c low high b r moves quiet hl = absurd (let bad : write.Push _ _ ≡ write.Nothing = quiet in cc)
+no_stay k g (op.Call a) next sp c low high b r moves quiet hl = absurd (let bad : write.Push _ _ ≡ write.Nothing = quiet in cc)
+no_stay k g (op.Restart a) next sp c low high b r moves quiet hl = absurd (let bad : write.Push _ _ ≡ write.Nothing = quiet in cc)
+no_stay k g o next sp c low high b r moves quiet hl = absurd (no_move moves)
 
 -- what leaves SP moves nothing
-pub still_stays : (k : Stack) (o : Op) (w : AbsWrite) (b : Option Bounds) → moves_sp o ≡ false → stack_move k o w b ≡ move.Stay
+pub still_stays : (k : Stack) (g : Around) (o : Op) (w : AbsWrite) (b : Option Bounds) → moves_sp o ≡ false → stack_move k g o w b ≡ move.Stay
 unfolding stack_move
-still_stays k (op.LoadPair pair.Bc a) w b h = refl
-still_stays k (op.LoadPair pair.De a) w b h = refl
-still_stays k (op.LoadPair pair.Hl a) w b h = refl
-still_stays k (op.LoadPair pair.Sp a) w b h = cc
-still_stays k (op.IncrementPair pair.Bc) w b h = refl
-still_stays k (op.IncrementPair pair.De) w b h = refl
-still_stays k (op.IncrementPair pair.Hl) w b h = refl
-still_stays k (op.IncrementPair pair.Sp) w b h = cc
-still_stays k (op.DecrementPair pair.Bc) w b h = refl
-still_stays k (op.DecrementPair pair.De) w b h = refl
-still_stays k (op.DecrementPair pair.Hl) w b h = refl
-still_stays k (op.DecrementPair pair.Sp) w b h = cc
-still_stays k (op.ReturnIf condition) w b h = cc
-still_stays k op.Return w b h = cc
-still_stays k op.ReturnFromInterrupt w b h = cc
-still_stays k (op.Pop to) w b h = cc
-still_stays k (op.Push from) w b h = cc
-still_stays k (op.CallIf condition a) w b h = cc
-still_stays k (op.Call a) w b h = cc
-still_stays k (op.Restart a) w b h = cc
-still_stays k (op.AddSp e8) w b h = cc
-still_stays k op.LoadSpHl w b h = cc
-still_stays k o w b h = refl
+still_stays k g (op.LoadPair pair.Bc a) w b h = refl
+still_stays k g (op.LoadPair pair.De a) w b h = refl
+still_stays k g (op.LoadPair pair.Hl a) w b h = refl
+still_stays k g (op.LoadPair pair.Sp a) w b h = cc
+still_stays k g (op.IncrementPair pair.Bc) w b h = refl
+still_stays k g (op.IncrementPair pair.De) w b h = refl
+still_stays k g (op.IncrementPair pair.Hl) w b h = refl
+still_stays k g (op.IncrementPair pair.Sp) w b h = cc
+still_stays k g (op.DecrementPair pair.Bc) w b h = refl
+still_stays k g (op.DecrementPair pair.De) w b h = refl
+still_stays k g (op.DecrementPair pair.Hl) w b h = refl
+still_stays k g (op.DecrementPair pair.Sp) w b h = cc
+still_stays k g (op.ReturnIf condition) w b h = cc
+still_stays k g op.Return w b h = cc
+still_stays k g op.ReturnFromInterrupt w b h = cc
+still_stays k g (op.Pop to) w b h = cc
+still_stays k g (op.Push from) w b h = cc
+still_stays k g (op.CallIf condition a) w b h = cc
+still_stays k g (op.Call a) w b h = cc
+still_stays k g (op.Restart a) w b h = cc
+still_stays k g (op.AddSp e8) w b h = cc
+still_stays k g op.LoadSpHl w b h = cc
+still_stays k g o w b h = refl
 
 -- ---- where SP is set to
 
@@ -223,6 +235,7 @@ IsMovedTo k (move.Take n) sp after = after ≡ (sp + n) % 65536
 IsMovedTo k (move.Append n) sp after = after ≡ (sp + (65536 - n)) % 65536
 IsMovedTo k (move.Set n) sp after = (b : ℕ) × (known_base k.setting ≡ Some b) × IsBelow b n after
 IsMovedTo k (move.Restart n) sp after = IsBelow (k.region.last + 1) n after
+IsMovedTo k (move.Aside b) sp after = (b.first ≤ after) × (after ≤ b.last)
 IsMovedTo k _ sp after = Unit {0}
 
 set_moves : (k : Stack) (a sp : ℕ) → IsMovedTo k (set_by (own_bytes k a) (main_bytes k a)) sp a
@@ -279,26 +292,50 @@ pushes_move k write.Nothing sp = tt
 pushes_move k (write.Byte span v) sp = tt
 pushes_move k (write.Word a low high) sp = tt
 
+-- SP is put aside where HL is
+within_moves : (k : Stack) (b : Option Bounds) (sp a : ℕ) → WithinIf b a → IfSome b (λ c. IsMovedTo k (move.Aside c) sp a)
+within_moves k None sp a h = tt
+within_moves k (Some b) sp a h = (h.least, h.most)
+
+-- put aside, it passes a word
+popped_within : (k : Stack) (o : Option Bounds) (sp : ℕ) → sp < 65536 → IsSpWithin o sp → IfSome o (λ c. IsMovedTo k (move.Aside (behind_word c)) sp ((sp + 2) % 65536))
+popped_within k None sp small h = tt
+popped_within k (Some b) sp small h = by (nat_lt b.first 0xFFFE && nat_lt b.last 0xFFFE) refl
+  where
+    by :
+        (t : Bool) → (nat_lt b.first 0xFFFE && nat_lt b.last 0xFFFE) ≡ t
+        → ((cond {A = Bounds} t (record { first = b.first + 2; last = b.last + 2 }) (record { first = 0; last = 0xFFFF })).first ≤ (sp + 2) % 65536)
+        × ((sp + 2) % 65536 ≤ (cond {A = Bounds} t (record { first = b.first + 2; last = b.last + 2 }) (record { first = 0; last = 0xFFFF })).last)
+    by true e =
+        let least = h.0 in
+        let most = h.1 in
+        let both = and_parts (nat_lt b.first 0xFFFE) (nat_lt b.last 0xFFFE) e in
+        let near : b.last < 65534 = less_is b.last 65534 both.1 in
+        (omega arith, omega arith)
+    by false e = (omega arith, omega arith)
+
 -- the machine's SP moves as it is said, where HL lies within the bounds
 pub sp_moves :
-    (k : Stack) (o : Op) (w : AbsWrite) (b : Option Bounds) (p : Processor) (l h : ℕ) → k.setting.rules ≡ Extended → HasBytes o
+    (k : Stack) (g : Around) (o : Op) (w : AbsWrite) (b : Option Bounds) (p : Processor) (l h : ℕ) → k.setting.rules ≡ Extended → HasBytes o
+    → p.sp < 65536 → IsSpWithin g.aside p.sp
     → (Effects.effect_of o p l h).is_taken ≡ true → (o ≡ op.LoadSpHl → WithinIf b (Effects.hl p))
-    → IsMovedTo k (stack_move k o w b) p.sp (Effects.effect_of o p l h).processor.sp
+    → IsMovedTo k (stack_move k g o w b) p.sp (Effects.effect_of o p l h).processor.sp
 unfolding stack_move Effects.effect_of Effects.push Effects.call Effects.return_to with_pair pair_value
-sp_moves k (op.LoadPair pair.Sp a) w b p l h r bytes taken hl = set_to_moves k a p.sp r
-sp_moves k op.LoadSpHl w b p l h r bytes taken hl = set_within_moves k b p.sp _ r (hl refl)
-sp_moves k (op.Push from) (write.Push high low) b p l h r bytes taken hl = refl
-sp_moves k (op.Push from) write.Nothing b p l h r bytes taken hl = tt
-sp_moves k (op.Push from) (write.Byte span v) b p l h r bytes taken hl = tt
-sp_moves k (op.Push from) (write.Word a low high) b p l h r bytes taken hl = tt
-sp_moves k (op.Pop to) w b p l h r bytes taken hl = refl
-sp_moves k (op.IncrementPair pair.Sp) w b p l h r bytes taken hl = extended_moves k (move.Take 1) p.sp _ r refl
-sp_moves k (op.DecrementPair pair.Sp) w b p l h r bytes taken hl = extended_moves k (move.Append 1) p.sp _ r refl
-sp_moves k (op.AddSp e8) w b p l h r bytes taken hl = extended_moves k (displaced_by e8) p.sp _ r (displaced_moves k e8 p.sp bytes)
-sp_moves k (op.CallIf condition a) w b p l h r bytes taken hl = extended_moves k (push_of w) p.sp _ r (only_if-moves k (push_of w) p.sp _ (Effects.call p a) p taken (pushes_move k w p.sp))
-sp_moves k (op.Call a) w b p l h r bytes taken hl = extended_moves k (push_of w) p.sp _ r (pushes_move k w p.sp)
-sp_moves k (op.Restart a) w b p l h r bytes taken hl = extended_moves k (push_of w) p.sp _ r (pushes_move k w p.sp)
-sp_moves k (op.ReturnIf condition) w b p l h r bytes taken hl = extended_moves k (move.Take 2) p.sp _ r (only_if-moves k (move.Take 2) p.sp _ (Effects.return_to p l h) p taken refl)
-sp_moves k op.Return w b p l h r bytes taken hl = extended_moves k (move.Take 2) p.sp _ r refl
-sp_moves k op.ReturnFromInterrupt w b p l h r bytes taken hl = extended_moves k (move.Take 2) p.sp _ r refl
-sp_moves k o w b p l h r bytes taken hl = tt
+sp_moves k g (op.LoadPair pair.Sp a) w b p l h r bytes small aside taken hl = either_aside (λ m. IsMovedTo k m p.sp a) (set_to k.setting.rules k a) g.may_leave _ (set_to_moves k a p.sp r) (omega arith, omega arith)
+sp_moves k g op.LoadSpHl w b p l h r bytes small aside taken hl = either_within (λ m. IsMovedTo k m p.sp (Effects.hl p)) (set_within k b) g.may_leave b (set_within_moves k b p.sp _ r (hl refl)) (within_moves k b p.sp (Effects.hl p) (hl refl))
+sp_moves k g (op.Push from) (write.Push high low) b p l h r bytes small aside taken hl = refl
+sp_moves k g (op.Push from) write.Nothing b p l h r bytes small aside taken hl = tt
+sp_moves k g (op.Push from) (write.Byte span v) b p l h r bytes small aside taken hl = tt
+sp_moves k g (op.Push from) (write.Word a low high) b p l h r bytes small aside taken hl = tt
+sp_moves k g (op.Pop to) w b p l h r bytes small aside taken hl =
+    either_popped (λ m. IsMovedTo k m p.sp ((p.sp + 2) % 65536)) k.setting.rules g.aside refl (popped_within k g.aside p.sp small aside)
+sp_moves k g (op.IncrementPair pair.Sp) w b p l h r bytes small aside taken hl = extended_moves k (move.Take 1) p.sp _ r refl
+sp_moves k g (op.DecrementPair pair.Sp) w b p l h r bytes small aside taken hl = extended_moves k (move.Append 1) p.sp _ r refl
+sp_moves k g (op.AddSp e8) w b p l h r bytes small aside taken hl = extended_moves k (displaced_by e8) p.sp _ r (displaced_moves k e8 p.sp bytes)
+sp_moves k g (op.CallIf condition a) w b p l h r bytes small aside taken hl = extended_moves k (push_of w) p.sp _ r (only_if-moves k (push_of w) p.sp _ (Effects.call p a) p taken (pushes_move k w p.sp))
+sp_moves k g (op.Call a) w b p l h r bytes small aside taken hl = extended_moves k (push_of w) p.sp _ r (pushes_move k w p.sp)
+sp_moves k g (op.Restart a) w b p l h r bytes small aside taken hl = extended_moves k (push_of w) p.sp _ r (pushes_move k w p.sp)
+sp_moves k g (op.ReturnIf condition) w b p l h r bytes small aside taken hl = extended_moves k (move.Take 2) p.sp _ r (only_if-moves k (move.Take 2) p.sp _ (Effects.return_to p l h) p taken refl)
+sp_moves k g op.Return w b p l h r bytes small aside taken hl = extended_moves k (move.Take 2) p.sp _ r refl
+sp_moves k g op.ReturnFromInterrupt w b p l h r bytes small aside taken hl = extended_moves k (move.Take 2) p.sp _ r refl
+sp_moves k g o w b p l h r bytes small aside taken hl = tt

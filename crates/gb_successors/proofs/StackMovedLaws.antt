@@ -1,5 +1,5 @@
 -- The states that a move of the stack leaves stand for the machine behind it.
-use Rattle.std.proofs.Common.{◌≡◌, ℕ, ◌+◌, ◌-◌, ◌%◌, ◌≤◌, false, cond, nat_lt, List, ◌++◌, length, take, replicate, Some, None, refl, sym, ◌∙◌, ap, subst, arith, length-append, length-take-le}
+use Rattle.std.proofs.Common.{◌≡◌, ℕ, ◌+◌, ◌-◌, ◌%◌, ◌≤◌, false, cond, nat_lt, List, ◌++◌, length, take, replicate, Some, None, refl, sym, ◌∙◌, ap, subst, arith, length-append, length-take-le, true, ◌<◌}
 use Rattle.std.proofs.lemmas.List.{length-replicate, length-take}
 use Rattle.std.proofs.lemmas.Bool.Decides.{nat_tests}
 use Rattle.gb_ops.specs.declared.machine.Region.{Region}
@@ -23,11 +23,13 @@ use Rattle.gb_product.specs.Below.gb_abs.Stack.{AreInRegion}
 use Rattle.gb_product.proofs.Below.gb_abs_laws.ByteLaws.{taking_sound, appending_sound, resizing_sound}
 use Rattle.gb_product.proofs.Below.gb_abs_laws.OriginLaws.{AreCells-without_origins, MeansCore-without_origins}
 use Rattle.gb_product.proofs.Below.gb_abs_laws.StackLaws.{MeansParts-with_core}
+use Rattle.gb_product.proofs.Below.gb_abs_laws.LocationLaws.{located-set}
+use Rattle.gb_domain.specs.declared.pairs.Bounds.{Bounds}
 use Rattle.gb_successors.specs.declared.stacks.Stack.{Stack}
 use Rattle.gb_successors.specs.declared.stacks.StackMove.{StackMove}
 use Rattle.gb_successors.specs.declared.stacks.StackMove.TheVariants as move
 use Rattle.gb_successors.specs.Sound.{HasRoomFor, HoldsBytes, bytes_moved}
-use Rattle.gb_successors.specs.Stacks.{appended_if_room, set_if_room, begun_anew, with_stack_moved, core_set, moved_core}
+use Rattle.gb_successors.specs.Stacks.{appended_if_room, set_if_room, begun_anew, with_aside, with_stack_moved, core_set, moved_core}
 use Rattle.gb_successors.proofs.SpMoveLaws.{IsMovedTo}
 
 -- ---- what is held
@@ -82,11 +84,11 @@ pub taken_off :
 unfolding with_stack_moved moved_core without_newest
 taken_off z region n s core entry base x p m c keeps holds room is sp =
     let sound = taking_sound n s (Some (without_newest n s)) (sym (ap (λ b. cond b None (Some (without_newest n s))) (not_less (length s.items) n holds.held))) in
-    let moved = sound.gives region entry base x m holds.stack_set room is in
+    let moved = sound.gives region entry base x m holds.located room is in
     let fewer = length-taken n s.items in
     let first = room.first in
     record {
-      means = MeansParts-with_core (without_newest n s) core entry base _ (record x { processor = p }) moved c refl refl sp (λ on. holds.stack_set);
+      means = MeansParts-with_core (without_newest n s) core entry base _ (record x { processor = p }) moved c refl refl sp (λ on. located-set s.summary.aside s.core.stack_set holds.located);
       room = record { first = omega arith; last = room.last };
       bytes = omega arith;
     }
@@ -103,10 +105,10 @@ pub put_on :
 unfolding with_stack_moved moved_core with_any_bytes
 put_on z region n s core entry base x p m c has is sp =
     let sound = appending_sound n (item_room z.rules) s (Some (with_any_bytes n s)) (sym (ap (λ b. cond b None (Some (with_any_bytes n s))) has.held)) in
-    let moved = sound.gives region entry base x m has.stack_set has.room is in
+    let moved = sound.gives region entry base x m has.located has.room is in
     subst (λ (t : AbsState). IsMoved region (move.Append n) s (with_core t core) entry base (record x { processor = p })) (sym (appended-if_room z n s has.held))
     (record {
-      means = MeansParts-with_core (with_any_bytes n s) core entry base _ (record x { processor = p }) moved c refl refl sp (λ on. has.stack_set);
+      means = MeansParts-with_core (with_any_bytes n s) core entry base _ (record x { processor = p }) moved c refl refl sp (λ on. located-set s.summary.aside s.core.stack_set has.located);
       room = subst (AreInRegion region base) (sym (longer n s)) has.room;
       bytes = longer n s;
     })
@@ -140,20 +142,42 @@ set_below region n s core entry base x p m c room is sp =
       bytes = omega arith;
     }
 
+-- SP isn't put aside then
+same_resized : (n : ℕ) (s : AbsState) → resized n (with_aside None s) ≡ resized n s
+unfolding resized
+same_resized n s = refl
+
 pub set_own :
     (k : Stack) (n : ℕ) (s : AbsState) (core : Core) (entry : Activation) (base : ℕ) (x : MState) (p : Processor) → k.setting.rules ≡ Extended → IsBase k.setting base
     → MeansParts s entry base x → MeansCore core entry (record x { processor = p }) → AreInRegion k.region base n → IsRegion k.region → IsMovedTo k (move.Set n) x.processor.sp p.sp
     → IsMoved k.region (move.Set n) s (with_core (with_stack_moved k.setting (move.Set n) s) (moved_core (move.Set n) core)) entry base (record x { processor = p })
 unfolding with_stack_moved moved_core
 set_own k n s core entry base x p extended right m c room is to =
-    subst (λ (t : AbsState). IsMoved k.region (move.Set n) s (with_core t (core_set core)) entry base (record x { processor = p })) (sym (set-if_room k.setting n s extended to.2.few))
+    subst (λ (t : AbsState). IsMoved k.region (move.Set n) s (with_core t (core_set core)) entry base (record x { processor = p })) (sym (set-if_room k.setting n (with_aside None s) extended to.2.few ∙ same_resized n s))
     (set_below k.region n s core entry base x p m c room is (to.2.at ∙ ap (λ b. b - n) (right to.0 to.1)))
+
+-- ---- SP is put aside
+
+never_located : {X : Type 0} → false ≡ true → X
+never_located e = cc
+
+pub put_aside :
+    (k : Stack) (b : Bounds) (s : AbsState) (core : Core) (entry : Activation) (base : ℕ) (x : MState) (p : Processor)
+    → MeansParts s entry base x → MeansCore core entry (record x { processor = p }) → AreInRegion k.region base (length s.items) → p.sp < 65536
+    → IsMoved k.region (move.Aside b) s (with_core (with_stack_moved k.setting (move.Aside b) s) (moved_core (move.Aside b) core)) entry base (record x { processor = p })
+unfolding with_stack_moved moved_core
+put_aside k b s core entry base x p m c room small =
+    record {
+      means = record { core = c; memory = m.memory; sp = small; stack = λ e. never_located e; items = m.items; cells = m.cells };
+      room = room;
+      bytes = refl;
+    }
 
 -- ---- main begins anew
 
 -- with nothing on a stack that isn't set
 abbrev forgotten : AbsState → AbsState
-forgotten s = record (begun_anew s) { core = record (core_without_origins s.core) { stack_set = false } }
+forgotten s = record (begun_anew (with_aside None s)) { core = record (core_without_origins s.core) { stack_set = false } }
 
 MeansCore-unset : (core : Core) (entry : Activation) (x : MState) → MeansCore core entry x → MeansCore (record core { stack_set = false }) entry x
 MeansCore-unset core entry x m =
@@ -179,7 +203,7 @@ MeansParts-forgotten s entry other base top x same m =
       cells = AreCells-without_origins s.cells entry other x.storage m.cells;
     }
 
-same_forgotten : (n : ℕ) (s : AbsState) (core : Core) → with_core (resized n (begun_anew s)) core ≡ with_core (resized n (forgotten s)) core
+same_forgotten : (n : ℕ) (s : AbsState) (core : Core) → with_core (resized n (begun_anew (with_aside None s))) core ≡ with_core (resized n (forgotten s)) core
 unfolding resized
 same_forgotten n s core = refl
 
@@ -195,5 +219,5 @@ set_anew k n s core entry other base x p same extended m c room is to =
     set_below k.region n (forgotten s) (core_without_origins core) other base_of_main x p (MeansParts-forgotten s entry other base base_of_main x same m)
     (MeansCore-without_origins core entry other (record x { processor = p }) (ap (λ p. p.kind) (sym same)) c) room is to.at in
     subst (λ (t : AbsState). IsMoved k.region (move.Restart n) s t other (k.region.last + 1) (record x { processor = p }))
-    (sym (ap (λ (t : AbsState). with_core t (core_set (core_without_origins core))) (set-if_room k.setting n (begun_anew s) extended to.few) ∙ same_forgotten n s (core_set (core_without_origins core))))
+    (sym (ap (λ (t : AbsState). with_core t (core_set (core_without_origins core))) (set-if_room k.setting n (begun_anew (with_aside None s)) extended to.few) ∙ same_forgotten n s (core_set (core_without_origins core))))
     (record { means = done.means; room = done.room; bytes = done.bytes })

@@ -55,13 +55,16 @@ use Rattle.gb_product.specs.Below.gb_abs_effects.Targets.{is_push, is_pop, is_ca
 use Rattle.gb_product.specs.Below.gb_abs_effects.Sound.{HoldsRead, HoldsWrite, HoldsTarget, IsWrite, Follows}
 use Rattle.gb_product.proofs.Below.gb_abs_effects_laws.ReadLaws.{read_of_sound}
 use Rattle.gb_product.proofs.Below.gb_abs_effects_laws.TargetLaws.{sp-pushed, sp-popped, pc-returned}
-use Rattle.gb_code.specs.Below.gb_abs_memory.Sound.{view}
-use Rattle.gb_code.specs.Below.gb_abs_memory.Kept.{IsKept}
+use Rattle.gb_abs_memory.specs.Sound.{view}
+use Rattle.gb_abs_memory.specs.Kept.{IsKept}
 use Rattle.gb_product.specs.Below.gb_pairs.declared.values.Values.{Values}
 use Rattle.gb_successors.specs.Behind.{written, starts, ended}
 use Rattle.gb_successors.specs.Loads.{read_word, word_by}
 use Rattle.gb_successors.specs.Refused.{reads_closed_ram, is_stack_limited, is_read_limited, is_write_limited}
 use Rattle.gb_successors.specs.Sound.{bytes_behind, IsPushable, IsPoppable, IsReturnable, IsStackKnown, IsStackFree, IsStackFit, IsAllowed, LeadsParts, LeadsSimply}
+use Rattle.gb_successors.proofs.AroundLaws.{located-same}
+use Rattle.gb_product.proofs.Below.gb_abs_laws.LocationLaws.{located-set}
+use Rattle.gb_product.specs.Below.gb_abs.Meaning.{is_located}
 use Rattle.gb_successors.proofs.SimpleLaws.{behind_row, known_read, low_of, high_of, abs_effect, with_stack_of, simple_parts}
 use Rattle.gb_successors.proofs.PlainLaws.{IsPlainRead}
 use Rattle.gb_successors.proofs.AccessLaws.{Loads, clear_stack}
@@ -147,7 +150,7 @@ same_but_sp core entry x y sp m e = subst (λ z. MeansCore core entry z) (sym e)
 
 pushes : (z : Setting) (rom : List ℕ) (region : Region) (ranges : List Range) (row : Row) (a : ℕ) (s : AbsState) (entry : Activation) (base : ℕ) (x : MState) (reads : List ℕ) (c : Core)
     → IsTaken z rom region ranges row a s entry base x reads c → (high low : Val) → (abs_effect z rom row a s c).write ≡ write.Push high low
-    → s.core.stack_set ≡ true → AreInRegion region base (length s.items + 2) → is_stack_limited region s.core ≡ false
+    → is_located s ≡ true → AreInRegion region base (length s.items + 2) → is_stack_limited region s.core ≡ false
     → Follows (abs_effect z rom row a s c) entry (begun row x) (effect rom row x reads)
     → Pushed z rom region ranges s (abs_effect z rom row a s c).core (record { high = high; low = low }) entry base x (effect rom row x reads)
 pushes z rom region ranges row a s entry base x reads c k high low is set room limited f =
@@ -164,7 +167,7 @@ pushes z rom region ranges row a s entry base x reads c k high low is set room l
     let means : MeansParts (with_core s core) entry base before =
     MeansParts-with_core s core entry base x before k.stands.means.parts (same_but_sp core entry (acted rom row x reads) before x.processor.sp f.core refl) refl refl refl (λ on. sym keeps.stack ∙ on) in
     let done =
-    MeansParts-pushed region (with_core s core) entry base before (view rom x false) (record { high = high; low = low }) held.value means refl (keeps.stack ∙ set) room k.stands.is_region k.stands.placed
+    MeansParts-pushed region (with_core s core) entry base before (view rom x false) (record { high = high; low = low }) held.value means refl (located-same s.summary.aside core.stack_set s.core.stack_set keeps.stack set) room k.stands.is_region k.stands.placed
     (IsRegionOpen-bound s.core entry x region k.stands.means.parts.core (clear_stack region s.core limited)) held.high_held held.low_held small in
     let top = k.stands.means.parts.stack set in
     record {
@@ -220,7 +223,7 @@ Done-push z rom region ranges row a s entry base x reads c k is able allowed =
     let f = follows z rom region ranges row a s entry base x reads c k l in
     let limited : is_stack_limited region s.core ≡ false =
     subst (λ v. is_write_limited region s.core v ≡ false) (write_is z rom region row a s c ∙ p.write_is) (allowed_write z rom region ranges s base _ allowed).1 in
-    let w = pushes z rom region ranges row a s entry base x reads c k p.first p.second p.write_is able.stack_set able.room limited f.0 in
+    let w = pushes z rom region ranges row a s entry base x reads c k p.first p.second p.write_is able.located able.room limited f.0 in
     let state : t.state ≡ ended false row.cycles (pushed i (with_core s core)) =
     state_by z rom region row a s c _ p.write_is ∙ (ended_push z region (kind_of rom) p.first p.second row.cycles _ ∙ ap (ended false row.cycles) (p.leaves (with_core s core) ∙ pushed-if_room z i (with_core s core) able.held)) in
     record {
@@ -249,7 +252,7 @@ ended_pushed : (n : ℕ) (i : Halves) (s : AbsState) → ended false n (pushed i
 unfolding ended pushed
 ended_pushed n i s = refl
 
-ended_set : (n : ℕ) (s : AbsState) → (ended false n s).core.stack_set ≡ s.core.stack_set
+ended_set : (n : ℕ) (s : AbsState) → is_located (ended false n s) ≡ is_located s
 unfolding ended core_end
 ended_set n s = refl
 
@@ -263,7 +266,7 @@ ended_cells n s = refl
 
 pub Done-call :
     (z : Setting) (rom : List ℕ) (region : Region) (ranges : List Range) (row : Row) (a : ℕ) (s : AbsState) (entry : Activation) (base : ℕ) (x : MState) (reads : List ℕ) (c : Core)
-    → IsTaken z rom region ranges row a s entry base x reads c → is_call row.op ≡ true → s.core.stack_set ≡ true → IsAllowed z rom region ranges s base (simple_parts z rom region row (behind_row a row) s c)
+    → IsTaken z rom region ranges row a s entry base x reads c → is_call row.op ≡ true → is_located s ≡ true → IsAllowed z rom region ranges s base (simple_parts z rom region row (behind_row a row) s c)
     → Done z rom region ranges row s (simple_parts z rom region row (behind_row a row) s c) entry base x reads
 unfolding is_write_limited
 Done-call z rom region ranges row a s entry base x reads c k is set allowed =
@@ -298,7 +301,7 @@ Done-call z rom region ranges row a s entry base x reads c k is set allowed =
                       (MeansParts-ended rom (pushed (known_word next) (with_core s core)) entry base e.processor (stored (view rom x false) e.write) false row.cycles w.starting w.means)));
                   next = subst (λ n. n < 65536) (sym (next_is z rom region row a s c)) (wrapped (a + row.length));
                   goes = subst (λ v. HoldsTarget v e.processor.pc) p.target_is (goes_to z rom region ranges row a s entry base x reads c k);
-                  stack_set = ap (λ (z : AbsState). z.core.stack_set) state ∙ (ended_set row.cycles (with_core s core) ∙ (keeps.stack ∙ set));
+                  located = ap is_located state ∙ (ended_set row.cycles (with_core s core) ∙ located-same s.summary.aside core.stack_set s.core.stack_set keeps.stack set);
                   placed = subst (λ cells. ArePlaced region cells) (sym (ap (λ (z : AbsState). z.cells) state ∙ ended_cells row.cycles (with_core s core))) k.stands.placed;
                 }));
             kept = λ b kept. passed_peek (stored (view rom x false) e.write) row.cycles b ∙ w.kept b kept;
@@ -311,14 +314,14 @@ Done-call z rom region ranges row a s entry base x reads c k is set allowed =
 
 -- ---- a word is popped
 
-popped_set : (s : AbsState) → s.core.stack_set ≡ true → (popped s).core.stack_set ≡ true
+popped_set : (s : AbsState) → is_located s ≡ true → is_located (popped s) ≡ true
 unfolding popped
 popped_set s h = h
 
--- the stack is set on the side too
+-- SP stands where the items end on the side too
 set_of : (z : Setting) (rom : List ℕ) (region : Region) (ranges : List Range) (row : Row) (a : ℕ) (s : AbsState) (entry : Activation) (base : ℕ) (x : MState) (reads : List ℕ) (c : Core)
-    → IsTaken z rom region ranges row a s entry base x reads c → s.core.stack_set ≡ true → c.stack_set ≡ true
-set_of z rom region ranges row a s entry base x reads c k set = k.keeps.stack ∙ set
+    → IsTaken z rom region ranges row a s entry base x reads c → is_located s ≡ true → is_located (with_core s c) ≡ true
+set_of z rom region ranges row a s entry base x reads c k set = located-same s.summary.aside c.stack_set s.core.stack_set k.keeps.stack set
 
 -- the state before its reads is meant
 means_begun_taken : (z : Setting) (rom : List ℕ) (region : Region) (ranges : List Range) (row : Row) (a : ℕ) (s : AbsState) (entry : Activation) (base : ℕ) (x : MState) (reads : List ℕ) (c : Core)
@@ -340,7 +343,7 @@ reads_top z rom region ranges row a s entry base x reads c k is =
 
 -- the word of a state that holds it on top
 pops : (z : Setting) (rom : List ℕ) (region : Region) (ranges : List Range) (row : Row) (a : ℕ) (s : AbsState) (entry : Activation) (base : ℕ) (x : MState) (reads : List ℕ) (c : Core)
-    → IsTaken z rom region ranges row a s entry base x reads c → (held : AbsState) (i : Halves) (top : ℕ) → MeansParts held entry top (begun row x) → youngest held ≡ Some i → held.core.stack_set ≡ true
+    → IsTaken z rom region ranges row a s entry base x reads c → (held : AbsState) (i : Halves) (top : ℕ) → MeansParts held entry top (begun row x) → youngest held ≡ Some i → is_located held ≡ true
     → AreInRegion region top (length held.items) → is_stack_limited region s.core ≡ false → Pops (popped held) i entry top (begun row x) (view rom x false) reads
 pops z rom region ranges row a s entry base x reads c k held i top means is set room limited =
     Pops-popped region held entry top (begun row x) (view rom x false) i reads means refl set is room k.stands.is_region
@@ -367,7 +370,7 @@ record Popped (rom : List ℕ) (region : Region) (core : Core) (held : AbsState)
   pub same : (b : ℕ) → peek (left_by rom x e n).storage b ≡ peek x.storage b
 
 leaves_word : (z : Setting) (rom : List ℕ) (region : Region) (ranges : List Range) (row : Row) (a : ℕ) (s : AbsState) (entry : Activation) (base : ℕ) (x : MState) (reads : List ℕ) (c : Core)
-    → IsTaken z rom region ranges row a s entry base x reads c → (after : AbsState) (i : Halves) (top : ℕ) → Pops after i entry top (begun row x) (view rom x false) reads → after.core.stack_set ≡ true
+    → IsTaken z rom region ranges row a s entry base x reads c → (after : AbsState) (i : Halves) (top : ℕ) → Pops after i entry top (begun row x) (view rom x false) reads → is_located after ≡ true
     → read_of row.op c ≡ read.Top → (abs_effect z rom row a s c).write ≡ write.Nothing → Follows (abs_effect z rom row a s c) entry (begun row x) (effect rom row x reads)
     → Popped rom region (abs_effect z rom row a s c).core after row.cycles entry top x (effect rom row x reads)
 leaves_word z rom region ranges row a s entry base x reads c k after i top p set is nothing f =
@@ -378,7 +381,7 @@ leaves_word z rom region ranges row a s entry base x reads c k after i top p set
     let moved : e.processor.sp ≡ ((begun row x).processor.sp + 2) % 65536 =
     sp-popped row.op (advanced x.processor row) (given rom row x reads).low (given rom row x reads).high (begun row x).processor.sp k.taken (reads_top z rom region ranges row a s entry base x reads c k is) in
     let means : MeansParts (with_core after core) entry top (acted rom row x reads) =
-    MeansParts-with_core after core entry top (record (begun row x) { processor = with_sp (begun row x).processor (((begun row x).processor.sp + 2) % 65536) }) (acted rom row x reads) p.means f.core refl refl moved (λ on. set) in
+    MeansParts-with_core after core entry top (record (begun row x) { processor = with_sp (begun row x).processor (((begun row x).processor.sp + 2) % 65536) }) (acted rom row x reads) p.means f.core refl refl moved (λ on. located-set after.summary.aside after.core.stack_set set) in
     record {
       means = subst (λ (m : View). MeansParts (ended false row.cycles (with_core after core)) entry top (record { processor = e.processor; storage = (passed m row.cycles).storage })) (sym same)
           (MeansParts-ended rom (with_core after core) entry top e.processor (view rom x false) false row.cycles refl means);
@@ -439,7 +442,7 @@ Done-pop z rom region ranges row a s entry base x reads c k is able allowed =
     let core = (abs_effect z rom row a s c).core in
     let limited : is_stack_limited region s.core ≡ false =
     subst (λ v. is_read_limited region s.core v ≡ false) (read_is z rom region row a s c ∙ p.read_is) (allowed_read z rom region ranges s base _ allowed).1 in
-    let set : c.stack_set ≡ true = set_of z rom region ranges row a s entry base x reads c k able.stack_set in
+    let set : is_located (with_core s c) ≡ true = set_of z rom region ranges row a s entry base x reads c k able.located in
     let top = top_held s c able.held in
     let word = pops z rom region ranges row a s entry base x reads c k (with_core s c) top.0 base (means_begun_taken z rom region ranges row a s entry base x reads c k) top.1 set k.stands.room limited in
     let l = loads_word z rom row s c entry x reads top.0 (begun row x).processor.sp (read_top z rom (with_core s c) (read_of row.op c) (Some top.0) p.read_is top.1)
@@ -482,7 +485,7 @@ single-held entry n v h =
 Holds-any : (entry : Activation) (n : ℕ) → n ≤ 255 → Holds any_val entry n
 Holds-any entry n h = record { least = omega arith; most = h; low = refl; origin = λ o e. cc }
 
-return_word_means : (s : AbsState) (c : Core) (entry : Activation) (base : ℕ) (x : MState) → MeansParts s entry base x → s.core.stack_set ≡ true → s.items ≡ [] → (y : MState) → y.storage ≡ x.storage → y.processor.sp ≡ x.processor.sp → MeansCore c entry y
+return_word_means : (s : AbsState) (c : Core) (entry : Activation) (base : ℕ) (x : MState) → MeansParts s entry base x → is_located s ≡ true → s.items ≡ [] → (y : MState) → y.storage ≡ x.storage → y.processor.sp ≡ x.processor.sp → MeansCore c entry y
     → MeansParts (with_return_word s c (peek x.storage base) (peek x.storage (base + 1))) entry (base + 2) y
 return_word_means s c entry base x m set none y storage sp core =
     let stack = m.stack set in
@@ -533,8 +536,8 @@ Done-return z rom region ranges row a s entry base x reads c k is allowed =
     let state : t.state ≡ ended false row.cycles (with_core s core) =
     state_by z rom region row a s c _ p.write_is ∙ (ended_nothing z region (kind_of rom) row.cycles _ ∙ ap (ended false row.cycles) (p.leaves _ (with_core s core))) in
     let none : s.items ≡ [] = sym (ap (λ (z : AbsState). z.items) state ∙ ended_items row.cycles (with_core s core)) ∙ able.held in
-    let set : c.stack_set ≡ true = set_of z rom region ranges row a s entry base x reads c k able.stack_set in
-    let means = return_word_means s c entry base x k.stands.means.parts able.stack_set none (begun row x) refl (begun_sp row x) k.means in
+    let set : is_located (with_core s c) ≡ true = set_of z rom region ranges row a s entry base x reads c k able.located in
+    let means = return_word_means s c entry base x k.stands.means.parts able.located none (begun row x) refl (begun_sp row x) k.means in
     let word = pops z rom region ranges row a s entry base x reads c k (with_return_word s c low high) (record { high = single high; low = single low }) (base + 2) means (return_youngest s c low high) set able.return_word limited in
     let top : Loaded = loaded (view rom x false) (machine_read.Word (begun row x).processor.sp) reads in
     let at_low : top.low ≡ low = single-held entry low top.low word.low in

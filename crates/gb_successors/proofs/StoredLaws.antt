@@ -23,8 +23,7 @@ use Rattle.gb_ops.specs.Cartridge as Cartridge
 use Rattle.gb_ops.specs.Effects as Effects
 use Rattle.gb_ops.specs.Faults.{no_faults, access_faults, write_faults, push_faults, either_faults, store_faults}
 use Rattle.gb_ops.specs.Memory.{View, mapped_at, is_closed, wrote_by, kept_or, wrote, stored}
-use Rattle.gb_ops.specs.Pairs.{word}
-use Rattle.gb_ops.specs.Pointers.{pointed, pointer_of, byte_or_page, high_register, low_register, ReadsAt, WritesAt}
+use Rattle.gb_ops.specs.Pointers.{pointed, pointer_of, ReadsAt, WritesAt}
 use Rattle.gb_ops.specs.Registers.{get}
 use Rattle.gb_ops.proofs.PointerLaws.{follows}
 use Rattle.gb_domain.specs.declared.low_bits.LowBits.{LowBits}
@@ -32,13 +31,10 @@ use Rattle.gb_domain.specs.declared.setting.Setting.{Setting}
 use Rattle.gb_domain.specs.declared.types.Range.{Range}
 use Rattle.gb_domain.specs.declared.types.Val.{Val}
 use Rattle.gb_domain.specs.Areas.{IsRegion}
-use Rattle.gb_domain.specs.Interval.{low_bits_of}
-use Rattle.gb_domain.specs.LowBits.{modulus, no_low_bits, are_congruent}
+use Rattle.gb_domain.specs.LowBits.{no_low_bits, are_congruent}
 use Rattle.gb_domain.specs.Meaning.{Has}
 use Rattle.gb_domain.specs.Rules.{IsVal}
 use Rattle.gb_domain.specs.Values.{interval_of}
-use Rattle.gb_domain.proofs.IntervalLaws.{In-Has}
-use Rattle.gb_domain.proofs.ModulusLaws.{congruent-byte}
 use Rattle.gb_product.specs.Below.gb_copies.Windows.{is_in_window}
 use Rattle.gb_product.specs.Below.gb_pairs.Meaning.{AreBytes}
 use Rattle.gb_product.specs.Below.gb_summaries.Below.gb_ram_bounds.Addresses.{is_in}
@@ -49,13 +45,15 @@ use Rattle.gb_product.specs.Below.gb_summaries.Stores.{ShareWindows}
 use Rattle.gb_product.proofs.Below.gb_summaries_laws.KnownLaws.{In-interval}
 use Rattle.gb_product.specs.Below.gb_abs.declared.span.Span.{Span}
 use Rattle.gb_product.specs.Below.gb_abs.Span.{IsIn, one}
+use Rattle.gb_product.proofs.Below.gb_abs_laws.SpanLaws.{Has-none, IsIn-alone}
+use Rattle.gb_product.proofs.Below.gb_relations_laws.PointedBitsLaws.{Has-pointed as Has-at}
 use Rattle.gb_product.specs.Below.gb_abs.Meaning.{Activation, Holds}
 use Rattle.gb_product.specs.Below.gb_abs_effects.declared.writes.AbsWrite.{AbsWrite}
 use Rattle.gb_product.specs.Below.gb_abs_effects.declared.writes.AbsWrite.TheVariants as write
 use Rattle.gb_product.specs.Below.gb_abs_effects.Sound.{HoldsWrite, IsWrite}
 use Rattle.gb_product.proofs.Below.gb_abs_effects_laws.CoreLaws.{In-from, byte-of}
 use Rattle.gb_product.specs.Below.gb_relations.Sound.{Writes}
-use Rattle.gb_code.specs.Below.gb_abs_memory.Access.{is_storable}
+use Rattle.gb_abs_memory.specs.Access.{is_storable}
 use Rattle.gb_successors.specs.Behind.{behind}
 use Rattle.gb_successors.specs.Refused.{is_unstorable}
 use Rattle.gb_successors.specs.Summaries.{pointed_bits, stored_by}
@@ -161,25 +159,11 @@ unfolding is_in are_congruent
 among span low a i h =
     all_of _ _ _ (at_most span.first a i.first) (at_most a span.last i.last) (same_test _ _ h.same)
 
-pub Has-none : (a : ℕ) → Has no_low_bits a
-unfolding modulus
-Has-none a = record { same = omega arith }
-
--- the low bits of an address are those of its low byte
-Has-word : (k : LowBits) (high low : ℕ) → low < 256 → Has k low → Has k (word high low)
-Has-word k high low small h =
-    let byte : word high low % 256 ≡ low = omega arith in
-    record { same = sym (congruent-byte k.count (word high low)) ∙ (ap (λ n. n % modulus k.count) byte ∙ h.same) }
-
+-- the low bits of an address are those of its pointer's low byte
 pub Has-pointer :
     (q : Pointer) (registers : Registers Val) (entry : Activation) (p : Processor) (a : ℕ)
     → ((r : Register) → Holds (get r registers) entry (get r p.registers)) → AreBytes p.registers → a ≡ pointed p q → Has (pointed_bits (Some q) registers) a
-unfolding pointed
-Has-pointer q registers entry p a holds bytes at =
-    let v = get (low_register q) registers in
-    subst (Has (low_bits_of (interval_of v))) (sym at)
-    (Has-word (low_bits_of (interval_of v)) (byte_or_page p (high_register q)) (get (low_register q) p.registers) (bytes.each (low_register q))
-    (In-Has (interval_of v) _ (In-interval v _ (In-from v entry _ (holds (low_register q))))))
+Has-pointer q registers entry p a holds bytes at = Has-at q registers p a (λ r. In-from (get r registers) entry (get r p.registers) (holds r)) bytes at
 
 Has-pointed :
     (o : Option Pointer) (registers : Registers Val) (entry : Activation) (p : Processor) (r : Read) (w : Write) (a n : ℕ)
@@ -235,7 +219,7 @@ differ : true ≡ false → ⊥
 differ h = cc
 
 at_one : (a : ℕ) → IsIn (one a) a
-at_one a = record { first = omega arith; last = omega arith }
+at_one a = IsIn-alone a
 
 byte_at_most : (v : Val) (entry : Activation) (n : ℕ) → IsVal v → Holds v entry n → n ≤ 255
 byte_at_most v entry n is h = byte-of v entry n is h

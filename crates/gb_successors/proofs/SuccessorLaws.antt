@@ -1,5 +1,5 @@
 -- Whatever the machine executes from a state that is meant leads by one of the successors.
-use Rattle.std.proofs.Common.{◌≡◌, ℕ, zero, suc, ◌+◌, ◌-◌, ◌/◌, ◌%◌, ◌≤◌, ◌<◌, Bool, true, false, if◌then◌else◌, cond, ◌||◌, ◌⊎◌, inl, inr, List, [], ◌∷◌, length, slice_index, slice_get, nat_lt, Option, Some, None, refl, sym, ◌∙◌, ap, subst, arith}
+use Rattle.std.proofs.Common.{◌≡◌, ℕ, zero, suc, ◌+◌, ◌-◌, ◌/◌, ◌%◌, ◌≤◌, ◌<◌, Bool, true, false, if◌then◌else◌, cond, ◌||◌, ◌⊎◌, inl, inr, List, [], ◌∷◌, length, slice_index, slice_get, nat_lt, Option, Some, None, refl, sym, ◌∙◌, ap, subst, arith, ◌==◌}
 use Rattle.std.specs.Prelude.{IfSome}
 use Rattle.std.specs.List.{AllByRecursion}
 use Rattle.gb_ops.specs.declared.machine.Region.{Region}
@@ -26,10 +26,10 @@ use Rattle.gb_domain.specs.Types.{AbsState}
 use Rattle.gb_domain.specs.Areas.{IsRegion}
 use Rattle.gb_domain.specs.Settings.{IsBase}
 use Rattle.gb_domain.specs.Rules.{IsVal, IsCore, IsWord}
-use Rattle.gb_product.specs.Below.gb_vals.Vals.{any_val}
+use Rattle.gb_product.specs.Below.gb_vals.Vals.{any_val, single}
 use Rattle.gb_domain.specs.declared.types.Halves.{Halves}
 use Rattle.gb_product.specs.Below.gb_abs.Storage.{peek}
-use Rattle.gb_product.specs.Below.gb_abs.Located.{sp_halves, halves_by, stack_base}
+use Rattle.gb_product.specs.Below.gb_abs.Located.{sp_halves, halves_by, sp_halves_by, stack_base, IsSpWithin}
 use Rattle.gb_product.specs.Below.gb_abs.Operations.{core_settle, core_end, with_core}
 use Rattle.gb_product.specs.Below.gb_abs.Cells.{ArePlaced}
 use Rattle.gb_product.specs.Below.gb_abs.Stack.{AreInRegion, word_of, last_word, youngest}
@@ -51,13 +51,15 @@ use Rattle.gb_product.proofs.Below.gb_abs_effects_laws.ReadLaws.{read_of_sound}
 use Rattle.gb_product.proofs.Below.gb_abs_effects_laws.RangeLaws.{transfer_inhabited}
 use Rattle.gb_product.proofs.Below.gb_abs_effects_laws.TargetLaws.{target_of_sound, sp-kept, sp-loaded}
 use Rattle.gb_product.proofs.Below.gb_abs_effects_laws.TransferLaws.{transfer_sound}
-use Rattle.gb_code.specs.Below.gb_abs_memory.Sound.{view, AreVals}
-use Rattle.gb_code.proofs.Below.gb_abs_memory_laws.LoadLaws.{IsVal-loaded_val}
+use Rattle.gb_abs_memory.specs.Sound.{view, AreVals}
+use Rattle.gb_abs_memory.proofs.LoadLaws.{IsVal-loaded_val}
+use Rattle.gb_domain.specs.declared.pairs.Bounds.{Bounds}
 use Rattle.gb_successors.specs.Way.{Successor}
 use Rattle.gb_successors.specs.Behind.{written, starts, ended}
 use Rattle.gb_successors.specs.Loads.{read_word}
 use Rattle.gb_successors.specs.Refused.{is_unstorable, meets_closed, meets_oam_transfer, reads_closed_ram, writes_closed_ram, is_read_limited, is_write_limited}
 use Rattle.gb_successors.specs.Sound.{bytes_behind, IsAllowed, LeadsParts, LeadsSimply, LeadsTo, IsStackKnown, Stands}
+use Rattle.gb_successors.proofs.AroundLaws.{IsSpWithin-aside}
 use Rattle.gb_successors.proofs.SimpleLaws.{behind_row, known_read, low_of, high_of, abs_effect, with_stack_of, simple_parts}
 use Rattle.gb_successors.proofs.PlainLaws.{Keeps, Keeps-both, Keeps-transfer, IsPlainRead, IsPlainWrite, IsPlainTarget, IsPlainRead-read_of, IsPlainWrite-transfer, plain_target}
 use Rattle.gb_successors.proofs.AccessLaws.{IsSameGate, closed_same, limited_same, writes_same, write_limited_same, Loads, Loads-read, Stores, AtWrite, Stores-write}
@@ -188,11 +190,13 @@ pub IsVal-any : IsVal any_val
 IsVal-any = record { order = omega arith; hi = omega arith; strided = refl }
 
 -- SP as a pair, whose halves are bytes
-pub IsWord-sp : (z : Setting) (s : AbsState) (entry : Activation) (base : ℕ) (x : MState) → IsBase z base → MeansParts s entry base x → IsWord (sp_halves z s)
+pub IsWord-sp :
+    (z : Setting) (s : AbsState) (entry : Activation) (base : ℕ) (x : MState) → IsBase z base → MeansParts s entry base x → IsSpWithin s.summary.aside x.processor.sp
+    → IsWord (sp_halves z s)
 unfolding sp_halves
-IsWord-sp z s entry base x right m =
+IsWord-sp z s entry base x right m within =
     let known = halves_sound z s (sp_halves z s) refl in
-    by (stack_base z s.core) (known.high entry base x right m) (known.low entry base x right m)
+    by_aside s.summary.aside within (known.high entry base x right m within) (known.low entry base x right m within)
   where
     by : (o : Option ℕ) → Holds (halves_by o (length s.items)).high entry (x.processor.sp / 256) → Holds (halves_by o (length s.items)).low entry (x.processor.sp % 256)
         → IsWord (halves_by o (length s.items))
@@ -202,6 +206,20 @@ IsWord-sp z s entry base x right m =
         let least = h.least in
         let less = l.least in
         record { high = record { order = omega arith; hi = omega arith; strided = refl }; low = record { order = omega arith; hi = omega arith; strided = refl } }
+
+    by_aside :
+        (a : Option Bounds) → IsSpWithin a x.processor.sp → Holds (sp_halves_by a (stack_base z s.core) (length s.items)).high entry (x.processor.sp / 256)
+        → Holds (sp_halves_by a (stack_base z s.core) (length s.items)).low entry (x.processor.sp % 256) → IsWord (sp_halves_by a (stack_base z s.core) (length s.items))
+    by_aside None w h l = by (stack_base z s.core) h l
+    by_aside (Some b) w h l = by_bounds b w (b.first == b.last)
+      where
+        by_bounds : (b : Bounds) → (b.first ≤ x.processor.sp) × (x.processor.sp ≤ b.last) → (t : Bool)
+            → IsWord (cond {A = Halves} t (record { high = single (b.first / 256); low = single (b.first % 256) }) (record { high = any_val; low = any_val }))
+        by_bounds b w true =
+            let small = m.sp in
+            let least = w.0 in
+            record { high = record { order = omega arith; hi = omega arith; strided = refl }; low = record { order = omega arith; hi = omega arith; strided = refl } }
+        by_bounds b w false = record { high = IsVal-any; low = IsVal-any }
 
 IsWord-any : IsWord any_word
 IsWord-any = record { high = IsVal-any; low = IsVal-any }
@@ -227,6 +245,7 @@ IsWord-last items h = choose (nat_lt (length items) 2)
 pub is_word : (z : Setting) (rom : List ℕ) (s : AbsState) (c : Core) (what : AbsRead) → IsVal c.ie → AreVals s.cells → AllByRecursion IsVal s.items → ((i : ℕ) → slice_index rom i ≤ 255) → IsWord (read_word z rom (with_core s c) what)
 unfolding read_word youngest
 is_word z rom s c read.Nothing ie cells items bytes = IsWord-any
+is_word z rom s c (read.Word span) ie cells items bytes = IsWord-any
 is_word z rom s c (read.Byte span) ie cells items bytes = record { high = IsVal-any; low = IsVal-loaded_val z rom (with_core s c) span ie cells items bytes }
 is_word z rom s c read.Top ie cells items bytes = IsWord-last s.items items
 
@@ -244,8 +263,8 @@ follows z rom region ranges row a s entry base x reads c k l =
       high_read = l.high;
       pc = begun_pc row x a k.runs k.mark k.stands.at;
       sp = subst (λ n. n < 65536) (sym (begun_sp row x)) k.stands.means.parts.sp;
-      sp_high = subst (λ n. Holds (sp_halves z s).high entry (n / 256)) (sym (begun_sp row x)) (sp_known.high entry base x k.stands.based k.stands.means.parts);
-      sp_low = subst (λ n. Holds (sp_halves z s).low entry (n % 256)) (sym (begun_sp row x)) (sp_known.low entry base x k.stands.based k.stands.means.parts);
+      sp_high = subst (λ n. Holds (sp_halves z s).high entry (n / 256)) (sym (begun_sp row x)) (sp_known.high entry base x k.stands.based k.stands.means.parts (IsSpWithin-aside s.summary.aside x.processor k.stands.means.summary.aside));
+      sp_low = subst (λ n. Holds (sp_halves z s).low entry (n % 256)) (sym (begun_sp row x)) (sp_known.low entry base x k.stands.based k.stands.means.parts (IsSpWithin-aside s.summary.aside x.processor k.stands.means.summary.aside));
       taken = k.taken;
     } in (
       sound.gives entry (begun row x) (given rom row x reads).low (given rom row x reads).high k.runs begins,
@@ -274,7 +293,7 @@ stack_still z (op.Push from) w s h = cc
 stack_still z (op.Pop to) w s h = cc
 stack_still z o w s h = refl
 
-stack_loaded : (z : Setting) (o : Op) (a : ℕ) (w : AbsWrite) (t : AbsState) → o ≡ op.LoadPair pair.Sp a → with_stack_of z o w t ≡ record t { core = record t.core { stack_set = true }; items = [] }
+stack_loaded : (z : Setting) (o : Op) (a : ℕ) (w : AbsWrite) (t : AbsState) → o ≡ op.LoadPair pair.Sp a → with_stack_of z o w t ≡ record t { core = record t.core { stack_set = true }; summary = record t.summary { aside = None }; items = [] }
 unfolding with_stack_of
 stack_loaded z o a w t e = ap (λ q. with_stack_of z q w t) e
 
@@ -300,7 +319,7 @@ acted_still z region s core entry base x y m k h storage sp placed room is based
 -- LD SP,n16: the stack is set, with nothing on it
 acted_set : (z : Setting) (region : Region) (s : AbsState) (core : Core) (entry : Activation) (base : ℕ) (x y : MState) → MeansParts s entry base x → Keeps s.core core → MeansCore core entry y
     → y.storage ≡ x.storage → y.processor.sp ≡ base → y.processor.sp < 65536 → ArePlaced region s.cells → AreInRegion region base (length s.items) → IsRegion region → IsBase z base
-    → IsActed z region s (record (with_core s core) { core = record core { stack_set = true }; items = [] }) entry base y
+    → IsActed z region s (record (with_core s core) { core = record core { stack_set = true }; summary = record s.summary { aside = None }; items = [] }) entry base y
 acted_set z region s core entry base x y m k h storage sp small placed room is based = record {
   at = record {
     means = record {
@@ -398,7 +417,7 @@ pub is_write : (z : Setting) (rom : List ℕ) (region : Region) (ranges : List R
     → IsTaken z rom region ranges row a s entry base x reads c → IsWrite (abs_effect z rom row a s c).write
 is_write z rom region ranges row a s entry base x reads c k =
     let word = is_word z rom s c (read_of row.op c) k.core.ie k.stands.vals k.stands.items k.stands.cartridge.bytes in
-    (transfer_inhabited z.is_whole row.op (behind_row a row) (sp_halves z s) c (low_of z rom row s c) (high_of z rom row s c) (abs_effect z rom row a s c) refl k.operands (omega arith) k.core word.low word.high (IsWord-sp z s entry base x k.stands.based k.stands.means.parts)).write
+    (transfer_inhabited z.is_whole row.op (behind_row a row) (sp_halves z s) c (low_of z rom row s c) (high_of z rom row s c) (abs_effect z rom row a s c) refl k.operands (omega arith) k.core word.low word.high (IsWord-sp z s entry base x k.stands.based k.stands.means.parts (IsSpWithin-aside s.summary.aside x.processor k.stands.means.summary.aside))).write
 
 -- its write
 stores : (z : Setting) (rom : List ℕ) (region : Region) (ranges : List Range) (row : Row) (a : ℕ) (s : AbsState) (entry : Activation) (base : ℕ) (x : MState) (reads : List ℕ) (c : Core)

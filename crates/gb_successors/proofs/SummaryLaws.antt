@@ -7,7 +7,7 @@ use Rattle.gb_ops.specs.declared.machine.Region.{Region}
 use Rattle.gb_ops.specs.declared.op.Op.{Op}
 use Rattle.gb_ops.specs.declared.registers.Processor.{Processor}
 use Rattle.gb_ops.specs.declared.registers.Registers.{Registers}
-use Rattle.gb_ops.specs.Cartridge.{kind_of, is_within}
+use Rattle.gb_ops.specs.Cartridge.{kind_of}
 use Rattle.gb_ops.specs.Machine.{advanced}
 use Rattle.gb_ops.specs.Memory.{View, Storage, passed}
 use Rattle.gb_domain.specs.declared.pairs.Bounds.{Bounds}
@@ -38,7 +38,7 @@ use Rattle.gb_product.specs.Below.gb_abs.Bytes.{without_newest, with_any_bytes, 
 use Rattle.gb_product.specs.Below.gb_abs.Cells.{with_cell, widened, widened_at, widened_cells}
 use Rattle.gb_product.specs.Below.gb_abs.Located.{sp_bounds}
 use Rattle.gb_product.specs.Below.gb_abs.Origins.{cell_without_origin}
-use Rattle.gb_product.specs.Below.gb_abs.Span.{is_one, one}
+use Rattle.gb_product.specs.Below.gb_abs.Span.{is_one, one, counts}
 use Rattle.gb_product.specs.Below.gb_abs.Stack.{pushed}
 use Rattle.gb_product.specs.Below.gb_abs.Storage.{peek}
 use Rattle.gb_product.proofs.Below.gb_abs_laws.LocatedLaws.{bounds_sound}
@@ -47,10 +47,10 @@ use Rattle.gb_product.specs.Below.gb_abs_effects.declared.writes.AbsWrite.TheVar
 use Rattle.gb_product.proofs.Below.gb_relations_laws.AddressLaws.{free-ram}
 use Rattle.gb_product.specs.Below.gb_relations.Transfer.{values_of}
 use Rattle.gb_product.proofs.SummaryLaws.{has_cells_with_cell, HoldSummary-same}
-use Rattle.gb_code.specs.Below.gb_abs_memory.Access.{area_of, stored_in, one_stored, several_stored, cells_stored, ram_stored, stored_state}
-use Rattle.gb_code.specs.Below.gb_abs_memory.declared.store.Area.{Area}
-use Rattle.gb_code.specs.Below.gb_abs_memory.declared.store.Area.TheVariants as area
-use Rattle.gb_code.specs.Below.gb_abs_memory.Sound.{view}
+use Rattle.gb_abs_memory.specs.Access.{area_of, stored_in, one_stored, several_stored, cells_stored, ram_stored, stored_state}
+use Rattle.gb_abs_memory.specs.declared.store.Area.{Area}
+use Rattle.gb_abs_memory.specs.declared.store.Area.TheVariants as area
+use Rattle.gb_abs_memory.specs.Sound.{view}
 use Rattle.gb_product.specs.Below.gb_relations.Sound.{IsByteFree}
 use Rattle.gb_product.specs.declared.parts.Product.{Product}
 use Rattle.gb_successors.specs.declared.stacks.Stack.{Stack}
@@ -58,16 +58,16 @@ use Rattle.gb_successors.specs.declared.stacks.StackMove.{StackMove}
 use Rattle.gb_successors.specs.declared.stacks.StackMove.TheVariants as move
 use Rattle.gb_successors.specs.Behind.{behind, written, with_cell_if, moved_state}
 use Rattle.gb_successors.specs.Refused.{is_unstorable}
-use Rattle.gb_successors.specs.Stacks.{pushed_if_room, appended_if_room, set_if_room, begun_anew, with_stack_moved}
+use Rattle.gb_successors.specs.Stacks.{pushed_if_room, appended_if_room, set_if_room, begun_anew, with_aside as stack_aside, with_stack_moved}
 use Rattle.gb_successors.specs.Successors.{taken_parts, summary_behind}
-use Rattle.gb_successors.specs.Summaries.{keeps_aside, aside_kept, stored_by, summary_by}
-use Rattle.gb_successors.proofs.AsideLaws.{aside_holds}
-use Rattle.gb_successors.proofs.LandingLaws.{Leaves, LoadsAt, given_by, part_write, is_write_at, stored_at}
+use Rattle.gb_successors.specs.Summaries.{aside_behind, with_aside, stored_by, summary_by}
+use Rattle.gb_successors.proofs.MovedLaws.{moved_summary}
+use Rattle.gb_successors.proofs.LandingLaws.{state_is, Leaves, LoadsAt, given_by, part_write, is_write_at, stored_at}
 use Rattle.gb_successors.proofs.LedLaws.{DoneAt, IsAllowedAt}
 use Rattle.gb_successors.proofs.RamLaws.{ram_at, ram_is, HoldRelations-ram}
 use Rattle.gb_successors.proofs.SettledLaws.{HoldSummary-begun}
-use Rattle.gb_successors.proofs.SituationLaws.{values_hold, bytes_begun, follows}
-use Rattle.gb_successors.proofs.Situations.{Situation, effect_at, parts_at, begun_at, given_at, acted_at, left_at, IsTakenIn}
+use Rattle.gb_successors.proofs.SituationLaws.{values_hold, bytes_begun, follows, sp_within}
+use Rattle.gb_successors.proofs.Situations.{Situation, effect_at, move_at, parts_at, begun_at, given_at, acted_at, left_at, IsTakenIn}
 use Rattle.gb_successors.proofs.StoredLaws.{banks_seen, stored_banks, stores_told}
 use Rattle.gb_successors.proofs.SuccessorLaws.{begun_sp, passed_peek}
 
@@ -98,10 +98,10 @@ has_cells_either : (b : Bool) (cells s t : List Cell) → HasCellsOf cells s →
 has_cells_either true cells s t h g = h
 has_cells_either false cells s t h g = g
 
-same_widened : (first last : ℕ) (v : Val) (c : Cell) → (widened_at first last v c).address ≡ c.address
-same_widened first last v c = by (is_within first last c.address)
+same_widened : (whole : Bool) (span : Span) (v : Val) (c : Cell) → (widened_at whole span v c).address ≡ c.address
+same_widened whole span v c = by (counts span c.address)
   where
-    by : (b : Bool) → (cond b (record { address = c.address; val = widened c.val v }) c).address ≡ c.address
+    by : (b : Bool) → (cond b (record { address = c.address; val = widened whole c.val v }) c).address ≡ c.address
     by true = refl
     by false = refl
 
@@ -118,9 +118,10 @@ stacked_cells z m s = by m
     by (move.Push w) = either (nat_lt (item_room z.rules) (length s.items + 2)) s (pushed w s) (has_cells_same s.cells) (has_cells_same s.cells)
     by (move.Take n) = has_cells_same s.cells
     by (move.Append n) = either (nat_lt (item_room z.rules) (length s.items + n)) s (with_any_bytes n s) (has_cells_same s.cells) (has_cells_same s.cells)
-    by (move.Set n) = either (nat_lt (item_room z.rules) n) s (resized n s) (has_cells_same s.cells) (has_cells_same s.cells)
+    by (move.Set n) = either (nat_lt (item_room z.rules) n) (stack_aside None s) (resized n (stack_aside None s)) (has_cells_same s.cells) (has_cells_same s.cells)
+    by (move.Aside b) = has_cells_same s.cells
     by (move.Restart n) =
-        either (nat_lt (item_room z.rules) n) (begun_anew s) (resized n (begun_anew s))
+        either (nat_lt (item_room z.rules) n) (begun_anew (stack_aside None s)) (resized n (begun_anew (stack_aside None s)))
         (has_cells_mapped cell_without_origin (λ c. refl) s.cells) (has_cells_mapped cell_without_origin (λ c. refl) s.cells)
     by move.Lost = has_cells_same s.cells
 
@@ -130,14 +131,14 @@ one_cells region span v cells =
     has_cells_either (meets region span.first span.last) cells cells (with_cell (cell_room Extended) (record { address = span.first; val = v }) cells) (has_cells_same cells)
     (has_cells_with_cell (cell_room Extended) (record { address = span.first; val = v }) cells)
 
-several_cells : (span : Span) (v : Val) (cells : List Cell) → HasCellsOf cells (several_stored Extended span v cells)
+several_cells : (whole : Bool) (span : Span) (v : Val) (cells : List Cell) → HasCellsOf cells (several_stored whole Extended span v cells)
 unfolding widened_cells
-several_cells span v cells = has_cells_mapped (widened_at span.first span.last v) (same_widened span.first span.last v) cells
+several_cells whole span v cells = has_cells_mapped (widened_at whole span v) (same_widened whole span v) cells
 
-cells_kept : (rules : Rules) (region : Region) (span : Span) (v : Val) (cells : List Cell) → rules ≡ Extended → HasCellsOf cells (cells_stored rules region span v cells)
-cells_kept rules region span v cells e =
-    subst (λ r. HasCellsOf cells (cells_stored r region span v cells)) (sym e)
-    (has_cells_either (is_one span) cells (one_stored Extended region span v cells) (several_stored Extended span v cells) (one_cells region span v cells) (several_cells span v cells))
+cells_kept : (whole : Bool) (rules : Rules) (region : Region) (span : Span) (v : Val) (cells : List Cell) → rules ≡ Extended → HasCellsOf cells (cells_stored whole rules region span v cells)
+cells_kept whole rules region span v cells e =
+    subst (λ r. HasCellsOf cells (cells_stored whole r region span v cells)) (sym e)
+    (has_cells_either (is_one span) cells (one_stored Extended region span v cells) (several_stored whole Extended span v cells) (one_cells region span v cells) (several_cells whole span v cells))
 
 stored_cells : (z : Setting) (region : Region) (k : Kind) (span : Span) (v : Val) (s : AbsState) → z.rules ≡ Extended → HasCellsOf s.cells (stored_state z region k span v s).cells
 unfolding stored_state ram_stored
@@ -145,7 +146,7 @@ stored_cells z region k span v s e = by (area_of k span)
   where
     by : (a : Option Area) → HasCellsOf s.cells (stored_in z region a k span v s).cells
     by (Some (area.Controller (Some r))) = has_cells_same s.cells
-    by (Some area.Ram) = cells_kept z.rules region span v s.cells e
+    by (Some area.Ram) = cells_kept z.is_whole z.rules region span v s.cells e
     by (Some area.InterruptEnable) = has_cells_same s.cells
     by (Some _) = has_cells_same s.cells
     by None = has_cells_same s.cells
@@ -174,29 +175,25 @@ unfolding passed
 HoldSummary-passed program cells s p m n h =
     HoldSummary-same program cells s p p (peek m.storage) _ m.storage.banks _ refl refl refl refl (λ b. passed_peek m n b) h
 
--- where SP is put aside isn't said
+-- SP is put aside, or isn't
 HoldSummary-aside :
-    (program : Program) (cells : List Cell) (s : SummaryParts) (o : Op) (p : Processor) (memory : ℕ → ℕ) (banks : Banks)
-    → HoldSummary program cells s p memory banks → HoldSummary program cells (aside_kept o s) p memory banks
-HoldSummary-aside program cells s o p memory banks h =
-    record { facts = h.facts; fills = h.fills; first = h.first; second = h.second; aside = by (keeps_aside o) s.aside h.aside }
-  where
-    by : (b : Bool) (t : Option Bounds) → IsAside t p → IsAside (cond b t None) p
-    by true t a = a
-    by false t a = tt
+    (program : Program) (cells : List Cell) (s : SummaryParts) (o : Option Bounds) (p : Processor) (memory : ℕ → ℕ) (banks : Banks)
+    → IsAside o p → HoldSummary program cells s p memory banks → HoldSummary program cells (with_aside o s) p memory banks
+HoldSummary-aside program cells s o p memory banks a h = record { facts = h.facts; fills = h.fills; first = h.first; second = h.second; aside = a }
 
-apart_aside : (region : Region) (o : Op) (s : SummaryParts) → IsFree region s → IsFree region (aside_kept o s)
+apart_aside : (region : Region) (o : Option Bounds) (s : SummaryParts) → IsFree region s → IsFree region (with_aside o s)
 apart_aside region o s h = record { fills = h.fills; first = h.first; second = h.second }
 
 -- what is said behind an instruction lies where what is said may lie
 pub apart_by :
-    (r : Rules) (k : Stack) (program : Program) (o : Op) (s : AbsState) (p : Product) (what : AbsWrite) (cells : List Cell)
-    → IsByteFree k.region p.relations.byte.address → IsFree k.region s.summary → IsFree k.region (summary_by r k program o s p what cells)
+    (r : Rules) (k : Stack) (program : Program) (o : Op) (s : AbsState) (p : Product) (m : StackMove) (what : AbsWrite) (cells : List Cell)
+    → IsByteFree k.region p.relations.byte.address → IsFree k.region s.summary → IsFree k.region (summary_by r k program o s p m what cells)
 unfolding summary_by
-apart_by Simple k program o s p what cells free apart = record { fills = tt; first = tt; second = tt }
-apart_by Extended k program o s p what cells free apart =
-    (summary_after_sound program k.region cells o (sp_bounds k.setting s) (values_of p.core.registers p.relations.pairs) p.relations.byte (stored_by o p.core.registers what) (aside_kept o s.summary) _ refl).free
-    free (apart_aside k.region o s.summary apart)
+apart_by Simple k program o s p m what cells free apart = record { fills = tt; first = tt; second = tt }
+apart_by Extended k program o s p m what cells free apart =
+    apart_aside k.region (aside_behind m s.summary.aside) _
+    ((summary_after_sound program k.region cells o (sp_bounds k.setting s) (values_of p.core.registers p.relations.pairs) p.relations.byte (stored_by o p.core.registers what) (with_aside None s.summary) _ refl).free
+    free (apart_aside k.region None s.summary apart))
 
 -- of no controller nothing is said
 shadows_unseen : (which : BankWindow) (s : Shadows) (x : Registers ℕ) (memory : ℕ → ℕ) (before after : Banks) → AreShadows kind.Rom which s x memory before → AreShadows kind.Rom which s x memory after
@@ -220,23 +217,27 @@ HoldSummary-unseen program cells s p memory before after none h =
 
 -- what is said behind it
 abbrev pub said_at : Situation → SummaryParts
-said_at c = summary_behind c.stack c.entry.program c.row.op c.state c.product (parts_at c)
+said_at c = summary_behind c.stack c.entry.program c.row.op c.state c.product (move_at c) (parts_at c)
 
 -- what it stores
 abbrev stored_in_turn : Situation → InstructionStore
 stored_in_turn c = stored_by c.row.op c.product.core.registers (effect_at c).write
 
--- what was said before it
+-- what was said before it, but for where SP is put aside
 abbrev said_before : Situation → SummaryParts
-said_before c = aside_kept c.row.op c.state.summary
+said_before c = with_aside None c.state.summary
 
-abbrev said_after : Situation → SummaryParts
-said_after c =
+-- what is said behind it, but for that
+abbrev said_inside : Situation → SummaryParts
+said_inside c =
     summary_after c.entry.program c.stack.region (parts_at c).state.cells c.row.op (sp_bounds c.stack.setting c.state) (values_of c.product.core.registers c.product.relations.pairs) c.product.relations.byte
     (stored_in_turn c) (said_before c)
 
+abbrev said_after : Situation → SummaryParts
+said_after c = with_aside (aside_behind (move_at c) c.state.summary.aside) (said_inside c)
+
 said_extended : (r : Rules) (c : Situation) → r ≡ Extended
-    → summary_by r c.stack c.entry.program c.row.op c.state c.product (effect_at c).write (parts_at c).state.cells ≡ said_after c
+    → summary_by r c.stack c.entry.program c.row.op c.state c.product (move_at c) (effect_at c).write (parts_at c).state.cells ≡ said_after c
 unfolding summary_by
 said_extended Extended c e = refl
 said_extended Simple c e = absurd (let bad : Simple ≡ Extended = e in cc)
@@ -244,8 +245,15 @@ said_extended Simple c e = absurd (let bad : Simple ≡ Extended = e in cc)
 said_is : (c : Situation) → IsTakenIn c → said_at c ≡ said_after c
 unfolding summary_behind
 said_is c k =
-    ap (λ w. summary_by c.stack.setting.rules c.stack c.entry.program c.row.op c.state c.product w (parts_at c).state.cells) (part_write c)
+    ap (λ w. summary_by c.stack.setting.rules c.stack c.entry.program c.row.op c.state c.product (move_at c) w (parts_at c).state.cells) (part_write c)
     ∙ said_extended c.stack.setting.rules c k.extended
+
+-- where SP is put aside is what the move leaves
+pub said_aside : (c : Situation) → IsTakenIn c → (said_at c).aside ≡ (parts_at c).state.summary.aside
+said_aside c k =
+    ap (λ (m : SummaryParts). m.aside) (said_is c k)
+    ∙ sym (ap (λ (s : AbsState). s.summary.aside) (state_is c)
+    ∙ ap (λ (m : SummaryParts). m.aside) (moved_summary c.stack (kind_of c.rom) None (move_at c) (effect_at c).write c.state))
 
 -- memory that is RAM, and all of it
 left_ram : (region : Region) (s : Storage) → IsLeft region (peek s) (ram_at s)
@@ -256,10 +264,10 @@ ram_left region s b free = sym (ram_is s b (free-ram region b free))
 
 sound_at : (c : Situation)
     → IsSoundInstruction c.entry.program c.stack.region (parts_at c).state.cells c.row.op (sp_bounds c.stack.setting c.state) (values_of c.product.core.registers c.product.relations.pairs) c.product.relations.byte
-    (stored_in_turn c) (said_before c) (said_after c)
+    (stored_in_turn c) (said_before c) (said_inside c)
 sound_at c =
     summary_after_sound c.entry.program c.stack.region (parts_at c).state.cells c.row.op (sp_bounds c.stack.setting c.state) (values_of c.product.core.registers c.product.relations.pairs) c.product.relations.byte
-    (stored_in_turn c) (said_before c) (said_after c) refl
+    (stored_in_turn c) (said_before c) (said_inside c) refl
 
 begins_at :
     (c : Situation) → IsTakenIn c → LoadsAt c
@@ -272,13 +280,13 @@ begins_at c k l =
     record {
       values = values_hold c k;
       bytes = bytes_begun c k;
-      sp_first = subst (λ n. (sp_bounds c.stack.setting c.state).first ≤ n) (sym (begun_sp c.row c.machine)) (known.first c.entry c.base c.machine k.stands.based k.stands.means.parts);
-      sp_last = subst (λ n. n ≤ (sp_bounds c.stack.setting c.state).last) (sym (begun_sp c.row c.machine)) (known.last c.entry c.base c.machine k.stands.based k.stands.means.parts);
+      sp_first = subst (λ n. (sp_bounds c.stack.setting c.state).first ≤ n) (sym (begun_sp c.row c.machine)) (known.first c.entry c.base c.machine k.stands.based k.stands.means.parts (sp_within c k));
+      sp_last = subst (λ n. n ≤ (sp_bounds c.stack.setting c.state).last) (sym (begun_sp c.row c.machine)) (known.last c.entry c.base c.machine k.stands.based k.stands.means.parts (sp_within c k));
       sp_small = subst (λ n. n < 65536) (sym (begun_sp c.row c.machine)) k.stands.means.parts.sp;
       byte = related.byte;
       byte_free = k.free;
       facts = k.stands.program.facts;
-      free = apart_aside c.stack.region c.row.op c.state.summary k.stands.apart;
+      free = apart_aside c.stack.region None c.state.summary k.stands.apart;
       reads = (given_by c k l).reads;
     }
 
@@ -298,8 +306,8 @@ before_at :
     → HoldSummary c.entry.program c.state.cells (said_before c) (advanced c.machine.processor c.row) (ram_at c.machine.storage) c.machine.storage.banks
 before_at c k =
     stays_elsewhere c.entry.program c.stack.region c.state.cells (said_before c) (advanced c.machine.processor c.row) (peek c.machine.storage) (ram_at c.machine.storage) c.machine.storage.banks
-    k.stands.program.facts (apart_aside c.stack.region c.row.op c.state.summary k.stands.apart) (left_ram c.stack.region c.machine.storage)
-    (HoldSummary-aside c.entry.program c.state.cells c.state.summary c.row.op (advanced c.machine.processor c.row) (peek c.machine.storage) c.machine.storage.banks
+    k.stands.program.facts (apart_aside c.stack.region None c.state.summary k.stands.apart) (left_ram c.stack.region c.machine.storage)
+    (HoldSummary-aside c.entry.program c.state.cells c.state.summary None (advanced c.machine.processor c.row) (peek c.machine.storage) c.machine.storage.banks tt
     (HoldSummary-begun c.entry.program c.state.cells c.state.summary c.row c.machine k.stands.means.summary))
 
 -- as the machine acted, of which RAM alone is seen
@@ -308,11 +316,10 @@ acted_summary :
     → HoldSummary c.entry.program (parts_at c).state.cells (said_after c) (acted_at c).processor (ram_at (stored_at c).storage) (banks_seen c.entry.program.kind (acted_at c).write c.machine.storage.banks)
 acted_summary c k allowed d =
     let before = before_at c k in
-    (sound_at c).gives c.state.cells (advanced c.machine.processor c.row) (ram_at c.machine.storage) (ram_at (stored_at c).storage) c.machine.storage.banks
-    (banks_seen c.entry.program.kind (acted_at c).write c.machine.storage.banks) (given_at c).low (given_at c).high (cells_behind c k) (begins_at c k d.loads) (stores_at c k allowed d)
-    (aside_holds c.row.op c.state.summary.aside (advanced c.machine.processor c.row) (given_at c).low (given_at c).high
-    (HoldSummary-begun c.entry.program c.state.cells c.state.summary c.row c.machine k.stands.means.summary).aside)
-    before
+    HoldSummary-aside c.entry.program (parts_at c).state.cells (said_inside c) (aside_behind (move_at c) c.state.summary.aside) (acted_at c).processor (ram_at (stored_at c).storage)
+    (banks_seen c.entry.program.kind (acted_at c).write c.machine.storage.banks) d.aside
+    ((sound_at c).gives c.state.cells (advanced c.machine.processor c.row) (ram_at c.machine.storage) (ram_at (stored_at c).storage) c.machine.storage.banks
+    (banks_seen c.entry.program.kind (acted_at c).write c.machine.storage.banks) (given_at c).low (given_at c).high (cells_behind c k) (begins_at c k d.loads) (stores_at c k allowed d) tt before)
 
 -- with the machine's own registers of the controller
 left_banks :
@@ -336,7 +343,9 @@ left_summary c k allowed d = by k.stands.program.controller (acted_summary c k a
 
 -- what lies where what is said may lie
 pub apart_at : (c : Situation) → IsTakenIn c → IsFree c.stack.region (said_at c)
-apart_at c k = subst (IsFree c.stack.region) (sym (said_is c k)) ((sound_at c).free k.free (apart_aside c.stack.region c.row.op c.state.summary k.stands.apart))
+apart_at c k =
+    subst (IsFree c.stack.region) (sym (said_is c k))
+    (apart_aside c.stack.region (aside_behind (move_at c) c.state.summary.aside) (said_inside c) ((sound_at c).free k.free (apart_aside c.stack.region None c.state.summary k.stands.apart)))
 
 peek_left : (c : Situation) (region : Region) → IsLeft region (ram_at (stored_at c).storage) (peek (left_at c).storage)
 peek_left c region b free = passed_peek (stored_at c) c.row.cycles b ∙ ram_left region (stored_at c).storage b free

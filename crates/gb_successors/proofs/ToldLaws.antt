@@ -32,20 +32,23 @@ use Rattle.gb_product.specs.Below.gb_abs_effects.declared.targets.Target.{Target
 use Rattle.gb_product.specs.Below.gb_abs_effects.declared.targets.Target.TheVariants as target
 use Rattle.gb_product.specs.Below.gb_abs_effects.Accesses.{read_of}
 use Rattle.gb_product.specs.Below.gb_abs_effects.Sides as Flags
-use Rattle.gb_code.specs.Below.gb_abs_memory.Sound.{AreVals}
+use Rattle.gb_abs_memory.specs.Sound.{AreVals}
 use Rattle.gb_product.specs.declared.parts.Branch.{Branch}
 use Rattle.gb_product.specs.Below.gb_relations.Sound.{IsByteFree}
 use Rattle.gb_product.specs.Sides.{side_where, taken_side, memory_of}
 use Rattle.gb_product.specs.Sound.{HoldsCell, IsSideOf}
 use Rattle.gb_product.proofs.SideLaws.{side_placed}
 use Rattle.gb_product.proofs.SummaryLaws.{has_cells_with_cell, HoldSummary-with_cells}
+use Rattle.gb_domain.specs.declared.pairs.Bounds.{Bounds}
+use Rattle.gb_product.specs.Below.gb_abs_effects.Targets.{is_pop}
 use Rattle.gb_successors.specs.Behind.{with_cell_if}
 use Rattle.gb_successors.specs.Sound.{IsStackKnown, IsStackFit, IsAllowed, Stands}
 use Rattle.gb_successors.specs.Way.{Successor}
+use Rattle.gb_successors.specs.Refined.{read_around}
 use Rattle.gb_successors.proofs.SimpleLaws.{IsTold}
 use Rattle.gb_successors.specs.Successors.{memory_before}
 use Rattle.gb_product.proofs.ByteLaws.{IsVal-byte_in}
-use Rattle.gb_code.proofs.Below.gb_abs_memory_laws.LoadLaws.{IsVal-cell}
+use Rattle.gb_abs_memory.proofs.LoadLaws.{IsVal-cell}
 use Rattle.gb_product.specs.Below.gb_pairs.Meaning.{Holds as HoldValues}
 use Rattle.gb_product.proofs.CoveringLaws.{Holds-byte_in_state}
 use Rattle.gb_domain.specs.declared.types.Val.{Val}
@@ -151,6 +154,8 @@ Stands-told z rom region row a (Some c) s entry base x told h =
       vals = AllByRecursion-with_cell (λ d. IsVal d.val) (cell_room z.rules) c s.cells told.val h.vals;
       items = h.items;
       unset = h.unset;
+      quiet = h.quiet;
+      aside = h.aside;
       room = h.room;
       program = h.program;
       controlled = h.controlled;
@@ -169,8 +174,8 @@ IsStackKnown-told z region o (Some c) s base h = known h
     known : IsStackKnown z region o s base → IsStackKnown z region o (record s { cells = with_cell (cell_room z.rules) c s.cells }) base
     known (inl still) = inl still
     known (inr (inl loaded)) = inr (inl loaded)
-    known (inr (inr (inl push))) = inr (inr (inl (push.0, record { stack_set = push.1.stack_set; held = push.1.held; room = push.1.room })))
-    known (inr (inr (inr (inl pop)))) = inr (inr (inr (inl (pop.0, record { stack_set = pop.1.stack_set; held = pop.1.held }))))
+    known (inr (inr (inl push))) = inr (inr (inl (push.0, record { located = push.1.located; held = push.1.held; room = push.1.room })))
+    known (inr (inr (inr (inl pop)))) = inr (inr (inr (inl (pop.0, record { located = pop.1.located; held = pop.1.held }))))
     known (inr (inr (inr (inr (inl call))))) = inr (inr (inr (inr (inl call))))
     known (inr (inr (inr (inr (inr returns))))) = inr (inr (inr (inr (inr returns))))
 
@@ -185,7 +190,7 @@ IsAllowed-told z rom region ranges (Some c) s base t h = record { stores = h.sto
     fit Extended w k = k
     fit Simple (target.At a) k = k
     fit Simple (target.Call a) k = k
-    fit Simple target.Return k = record { stack_set = k.stack_set; held = k.held; return_word = k.return_word }
+    fit Simple target.Return k = record { located = k.located; held = k.held; return_word = k.return_word }
     fit Simple (target.Main a) k = k
     fit Simple target.Unknown k = k
     fit Simple target.Lost k = k
@@ -201,6 +206,8 @@ plain_told : (cell : Option Cell) (what : AbsRead) → (what ≡ read.Nothing) �
 plain_told None what h = tt
 plain_told (Some c) read.Nothing h = tt
 plain_told (Some c) read.Top h = tt
+plain_told (Some c) (read.Word span) (inl h) = absurd cc
+plain_told (Some c) (read.Word span) (inr h) = absurd cc
 plain_told (Some c) (read.Byte span) (inl h) = absurd cc
 plain_told (Some c) (read.Byte span) (inr h) = absurd cc
 
@@ -214,6 +221,35 @@ conditional_read (op.JumpIf k w) c h = inl refl
 conditional_read (op.CallIf k w) c h = inl refl
 conditional_read (op.ReturnIf k) c h = inr refl
 conditional_read o c h = absurd (no_condition h)
+
+-- of a side with a cell: the instruction is no POP
+abbrev pub IsNoPop : Option Cell → Op → Type 0
+IsNoPop None o = Unit {0}
+IsNoPop (Some c) o = is_pop o ≡ false
+
+conditional_no_pop : (o : Op) → is_some (Flags.condition_of o) ≡ true → is_pop o ≡ false
+conditional_no_pop (op.Pop to) h = absurd (no_condition h)
+conditional_no_pop o h = refl
+
+no_pop_cell : (cell : Option Cell) (o : Op) → is_pop o ≡ false → IsNoPop cell o
+no_pop_cell None o h = tt
+no_pop_cell (Some c) o h = h
+
+pub IsNoPop-taken : (o : Op) (memory : Val) (core : Core) (r : Relations) (b : Branch) → taken_side o memory core r ≡ Some b → IsNoPop b.cell o
+unfolding taken_side
+IsNoPop-taken o memory core r b e = choose (is_some (Flags.condition_of o)) refl
+  where
+    choose : (t : Bool) → is_some (Flags.condition_of o) ≡ t → IsNoPop b.cell o
+    choose true h = no_pop_cell b.cell o (conditional_no_pop o h)
+    choose false h = subst (λ (cell : Option Cell). IsNoPop cell o) (sym (none_told (Flags.condition_of o) memory r _ b e h)) tt
+
+-- what is read where the stack is put aside is told too
+pub IsTold-around : (r : Rules) (a : Option Bounds) (cell : Option Cell) (o : Op) (w : AbsRead) → IsNoPop cell o → IsTold cell w → IsTold cell (read_around r a o w)
+IsTold-around r a None o w unpopped h = tt
+IsTold-around Simple a (Some c) o w unpopped h = h
+IsTold-around Extended None (Some c) o w unpopped h = h
+IsTold-around Extended (Some b) (Some c) (op.Pop to) w unpopped h = absurd (let bad : true ≡ false = unpopped in cc)
+IsTold-around Extended (Some b) (Some c) o w unpopped h = h
 
 pub IsTold-taken : (o : Op) (memory : Val) (core c : Core) (r : Relations) (b : Branch) → taken_side o memory core r ≡ Some b → IsTold b.cell (read_of o c)
 unfolding taken_side

@@ -29,7 +29,7 @@ use Rattle.gb_product.specs.Below.gb_abs_effects.declared.reads.AbsRead.TheVaria
 use Rattle.gb_product.specs.Below.gb_abs_effects.declared.writes.AbsWrite.TheVariants as write
 use Rattle.gb_product.specs.Below.gb_abs_effects.Transfer.{untaken}
 use Rattle.gb_product.proofs.Below.gb_abs_effects_laws.TransferLaws.{untaken_sound}
-use Rattle.gb_code.specs.Below.gb_abs_memory.Sound.{view}
+use Rattle.gb_abs_memory.specs.Sound.{view}
 use Rattle.gb_product.specs.Meaning.{AreRelated, IsSummarized}
 use Rattle.gb_product.specs.declared.parts.Branch.{Branch}
 use Rattle.gb_product.specs.Sound.{IsSideOf}

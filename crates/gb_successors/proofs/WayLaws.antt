@@ -1,5 +1,5 @@
 -- The ways on: taken, not taken, staying on HALT, and the halt bug.
-use Rattle.std.proofs.Common.{◌≡◌, ℕ, ◌+◌, ◌-◌, ◌%◌, ◌≤◌, Bool, true, false, cond, not, ◌==◌, inl, inr, List, length, slice_index, Option, Some, None, option_map, option_and_then, refl, sym, ◌∙◌, ap, subst, arith}
+use Rattle.std.proofs.Common.{◌≡◌, ℕ, ◌+◌, ◌-◌, ◌%◌, ◌≤◌, Bool, true, false, cond, not, ◌==◌, nat_lt, inl, inr, List, length, slice_index, Option, Some, None, option_map, option_and_then, refl, sym, ◌∙◌, ap, subst, arith}
 use Rattle.std.proofs.lemmas.Bool.Decides.{nat_tests}
 use Rattle.std.specs.Option.{IfSome}
 use Rattle.gb_ops.specs.declared.machine.Region.{Region}
@@ -21,7 +21,7 @@ use Rattle.gb_domain.specs.declared.types.Val.{Val}
 use Rattle.gb_domain.specs.declared.types.ImeSet.{ImeSet}
 use Rattle.gb_domain.specs.declared.types.Core.{Core}
 use Rattle.gb_domain.specs.declared.types.Range.{Range}
-use Rattle.gb_domain.specs.Summaries.{Program, no_summary}
+use Rattle.gb_domain.specs.Summaries.{Program, no_summary, SummaryParts}
 use Rattle.gb_domain.specs.Types.{AbsState}
 use Rattle.gb_product.proofs.Below.gb_summaries_laws.MeaningLaws.{nothing_holds}
 use Rattle.gb_product.specs.Below.gb_abs_effects.declared.writes.AbsWrite.{AbsWrite}
@@ -38,7 +38,7 @@ use Rattle.gb_product.specs.Below.gb_abs_effects.declared.targets.Target.TheVari
 use Rattle.gb_product.specs.Below.gb_abs_effects.Accesses.{read_of}
 use Rattle.gb_product.specs.Below.gb_abs_effects.Targets.{target_of}
 use Rattle.gb_product.specs.Below.gb_abs_effects.Transfer.{transfer}
-use Rattle.gb_code.specs.Below.gb_abs_memory.Sound.{view}
+use Rattle.gb_abs_memory.specs.Sound.{view}
 use Rattle.gb_product.specs.Below.gb_pairs.Meaning.{AreBytes}
 use Rattle.gb_product.specs.Below.gb_copies.Meaning.{HoldOneByte}
 use Rattle.gb_product.specs.Below.gb_relations.Compared.{comparison_of, writes_a, compared_after}
@@ -53,11 +53,20 @@ use Rattle.gb_product.specs.Sides.{side_where, taken_side, not_taken_side}
 use Rattle.gb_product.specs.Sound.{IsKnown, IsMeantBranch}
 use Rattle.gb_product.proofs.MeaningLaws.{AreBytes-core}
 use Rattle.gb_product.proofs.SideLaws.{taken_side_sound, not_taken_side_sound, taken_side_cuts, not_taken_side_cuts}
+use Rattle.gb_ops.specs.declared.op.Pair.TheVariants as pair
+use Rattle.gb_domain.specs.declared.types.Halves.{Halves}
+use Rattle.gb_domain.specs.Limits.{item_room}
+use Rattle.gb_product.specs.Below.gb_abs.Stack.{pushed, popped}
+use Rattle.gb_product.specs.Below.gb_abs_effects.declared.writes.AbsWrite.TheVariants as write
+use Rattle.gb_ops.specs.Cartridge.{kind_of}
+use Rattle.gb_successors.proofs.MovedLaws.{written_summary, told_summary}
+use Rattle.gb_successors.specs.Stacks.{pushed_if_room}
+use Rattle.gb_successors.specs.declared.stacks.StackMove.{StackMove}
 use Rattle.gb_successors.specs.declared.stacks.Stack.{Stack}
 use Rattle.gb_successors.specs.declared.successors.Successors.{Successors}
 use Rattle.gb_successors.specs.Behind.{starts, written, with_cell_if, ended}
 use Rattle.gb_successors.specs.Way.{Successor}
-use Rattle.gb_successors.specs.Successors.{word_in, related_successor, relations_behind, taken_successor, untaken_successor, with_product, reduced_successor, product_before, taken_from, not_taken_from, staying_successor, woken, may_stay, stays, successors_of, taken_parts, said_successor, summary_behind, memory_before}
+use Rattle.gb_successors.specs.Successors.{word_in, related_successor, relations_behind, taken_successor, untaken_successor, with_product, reduced_successor, product_before, taken_from, not_taken_from, staying_successor, woken, may_stay, stays, successors_of, taken_parts, said_successor, summary_behind, memory_before, taken_move}
 use Rattle.gb_successors.specs.Summaries.{summary_by}
 use Rattle.gb_successors.specs.Sound.{bytes_behind, IsAllowed, Leads, LeadsSimply, LeadsParts, LeadsBy, IsHalt, IsHeld, IsStackKnown, Stands, IsRuled, IsStackRuled, Executes, AreSoundSuccessors}
 use Rattle.gb_successors.proofs.SimpleLaws.{behind_row, with_stack_of, simple_parts, IsTold, taken_simply}
@@ -117,10 +126,10 @@ simple_related k program rom row next s b =
 abbrev simple_taken : Stack → Program → List ℕ → Row → ℕ → AbsState → Branch → Successor
 simple_taken k program rom row next s b = said_successor no_summary (simple_related k program rom row next s b)
 
-nothing_said : (r : Rules) (k : Stack) (program : Program) (o : Op) (s : AbsState) (p : Product) (what : AbsWrite) (cells : List Cell) → r ≡ Simple → summary_by r k program o s p what cells ≡ no_summary
+nothing_said : (r : Rules) (k : Stack) (program : Program) (o : Op) (s : AbsState) (p : Product) (m : StackMove) (what : AbsWrite) (cells : List Cell) → r ≡ Simple → summary_by r k program o s p m what cells ≡ no_summary
 unfolding summary_by
-nothing_said Simple k program o s p what cells h = refl
-nothing_said Extended k program o s p what cells h = absurd cc
+nothing_said Simple k program o s p m what cells h = refl
+nothing_said Extended k program o s p m what cells h = absurd cc
 
 taken_is :
     (k : Stack) (program : Program) (rom : List ℕ) (row : Row) (next : ℕ) (s : AbsState) (b : Branch) → k.setting.rules ≡ Simple → IsTold b.cell (read_of row.op b.core)
@@ -129,18 +138,45 @@ unfolding taken_successor summary_behind
 taken_is k program rom row next s b h told =
     let p = product_of b.core b.relations in
     let t = taken_parts k program rom row next s p b.cell in
-    ap (λ m. said_successor m (related_successor (relations_behind k program rom row.op s p) t)) (nothing_said k.setting.rules k program row.op s p t.write t.state.cells h)
+    ap (λ m. said_successor m (related_successor (relations_behind k program rom row.op s p) t)) (nothing_said k.setting.rules k program row.op s p (taken_move k program rom row next s p) t.write t.state.cells h)
     ∙ ap (λ u. said_successor no_summary (related_successor (relations_behind k program rom row.op s p) u)) (taken_simply k program rom row next s p b.cell h told)
+
+-- nothing is put aside
+stack_none : (z : Setting) (o : Op) (w : AbsWrite) (s : AbsState) → s.summary.aside ≡ None → (with_stack_of z o w s).summary.aside ≡ None
+unfolding with_stack_of pushed_if_room pushed popped
+stack_none z (op.LoadPair pair.Sp a) w s h = refl
+stack_none z (op.LoadPair pair.Bc a) w s h = h
+stack_none z (op.LoadPair pair.De a) w s h = h
+stack_none z (op.LoadPair pair.Hl a) w s h = h
+stack_none z (op.Push from) (write.Push high low) s h = by (nat_lt (item_room z.rules) (length s.items + 2))
+  where
+    by : (b : Bool) → (cond b s (pushed (record { high = high; low = low }) s)).summary.aside ≡ None
+    by true = h
+    by false = h
+stack_none z (op.Push from) write.Nothing s h = h
+stack_none z (op.Push from) (write.Byte span v) s h = h
+stack_none z (op.Push from) (write.Word a low high) s h = h
+stack_none z (op.Pop to) w s h = h
+stack_none z o w s h = h
+
+simple_none :
+    (z : Setting) (rom : List ℕ) (region : Region) (row : Row) (next : ℕ) (s : AbsState) (c : Core) → s.summary.aside ≡ None → (simple_parts z rom region row next s c).state.summary.aside ≡ None
+unfolding simple_parts ended
+simple_none z rom region row next s c h =
+    ap (λ (m : SummaryParts). m.aside) (written_summary z region (kind_of rom) _ _)
+    ∙ stack_none z row.op _ _ h
 
 Leads-behind :
     (k : Stack) (program : Program) (rom : List ℕ) (ranges : List Range) (row : Row) (a : ℕ) (s : AbsState) (entry : Activation) (base : ℕ) (x : MState) (reads : List ℕ) (b : Branch)
+    → (with_cell_if k.setting b.cell s).summary.aside ≡ None
     → IsTaken k.setting rom k.region ranges row a (with_cell_if k.setting b.cell s) entry base x reads b.core → AreRelated b.relations (begun row x)
     → LeadsParts k.setting k.region ranges (simple_parts k.setting rom k.region row (behind_row a row) (with_cell_if k.setting b.cell s) b.core) entry base x (outside (executed (within rom x) row reads))
     → Leads k.setting k.region ranges (simple_taken k program rom row (behind_row a row) s b) entry base x (outside (executed (within rom x) row reads))
 unfolding relations_behind
-Leads-behind k program rom ranges row a s entry base x reads b taken related led =
+Leads-behind k program rom ranges row a s entry base x reads b none taken related led =
     let y = outside (executed (within rom x) row reads) in
     Leads-said k.setting k.region ranges no_summary (simple_related k program rom row (behind_row a row) s b) entry base x y
+    (sym (simple_none k.setting rom k.region row (behind_row a row) (with_cell_if k.setting b.cell s) b.core none))
     (Leads-taken k.setting rom k.region ranges row a (with_cell_if k.setting b.cell s) entry base x reads b.core taken led
     (sp_bounds k.setting s) (word_in k program rom row.op s (product_of b.core b.relations)).low b.relations related)
     (nothing_holds entry.program _ y.processor (peek y.storage) y.storage.banks)
@@ -207,7 +243,7 @@ executes_simply k program rom row a s ranges entry base x reads simple of stands
           is_one = inl (taken_way k program rom row a s b simple e ∙ ap Some (taken_is k program rom row (behind_row a row) s b simple (IsTold-taken row.op memory settled b.core s.relations b e)));
           mark = executed_mark rom x row reads;
           held = λ allowed. held_simply k program rom row a s (simple_taken k program rom row (behind_row a row) s b) simple (subst (λ items. length parts.state.items ≤ bytes_behind row.op (length items)) (told_items k.setting b.cell s) (done allowed).held);
-          leads = λ allowed. Leads-behind k program rom ranges row a s entry base x reads b t h.related (done allowed).leads;
+          leads = λ allowed. Leads-behind k program rom ranges row a s entry base x reads b (ap (λ (m : SummaryParts). m.aside) (told_summary k.setting b.cell s) ∙ stands.quiet simple) t h.related (done allowed).leads;
           faults = λ allowed. (done allowed).faults;
         }
 
@@ -373,6 +409,7 @@ halt_repeats_simply k program rom row a s ranges entry base x simple stands halt
       is_way = taken_way k program rom row a s b simple (halt_side row (memory_before program s (product_of c s.relations)) c s.relations halt.op_is) ∙ ap Some (taken_is k program rom row (behind_row a row) s b simple tt);
       held = subst (λ (u : AbsState). length u.items ≤ length s.items) (sym (halt_state k.setting rom k.region row a s c halt)) (bytes_ended 1 (with_core s c));
       leads = Leads-said k.setting k.region ranges no_summary (related_successor (relations_behind k program rom row.op s (product_of c s.relations)) t) entry base x y
+          (sym (simple_none k.setting rom k.region row (behind_row a row) s c (stands.quiet simple)))
           (record {
             to = leads_simply k.setting k.region t.target _ entry base x y simple (LeadsSimply-related k.region t.target (relations_behind k program rom row.op s (product_of c s.relations)) t entry base x y to);
             kept = λ b kept. passed_peek (view rom x false) 1 b;
@@ -385,13 +422,13 @@ halt_repeats_simply k program rom row a s ranges entry base x simple stands halt
 
 executes :
     (k : Stack) (program : Program) (rom : List ℕ) (row : Row) (a : ℕ) (s : AbsState) (ranges : List Range) (entry : Activation) (base : ℕ) (x : MState) (reads : List ℕ)
-    → entry.program ≡ program → Stands k.setting rom k.region row a s entry base x → IsRuled k program rom row a s base → x.processor.halt_mark ≡ false → slice_index reads 0 ≤ 255
+    → entry.program ≡ program → Stands k.setting rom k.region row a s entry base x → IsRuled k program rom row a s base → x.processor.halt_mark ≡ false → slice_index reads 0 ≤ 255 → slice_index reads 1 ≤ 255
     → Executes k program rom ranges row a s (successors_of k program rom row a s) entry base x reads
-executes k program rom row a s ranges entry base x reads of stands ruled mark byte = by k.setting.rules refl
+executes k program rom row a s ranges entry base x reads of stands ruled mark byte second = by k.setting.rules refl
   where
     by : (r : Rules) → k.setting.rules ≡ r → Executes k program rom ranges row a s (successors_of k program rom row a s) entry base x reads
     by Simple e = executes_simply k program rom row a s ranges entry base x reads e of stands ruled mark byte
-    by Extended e = executes_widely k program rom row a s ranges entry base x reads e of stands ruled mark byte
+    by Extended e = executes_widely k program rom row a s ranges entry base x reads e of stands ruled mark byte second
 
 halt_repeats :
     (k : Stack) (program : Program) (rom : List ℕ) (row : Row) (a : ℕ) (s : AbsState) (ranges : List Range) (entry : Activation) (base : ℕ) (x : MState)
@@ -407,7 +444,7 @@ pub successors_of_sound : (k : Stack) (program : Program) (rom : List ℕ) (row 
 successors_of_sound k program rom row a s ss e =
     subst (AreSoundSuccessors k program rom row a s) (sym e)
     (record {
-      executes = λ ranges entry base x reads of stands ruled mark byte. executes k program rom row a s ranges entry base x reads of stands ruled mark byte;
+      executes = λ ranges entry base x reads of stands ruled mark byte second. executes k program rom row a s ranges entry base x reads of stands ruled mark byte second;
       stays = λ ranges entry base x of stands halt pending enabled. halt_stays k program rom row a s ranges entry base x stands halt pending enabled;
       repeats = λ ranges entry base x of stands halt off mark. halt_repeats k program rom row a s ranges entry base x of stands halt off mark;
     })

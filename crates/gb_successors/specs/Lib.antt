@@ -1,4 +1,8 @@
 pub mod Stacks
+pub mod Code
+pub mod Fetched
+pub mod Places
+pub mod Programs
 pub mod Refined
 pub mod Loads
 pub mod Behind

@@ -1,5 +1,5 @@
 -- What is known of what an instruction reads (abstract semantics; own).
-use Rattle.std.specs.Prelude.{ℕ, Bool, not, ◌&&◌, ◌||◌, if◌then◌else◌, List, Option, Some, None, is_some}
+use Rattle.std.specs.Prelude.{ℕ, ◌+◌, nat_lt, Bool, not, ◌&&◌, ◌||◌, if◌then◌else◌, List, Option, Some, None, is_some}
 use Rattle.gb_ops.specs.declared.machine.Region.{Region}
 use Rattle.gb_ops.specs.Memory.{rom_byte}
 use Rattle.gb_domain.specs.declared.low_bits.LowBits.{LowBits}
@@ -10,6 +10,7 @@ use Rattle.gb_domain.specs.declared.types.Halves.{Halves}
 use Rattle.gb_domain.specs.declared.types.Val.{Val}
 use Rattle.gb_domain.specs.Areas.{meets}
 use Rattle.gb_domain.specs.Interval.{bounds}
+use Rattle.gb_domain.specs.LowBits.{no_low_bits}
 use Rattle.gb_domain.specs.Summaries.{Program}
 use Rattle.gb_domain.specs.Types.{AbsState}
 use Rattle.gb_domain.specs.Values.{interval_of}
@@ -26,8 +27,8 @@ use Rattle.gb_product.specs.Below.gb_pairs.declared.values.Values.{Values}
 use Rattle.gb_product.specs.Below.gb_summaries.Below.gb_ram_bounds.declared.addresses.AddressSet.{AddressSet}
 use Rattle.gb_product.specs.Below.gb_summaries.Below.gb_ram_bounds.Addresses.{joined_over}
 use Rattle.gb_product.specs.Covering.{uncopied, byte_in}
-use Rattle.gb_code.specs.Below.gb_abs_memory.Access.{home_of, is_table, loaded_val}
-use Rattle.gb_code.specs.Below.gb_abs_memory.Shown.{known_bank}
+use Rattle.gb_abs_memory.specs.Access.{home_of, is_table, loaded_val}
+use Rattle.gb_abs_memory.specs.Shown.{known_bank}
 
 -- what is known of what is read by cells alone: of a byte, or of the word that was pushed last
 unfoldable pub read_word : Setting → List ℕ → AbsState → AbsRead → Halves
@@ -83,7 +84,13 @@ abbrev pub loaded_in : Setting → Region → Program → List ℕ → Values �
 loaded_in z region program rom v low s span =
     if z.is_whole then loaded_whole z region program rom v low s span else loaded_val z rom s span
 
+-- the addresses behind those of a span
+abbrev pub span_behind : Span → Span
+span_behind span = if nat_lt span.first 0xFFFF && nat_lt span.last 0xFFFF then record { first = span.first + 1; last = span.last + 1; low = no_low_bits } else record { first = 0; last = 0xFFFF; low = no_low_bits }
+
 -- what is known of what is read, where an address has the low bits; those of versions 1 and 2 know of cells alone
 abbrev pub word_by : Rules → Setting → Region → Program → List ℕ → Values → LowBits → AbsState → AbsRead → Halves
 word_by Extended z region program rom v low s (read.Byte span) = record { high = any_val; low = loaded_in z region program rom v low s span }
+word_by Extended z region program rom v low s (read.Word span) =
+    record { high = loaded_in z region program rom v no_low_bits s (span_behind span); low = loaded_in z region program rom v no_low_bits s span }
 word_by rules z region program rom v low s what = read_word z rom s what

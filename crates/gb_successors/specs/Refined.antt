@@ -4,6 +4,8 @@ use Rattle.std.specs.Prelude.{ℕ, Bool, not, ◌&&◌, if◌then◌else◌, nat
 use Rattle.gb_ops.specs.declared.op.Pair.TheVariants as pair
 use Rattle.gb_ops.specs.declared.op.Op.{Op}
 use Rattle.gb_ops.specs.declared.op.Op.TheVariants as op
+use Rattle.gb_domain.specs.declared.low_bits.LowBits.{LowBits}
+use Rattle.gb_domain.specs.LowBits.{no_low_bits}
 use Rattle.gb_domain.specs.declared.pairs.Bounds.{Bounds}
 use Rattle.gb_domain.specs.declared.rules.Rules.{Rules}
 use Rattle.gb_domain.specs.declared.rules.Rules.TheVariants.{Simple, Extended}
@@ -30,23 +32,33 @@ use Rattle.gb_successors.specs.declared.stacks.StackMove.TheVariants as move
 -- where an address is taken from a pair, its bounds are the pair's
 abbrev pub span_within : Option Bounds → Span → Span
 span_within None span = span
-span_within (Some b) span = record { first = b.first; last = b.last }
+span_within (Some b) span = record { first = b.first; last = b.last; low = span.low }
 
 abbrev pub cut_read : Option Bounds → AbsRead → AbsRead
 cut_read b (read.Byte span) = read.Byte (span_within b span)
 cut_read b r = r
 
-abbrev pub cut_write : Option Bounds → AbsWrite → AbsWrite
-cut_write b (write.Byte span v) = write.Byte (span_within b span) v
-cut_write b w = w
+-- where SP is put aside, POP reads a word there
+abbrev pub read_around : Rules → Option Bounds → Op → AbsRead → AbsRead
+read_around Extended (Some b) (op.Pop to) r = read.Word (record { first = b.first; last = b.last; low = no_low_bits })
+read_around rules aside o r = r
+
+-- where low bits of an address are known, the addresses count that have them
+abbrev pub with_bits : Option LowBits → Span → Span
+with_bits None span = span
+with_bits (Some k) span = record { first = span.first; last = span.last; low = k }
+
+abbrev pub cut_write : Option Bounds → Option LowBits → AbsWrite → AbsWrite
+cut_write b k (write.Byte span v) = write.Byte (with_bits k (span_within b span)) v
+cut_write b k w = w
 
 abbrev pub with_carry : Option Bool → Core → Core
 with_carry None core = core
 with_carry (Some c) core = record core { flags = record core.flags { carry = known c } }
 
--- an effect whose address and whose carry are known so
-unfoldable pub refined : Option Bounds → Option Bool → AbsEffect → AbsEffect
-refined b c e = record { core = with_carry c e.core; write = cut_write b e.write }
+-- an effect whose address with its low bits, and whose carry are known so
+unfoldable pub refined : Option Bounds → Option LowBits → Option Bool → AbsEffect → AbsEffect
+refined b k c e = record { core = with_carry c e.core; write = cut_write b k e.write }
 
 -- ---- where it goes on
 

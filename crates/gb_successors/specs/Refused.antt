@@ -13,9 +13,10 @@ use Rattle.gb_product.specs.Below.gb_abs_effects.declared.writes.AbsWrite.{AbsWr
 use Rattle.gb_product.specs.Below.gb_abs_effects.declared.writes.AbsWrite.TheVariants as write
 use Rattle.gb_product.specs.Below.gb_abs_effects.declared.targets.Target.{Target}
 use Rattle.gb_product.specs.Below.gb_abs_effects.declared.targets.Target.TheVariants as target
-use Rattle.gb_code.specs.Below.gb_abs_memory.Access.{is_storable, meets_closed_ram, store_meets_closed_ram, is_limited, is_store_limited}
+use Rattle.gb_abs_memory.specs.Access.{is_storable, meets_closed_ram, store_meets_closed_ram, is_limited, is_store_limited}
 use Rattle.gb_successors.specs.Way.{Successor}
 use Rattle.gb_successors.specs.Behind.{behind}
+use Rattle.gb_successors.specs.Loads.{span_behind}
 
 -- a write that may lie where no store is allowed; both bytes of a word are asked for
 unfoldable pub is_unstorable : Setting → Kind → Region → List Range → AbsWrite → Bool
@@ -27,6 +28,7 @@ is_unstorable z k region ranges _ = false
 -- a read that may meet closed cartridge RAM
 unfoldable pub reads_closed_ram : List ℕ → Core → AbsRead → Bool
 reads_closed_ram rom core (read.Byte span) = meets_closed_ram rom core span
+reads_closed_ram rom core (read.Word span) = meets_closed_ram rom core span || meets_closed_ram rom core (span_behind span)
 reads_closed_ram rom core _ = false
 
 -- a write that may meet it, or start an OAM transfer from it
@@ -42,6 +44,7 @@ is_stack_limited region core = not (core.bound == 0) && not (nat_le 0xFF80 regio
 -- a read that a running OAM transfer may close
 unfoldable pub is_read_limited : Region → Core → AbsRead → Bool
 is_read_limited region core (read.Byte span) = is_limited core span
+is_read_limited region core (read.Word span) = is_limited core span || is_limited core (span_behind span)
 is_read_limited region core read.Top = is_stack_limited region core
 is_read_limited region core _ = false
 

@@ -1,5 +1,5 @@
 -- What successors promise of the machine (abstract interpretation: soundness; own).
-use Rattle.std.specs.Prelude.{◌≡◌, ℕ, ◌+◌, ◌-◌, ◌%◌, ◌≤◌, ◌<◌, ◌⊎◌, Bool, true, false, if◌then◌else◌, nat_lt, List, [], slice_index, length, Option, Some, is_some}
+use Rattle.std.specs.Prelude.{◌≡◌, ℕ, ◌+◌, ◌-◌, ◌%◌, ◌≤◌, ◌<◌, ◌⊎◌, Bool, true, false, if◌then◌else◌, nat_lt, List, [], slice_index, length, Option, Some, None, is_some, IfSome}
 use Rattle.std.specs.List.{AllByRecursion}
 use Rattle.gb_ops.specs.declared.machine.Kind.TheVariants as kind
 use Rattle.gb_ops.specs.declared.machine.Region.{Region}
@@ -29,21 +29,22 @@ use Rattle.gb_product.specs.Below.gb_summaries.Elsewhere.{AreFreeFacts, IsFree}
 use Rattle.gb_product.specs.Below.gb_abs.Storage.{peek}
 use Rattle.gb_product.specs.Below.gb_abs.Cells.{ArePlaced}
 use Rattle.gb_product.specs.Below.gb_abs.Stack.{AreInRegion, pushed}
-use Rattle.gb_product.specs.Below.gb_abs.Meaning.{Activation, MeansParts, origin_value}
+use Rattle.gb_product.specs.Below.gb_abs.Meaning.{Activation, MeansParts, is_located, origin_value}
 use Rattle.gb_product.specs.Below.gb_abs_effects.declared.targets.Target.{Target}
 use Rattle.gb_product.specs.Below.gb_abs_effects.declared.targets.Target.TheVariants as target
 use Rattle.gb_product.specs.Below.gb_abs_effects.Sound.{HasBytes}
 use Rattle.gb_product.specs.Below.gb_abs_effects.Targets.{moves_sp, is_push, is_pop, is_call, is_return}
-use Rattle.gb_code.specs.Below.gb_abs_memory.Kept.{IsKept}
-use Rattle.gb_code.specs.Below.gb_abs_memory.Sound.{IsRom, AreVals}
+use Rattle.gb_abs_memory.specs.Kept.{IsKept}
+use Rattle.gb_abs_memory.specs.Sound.{IsRom, AreVals}
 use Rattle.gb_product.specs.Below.gb_relations.Sound.{IsByteFree}
 use Rattle.gb_product.specs.declared.parts.Product.{Product}
 use Rattle.gb_product.specs.Meaning.{AreRelated, IsSummarized, Means}
-use Rattle.gb_code.specs.Below.gb_abs_memory.Windows.{known_kind}
+use Rattle.gb_abs_memory.specs.Windows.{known_kind}
 use Rattle.gb_successors.specs.declared.stacks.Stack.{Stack}
 use Rattle.gb_successors.specs.declared.stacks.StackMove.{StackMove}
 use Rattle.gb_successors.specs.declared.stacks.StackMove.TheVariants as move
 use Rattle.gb_successors.specs.Successors.{taken_move, product_before, successors_of}
+use Rattle.gb_successors.specs.Summaries.{enables_interrupts}
 use Rattle.gb_successors.specs.Way.{Successor}
 use Rattle.gb_successors.specs.declared.successors.Successors.{Successors}
 use Rattle.gb_successors.specs.Refused.{is_unstorable, meets_closed, meets_oam_transfer}
@@ -55,20 +56,20 @@ IsOneOf ss t = (ss.taken ≡ Some t) ⊎ ((ss.not_taken ≡ Some t) ⊎ (ss.stay
 
 -- ---- the stack
 
--- the stack is set, with room for a word behind the bytes that are held
+-- SP stands where the items end, with room for a word behind the bytes that are held
 pub record IsPushable (z : Setting) (region : Region) (s : AbsState) (base : ℕ) : Type 0 where
-  pub stack_set : s.core.stack_set ≡ true
+  pub located : is_located s ≡ true
   pub held : nat_lt (item_room z.rules) (length s.items + 2) ≡ false
   pub room : AreInRegion region base (length s.items + 2)
 
--- the stack is set, and a word is held
+-- SP stands where the items end, and a word is held
 pub record IsPoppable (s : AbsState) : Type 0 where
-  pub stack_set : s.core.stack_set ≡ true
+  pub located : is_located s ≡ true
   pub held : 2 ≤ length s.items
 
--- the stack is set, nothing is held, and the return word lies in the region
+-- SP stands where the items end, nothing is held, and the return word lies in the region
 pub record IsReturnable (region : Region) (s : AbsState) (t : Successor) (base : ℕ) : Type 0 where
-  pub stack_set : s.core.stack_set ≡ true
+  pub located : is_located s ≡ true
   pub held : t.state.items ≡ []
   pub return_word : AreInRegion region (base + 2) 2
 
@@ -80,28 +81,29 @@ IsStackKnown z region o s base =
     ⊎ ((o ≡ op.LoadPair pair.Sp base)
     ⊎ (((is_push o ≡ true) × IsPushable z region s base)
     ⊎ (((is_pop o ≡ true) × IsPoppable s)
-    ⊎ (((is_call o ≡ true) × (s.core.stack_set ≡ true))
+    ⊎ (((is_call o ≡ true) × (is_located s ≡ true))
     ⊎ (is_return o ≡ true)))))
 
--- the stack is set, with room for so many bytes more
+-- SP stands where the items end, with room for so many bytes more
 pub record HasRoomFor (n : ℕ) (z : Setting) (region : Region) (s : AbsState) (base : ℕ) : Type 0 where
-  pub stack_set : s.core.stack_set ≡ true
+  pub located : is_located s ≡ true
   pub held : nat_lt (item_room z.rules) (length s.items + n) ≡ false
   pub room : AreInRegion region base (length s.items + n)
 
--- the stack is set, and so many bytes are held
+-- SP stands where the items end, and so many bytes are held
 pub record HoldsBytes (n : ℕ) (s : AbsState) : Type 0 where
-  pub stack_set : s.core.stack_set ≡ true
+  pub located : is_located s ≡ true
   pub held : n ≤ length s.items
 
--- what a move of the stack asks for; of a return that is asked where it is taken
+-- what a move of the stack asks for; of a return that is asked where it is taken. Put aside, nothing returns or lets interrupts come.
 abbrev pub IsReady : Stack → Op → StackMove → AbsState → ℕ → Type 0
-IsReady k o move.Stay s base = Unit {0}
+IsReady k o move.Stay s base = enables_interrupts o ≡ true → s.summary.aside ≡ None
 IsReady k o (move.Push w) s base = HasRoomFor 2 k.setting k.region s base
 IsReady k o (move.Append n) s base = HasRoomFor n k.setting k.region s base
-IsReady k o (move.Take n) s base = is_return o ≡ false → HoldsBytes n s
+IsReady k o (move.Take n) s base = (is_return o ≡ false → HoldsBytes n s) × (is_return o ≡ true → s.summary.aside ≡ None)
 IsReady k o (move.Set n) s base = AreInRegion k.region base n
 IsReady k o (move.Restart n) s base = AreInRegion k.region (k.region.last + 1) n
+IsReady k o (move.Aside b) s base = Unit {0}
 IsReady k o move.Lost s base = ⊥
 
 -- what the instruction does to the stack, from what is known before it
@@ -178,7 +180,7 @@ pub record CallsAt (region : Region) (a : ℕ) (t : Successor) (entry : Activati
   pub means : MeansParts (pushed (known_word t.next) t.state) entry base y
   pub next : t.next < 65536
   pub goes : y.processor.pc ≡ a
-  pub stack_set : t.state.core.stack_set ≡ true
+  pub located : is_located t.state ≡ true
   pub placed : ArePlaced region t.state.cells
 
 -- from x to y the machine has returned to the word at the base, which is off the stack
@@ -198,7 +200,7 @@ pub record CalledAt (region : Region) (a : ℕ) (t : Successor) (entry : Activat
   pub means : MeansParts t.state entry base y
   pub goes : y.processor.pc ≡ a
   pub room : AreInRegion region base (length t.state.items)
-  pub stack_set : t.state.core.stack_set ≡ true
+  pub located : is_located t.state ≡ true
   pub next : t.next < 65536
   pub top : word (peek y.storage (y.processor.sp + 1)) (peek y.storage y.processor.sp) ≡ t.next
   pub placed : ArePlaced region t.state.cells
@@ -266,6 +268,8 @@ pub record Stands (z : Setting) (rom : List ℕ) (region : Region) (row : Row) (
   pub vals : AreVals s.cells
   pub items : AllByRecursion IsVal s.items
   pub unset : s.core.stack_set ≡ false → s.items ≡ []
+  pub quiet : z.rules ≡ Simple → s.summary.aside ≡ None
+  pub aside : IfSome s.summary.aside (λ b. b.last < 65536)
   pub room : AreInRegion region base (length s.items)
   pub program : IsProgram rom region entry.program
   pub controlled : entry.program.kind ≡ known_kind z.is_whole (kind_of rom)
@@ -309,7 +313,7 @@ pub record IsHalt (row : Row) : Type 0 where
 pub record AreSoundSuccessors (k : Stack) (program : Program) (rom : List ℕ) (row : Row) (a : ℕ) (s : AbsState) (ss : Successors) : Type 0 where
   pub executes :
       (ranges : List Range) (entry : Activation) (base : ℕ) (x : MState) (reads : List ℕ)
-      → entry.program ≡ program → Stands k.setting rom k.region row a s entry base x → IsRuled k program rom row a s base → x.processor.halt_mark ≡ false → slice_index reads 0 ≤ 255
+      → entry.program ≡ program → Stands k.setting rom k.region row a s entry base x → IsRuled k program rom row a s base → x.processor.halt_mark ≡ false → slice_index reads 0 ≤ 255 → slice_index reads 1 ≤ 255
       → Executes k program rom ranges row a s ss entry base x reads
   pub stays :
       (ranges : List Range) (entry : Activation) (base : ℕ) (x : MState)

@@ -1,5 +1,5 @@
 -- What an instruction does to the stack (CPU instruction set: stack manipulation instructions; own rules: SP, version 3).
-use Rattle.std.specs.Prelude.{ℕ, ◌+◌, ◌-◌, true, ◌&&◌, if◌then◌else◌, nat_lt, nat_le, [], map, length, Option, Some, None}
+use Rattle.std.specs.Prelude.{ℕ, ◌+◌, ◌-◌, Bool, true, not, ◌&&◌, if◌then◌else◌, nat_lt, nat_le, [], map, length, Option, Some, None}
 use Rattle.gb_ops.specs.declared.op.Pair.TheVariants as pair
 use Rattle.gb_ops.specs.declared.op.Op.{Op}
 use Rattle.gb_ops.specs.declared.op.Op.TheVariants as op
@@ -17,6 +17,8 @@ use Rattle.gb_product.specs.Below.gb_abs.Origins.{core_without_origins, cell_wit
 use Rattle.gb_product.specs.Below.gb_abs.Stack.{pushed}
 use Rattle.gb_product.specs.Below.gb_abs_effects.declared.writes.AbsWrite.{AbsWrite}
 use Rattle.gb_product.specs.Below.gb_abs_effects.declared.writes.AbsWrite.TheVariants as write
+use Rattle.gb_domain.specs.declared.types.ImeSet.{ImeSet}
+use Rattle.gb_successors.specs.declared.stacks.Around.{Around}
 use Rattle.gb_successors.specs.declared.stacks.Stack.{Stack}
 use Rattle.gb_successors.specs.declared.stacks.StackMove.{StackMove}
 use Rattle.gb_successors.specs.declared.stacks.StackMove.TheVariants as move
@@ -53,6 +55,34 @@ abbrev pub set_to : Rules → Stack → ℕ → StackMove
 set_to Simple k a = move.Set 0
 set_to Extended k a = set_by (own_bytes k a) (main_bytes k a)
 
+-- ---- a stack that is put aside (own: version 4)
+
+-- interrupts are off
+abbrev pub is_off_alone : ImeSet → Bool
+is_off_alone i = i.off && (not i.pending && not i.on)
+
+-- where SP is put aside before an instruction, and whether it may be behind it: the stack is set, and interrupts are off
+unfoldable pub around_of : Setting → AbsState → Around
+around_of z s = record { aside = s.summary.aside; may_leave = z.is_whole && (s.core.stack_set && is_off_alone s.core.ime) }
+
+-- where SP would be lost within bounds, it is put aside there
+abbrev pub aside_if : StackMove → Bool → Bounds → StackMove
+aside_if move.Lost true b = move.Aside b
+aside_if m may b = m
+
+abbrev pub aside_within : StackMove → Bool → Option Bounds → StackMove
+aside_within m may None = m
+aside_within m may (Some b) = aside_if m may b
+
+-- behind a word at an address within bounds
+abbrev pub behind_word : Bounds → Bounds
+behind_word b = if nat_lt b.first 0xFFFE && nat_lt b.last 0xFFFE then record { first = b.first + 2; last = b.last + 2 } else record { first = 0; last = 0xFFFF }
+
+-- put aside, SP passes a word; else a word is taken off
+abbrev pub popped_by : Rules → Option Bounds → StackMove
+popped_by Extended (Some b) = move.Aside (behind_word b)
+popped_by rules aside = move.Take 2
+
 -- SP becomes an address with these bounds
 abbrev pub set_within : Stack → Option Bounds → StackMove
 set_within k None = move.Stay
@@ -74,23 +104,23 @@ abbrev pub push_of : AbsWrite → StackMove
 push_of (write.Push high low) = move.Push (record { high = high; low = low })
 push_of _ = move.Stay
 
--- what an instruction does to the stack that writes so; where it takes an address of HL, that has the bounds. By the rules of
+-- what an instruction does to the stack that writes so, from states around it; where it takes an address of HL, that has the bounds. By the rules of
 -- versions 1 and 2 a return address belongs to the callee, and SP is what PUSH, POP and LD SP,n16 make of it.
-unfoldable pub stack_move : Stack → Op → AbsWrite → Option Bounds → StackMove
-stack_move k (op.LoadPair pair.Sp w) what hl = set_to k.setting.rules k w
-stack_move k op.LoadSpHl what hl = set_within k hl
-stack_move k (op.Push from) what hl = push_of what
-stack_move k (op.Pop to) what hl = move.Take 2
-stack_move k (op.IncrementPair pair.Sp) what hl = extended k.setting.rules (move.Take 1)
-stack_move k (op.DecrementPair pair.Sp) what hl = extended k.setting.rules (move.Append 1)
-stack_move k (op.AddSp e8) what hl = extended k.setting.rules (displaced_by e8)
-stack_move k (op.CallIf condition w) what hl = extended k.setting.rules (push_of what)
-stack_move k (op.Call w) what hl = extended k.setting.rules (push_of what)
-stack_move k (op.Restart w) what hl = extended k.setting.rules (push_of what)
-stack_move k (op.ReturnIf condition) what hl = extended k.setting.rules (move.Take 2)
-stack_move k op.Return what hl = extended k.setting.rules (move.Take 2)
-stack_move k op.ReturnFromInterrupt what hl = extended k.setting.rules (move.Take 2)
-stack_move k _ what hl = move.Stay
+unfoldable pub stack_move : Stack → Around → Op → AbsWrite → Option Bounds → StackMove
+stack_move k g (op.LoadPair pair.Sp w) what hl = aside_if (set_to k.setting.rules k w) g.may_leave (record { first = w; last = w })
+stack_move k g op.LoadSpHl what hl = aside_within (set_within k hl) g.may_leave hl
+stack_move k g (op.Push from) what hl = push_of what
+stack_move k g (op.Pop to) what hl = popped_by k.setting.rules g.aside
+stack_move k g (op.IncrementPair pair.Sp) what hl = extended k.setting.rules (move.Take 1)
+stack_move k g (op.DecrementPair pair.Sp) what hl = extended k.setting.rules (move.Append 1)
+stack_move k g (op.AddSp e8) what hl = extended k.setting.rules (displaced_by e8)
+stack_move k g (op.CallIf condition w) what hl = extended k.setting.rules (push_of what)
+stack_move k g (op.Call w) what hl = extended k.setting.rules (push_of what)
+stack_move k g (op.Restart w) what hl = extended k.setting.rules (push_of what)
+stack_move k g (op.ReturnIf condition) what hl = extended k.setting.rules (move.Take 2)
+stack_move k g op.Return what hl = extended k.setting.rules (move.Take 2)
+stack_move k g op.ReturnFromInterrupt what hl = extended k.setting.rules (move.Take 2)
+stack_move k g _ what hl = move.Stay
 
 -- ---- what it leaves
 
@@ -106,6 +136,10 @@ appended_if_room z n s = if nat_lt (item_room z.rules) (length s.items + n) then
 unfoldable pub set_if_room : Setting → ℕ → AbsState → AbsState
 set_if_room z n s = if nat_lt (item_room z.rules) n then s else resized n s
 
+-- SP is put aside within bounds, or isn't
+abbrev pub with_aside : Option Bounds → AbsState → AbsState
+with_aside b s = record s { summary = record s.summary { aside = b } }
+
 -- nothing is on the stack, and nothing a copy of what a procedure held as it was entered
 abbrev pub begun_anew : AbsState → AbsState
 begun_anew s = record s { core = core_without_origins s.core; items = []; cells = map cell_without_origin s.cells }
@@ -116,8 +150,9 @@ with_stack_moved z move.Stay s = s
 with_stack_moved z (move.Push w) s = pushed_if_room z w s
 with_stack_moved z (move.Take n) s = without_newest n s
 with_stack_moved z (move.Append n) s = appended_if_room z n s
-with_stack_moved z (move.Set n) s = set_if_room z n s
-with_stack_moved z (move.Restart n) s = set_if_room z n (begun_anew s)
+with_stack_moved z (move.Set n) s = set_if_room z n (with_aside None s)
+with_stack_moved z (move.Restart n) s = set_if_room z n (begun_anew (with_aside None s))
+with_stack_moved z (move.Aside b) s = with_aside (Some b) s
 with_stack_moved z move.Lost s = s
 
 -- the stack is set

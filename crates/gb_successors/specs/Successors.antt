@@ -5,6 +5,7 @@ use Rattle.gb_ops.specs.declared.op.Op.TheVariants as op
 use Rattle.gb_ops.specs.declared.op.Row.{Row}
 use Rattle.gb_ops.specs.Cartridge.{kind_of}
 use Rattle.gb_ops.specs.Pointers.{pointer_of}
+use Rattle.gb_domain.specs.declared.low_bits.LowBits.{LowBits}
 use Rattle.gb_domain.specs.declared.pairs.Bounds.{Bounds}
 use Rattle.gb_domain.specs.declared.relations.Relations.{Relations}
 use Rattle.gb_domain.specs.declared.rules.Rules.{Rules}
@@ -32,11 +33,12 @@ use Rattle.gb_product.specs.declared.parts.Branch.{Branch}
 use Rattle.gb_product.specs.declared.parts.Product.{Product}
 use Rattle.gb_product.specs.Reduced.{product_of, reduced}
 use Rattle.gb_product.specs.Sides.{memory_of, taken_side, not_taken_side}
+use Rattle.gb_product.specs.Below.gb_relations.PointedBits.{known_bits}
 use Rattle.gb_product.specs.Below.gb_relations.Pointers.{pointer_bounds, known_carry}
 use Rattle.gb_product.specs.Below.gb_relations.Transfer.{relations_after, values_of}
 use Rattle.gb_successors.specs.Behind.{ended, with_relations, with_summary, with_cell_if, moved_state, core_behind}
-use Rattle.gb_successors.specs.Refined.{cut_read, refined, refined_target}
-use Rattle.gb_successors.specs.Stacks.{stack_move}
+use Rattle.gb_successors.specs.Refined.{cut_read, read_around, refined, refined_target}
+use Rattle.gb_successors.specs.Stacks.{around_of, stack_move}
 use Rattle.gb_successors.specs.Loads.{word_by}
 use Rattle.gb_successors.specs.Summaries.{pointed_bits, summary_by}
 use Rattle.gb_domain.specs.declared.types.Val.{Val}
@@ -47,35 +49,39 @@ use Rattle.gb_domain.specs.declared.types.Val.{Val}
 abbrev pub pointer_in : Stack → Op → Product → Option Bounds
 pointer_in k o p = pointer_bounds k.setting.rules o p.core.registers p.relations.pairs
 
+-- the low bits of the address of its byte
+abbrev pub bits_in : Stack → Op → Product → Option LowBits
+bits_in k o p = known_bits k.setting.rules k.setting.is_whole o p.core.registers
+
 -- what it reads
-abbrev pub read_in : Stack → Op → Product → AbsRead
-read_in k o p = cut_read (pointer_in k o p) (read_of o p.core)
+abbrev pub read_in : Stack → Op → AbsState → Product → AbsRead
+read_in k o s p = read_around k.setting.rules s.summary.aside o (cut_read (pointer_in k o p) (read_of o p.core))
 
 -- what is known of that
 abbrev pub word_in : Stack → Program → List ℕ → Op → AbsState → Product → Halves
 word_in k program rom o s p =
     word_by k.setting.rules k.setting k.region program rom (values_of p.core.registers p.relations.pairs) (pointed_bits (pointer_of o) p.core.registers)
-    (with_core s p.core) (read_in k o p)
+    (with_core s p.core) (read_in k o s p)
 
 -- what it does, next being the address behind it
 unfoldable pub effect_in : Stack → Program → List ℕ → Op → ℕ → AbsState → Product → AbsEffect
 effect_in k program rom o next s p =
     let word = word_in k program rom o s p in
-    refined (pointer_in k o p) (known_carry k.setting.rules o (sp_bounds k.setting s) p.core.registers p.relations.pairs)
+    refined (pointer_in k o p) (bits_in k o p) (known_carry k.setting.rules o (sp_bounds k.setting s) p.core.registers p.relations.pairs)
     (transfer k.setting.is_whole o next (sp_halves k.setting s) p.core word.low word.high)
 
 -- what that does to the stack
 unfoldable pub taken_move : Stack → Program → List ℕ → Row → ℕ → AbsState → Product → StackMove
-taken_move k program rom row next s p = stack_move k row.op (effect_in k program rom row.op next s p).write (pointer_in k row.op p)
+taken_move k program rom row next s p = stack_move k (around_of k.setting s) row.op (effect_in k program rom row.op next s p).write (pointer_in k row.op p)
 
 -- The instruction is taken, with the core and what is known together p, which are settled, and a cell that its condition
 -- tells; next is the address behind it; each part by itself.
 unfoldable pub taken_parts : Stack → Program → List ℕ → Row → ℕ → AbsState → Product → Option Cell → Successor
 taken_parts k program rom row next s p cell =
     let effect = effect_in k program rom row.op next s p in
-    let m = stack_move k row.op effect.write (pointer_in k row.op p) in
+    let m = stack_move k (around_of k.setting s) row.op effect.write (pointer_in k row.op p) in
     record {
-      read = read_in k row.op p;
+      read = read_in k row.op s p;
       write = effect.write;
       target =
           refined_target k.setting.rules k.setting row.op next (word_in k program rom row.op s p) p.core (pointer_in k row.op p) m (target_of row.op next p.core);
@@ -97,15 +103,15 @@ abbrev pub said_successor : SummaryParts → Successor → Successor
 said_successor m t = record t { state = with_summary m t.state }
 
 -- what is said of the whole program behind it, where t is the successor but for that
-unfoldable pub summary_behind : Stack → Program → Op → AbsState → Product → Successor → SummaryParts
-summary_behind k program o s p t = summary_by k.setting.rules k program o s p t.write t.state.cells
+unfoldable pub summary_behind : Stack → Program → Op → AbsState → Product → StackMove → Successor → SummaryParts
+summary_behind k program o s p m t = summary_by k.setting.rules k program o s p m t.write t.state.cells
 
 -- all of it
 unfoldable pub taken_successor : Stack → Program → List ℕ → Row → ℕ → AbsState → Branch → Successor
 taken_successor k program rom row next s b =
     let p = product_of b.core b.relations in
     let t = taken_parts k program rom row next s p b.cell in
-    said_successor (summary_behind k program row.op s p t) (related_successor (relations_behind k program rom row.op s p) t)
+    said_successor (summary_behind k program row.op s p (taken_move k program rom row next s p) t) (related_successor (relations_behind k program rom row.op s p) t)
 
 -- it isn't taken: nothing happens but that time passes
 unfoldable pub untaken_successor : Stack → Row → ℕ → AbsState → Branch → Successor

@@ -9,19 +9,22 @@ ghost use Rattle.gb_domain.specs.Interval.{any_byte, bounds as all_from};
 ghost use Rattle.gb_domain.specs.Values.{interval_of as interval};
 ghost use Rattle.gb_product.specs.Below.gb_vals.Vals.{any_val};
 ghost use Rattle.gb_product.specs.Below.gb_abs.Operations.{with_core};
-ghost use Rattle.gb_product.specs.Below.gb_abs_effects.declared.reads.AbsRead.TheVariants.{Byte};
+ghost use Rattle.gb_product.specs.Below.gb_abs_effects.declared.reads.AbsRead.TheVariants.{Byte, Word};
+ghost use Rattle.gb_domain.specs.LowBits.{no_low_bits};
 ghost use Rattle.gb_product.specs.Below.gb_relations.Transfer.{values_of};
 ghost use Rattle.gb_product.specs.Covering.{byte_in as known_in};
-ghost use Rattle.gb_code.specs.Below.gb_abs_memory.Access.{home_of as home};
+ghost use Rattle.gb_abs_memory.specs.Access.{home_of as home};
 ghost use Rattle.gb_product.specs.Below.gb_summaries.Below.gb_ram_bounds.Addresses.{joined_with as joined_so, or_any as any_if_none, joined_over};
 ghost use Rattle.gb_successors.specs.Loads as Loads;
 ghost use Rattle.gb_successors.specs.Summaries as Summaries;
 
-use crate::said::pointed_bits;
 use crate::stacks::Stack;
-use gb_code::{Rom, home_of, is_ram, is_table, item_at, known_bank, loaded_by};
+use gb_abs_memory::load::{home_of, is_table, loaded_by};
+use gb_abs_memory::shown::known_bank;
+use gb_abs_memory::{Rom, is_ram, item_at};
 use gb_domain::LowBits;
 use gb_domain::interval::{StridedInterval, bounds, join};
+use gb_domain::low_bits::none;
 use gb_domain::relations::Relations;
 use gb_domain::summary::Summary;
 use gb_domain::types::{Abs, Cell, Core, Halves, Rules, Setting, Val};
@@ -29,7 +32,8 @@ use gb_domain::values::interval_of;
 use gb_ops::machine::Region;
 use gb_ops::op::{Op, Row};
 use gb_product::{
-    AbsRead, AddressSet, Program, Span, Values, any, any_word, byte_in, is_in, top_word, uncopied,
+    AbsRead, AddressSet, Program, Span, Values, any, any_word, byte_in, is_in, pointed_bits,
+    top_word, uncopied,
 };
 
 /// An instruction that is taken, and the side that it is taken from, which is settled.
@@ -268,6 +272,51 @@ fn read_byte_in(setting: Setting, op: Op, taken: &TakenSide<'_, '_>, span: Span)
     }
 }
 
+/// The addresses behind those of a span.
+pub(crate) fn span_behind(span: Span) -> Span
+    ensures { result ≡ Loads.span_behind span }
+{
+    if span.first < 0xFFFF && span.last < 0xFFFF {
+        Span {
+            first: span.first + 1,
+            last: span.last + 1,
+            low: none(),
+        }
+    } else {
+        Span {
+            first: 0,
+            last: 0xFFFF,
+            low: none(),
+        }
+    }
+}
+
+/// What is known of a byte that is read at addresses of which no low bits are known.
+fn byte_loaded(setting: Setting, taken: &TakenSide<'_, '_>, span: Span) -> Val
+    ensures { result ≡ Loads.loaded_in setting taken.now.stack.now.region taken.now.program.now taken.now.rom.now (values_of taken.now.core.now.registers taken.now.relations.now.pairs) no_low_bits (with_core taken.now.state.now taken.now.core.now) span }
+{
+    if setting.is_whole {
+        loaded_whole(setting, taken, span, none())
+    } else {
+        loaded_by(setting, taken.rom, taken.core, taken.state, span)
+    }
+}
+
+/// What is known of a word that is read elsewhere than on the stack.
+#[inline(never)]
+#[tactic(auto, unfolding(crate::specs::Loads::read_word))]
+fn read_word_in(setting: Setting, taken: &TakenSide<'_, '_>, span: Span) -> Halves
+    ensures { result ≡ Loads.word_by setting.rules setting taken.now.stack.now.region taken.now.program.now taken.now.rom.now (values_of taken.now.core.now.registers taken.now.relations.now.pairs) no_low_bits (with_core taken.now.state.now taken.now.core.now) (Word span) }
+{
+    match setting.rules {
+        Rules::Simple => any_word(),
+        Rules::Extended => Halves {
+            high: byte_loaded(setting, taken, span_behind(span)),
+            low: byte_loaded(setting, taken, span),
+        },
+    }
+}
+
 /// What is known of what is read, by the setting's rules: of a byte, or of the word that was pushed last. What only those of version
 /// 4 ask for costs the others nothing.
 #[inline(always)]
@@ -286,6 +335,7 @@ pub(crate) fn read_word(
             _ => read_byte(setting, taken.rom, taken.state, taken.core, span),
         },
         AbsRead::Top => top_word(taken.state),
+        AbsRead::Word(span) => read_word_in(setting, taken, span),
         AbsRead::Nothing => any_word(),
     }
 }

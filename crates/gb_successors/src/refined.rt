@@ -4,6 +4,8 @@ ghost use Rattle.std.specs.Prelude.{◌≡◌};
 ghost use Rattle.gb_successors.specs.Refined as Refined;
 
 use crate::stacks::StackMove;
+use gb_domain::LowBits;
+use gb_domain::low_bits::none;
 use gb_domain::pairs::Bounds;
 use gb_domain::types::{Core, Halves, Origin, Rules, Setting};
 use gb_ops::op::{Op, Pair};
@@ -21,6 +23,7 @@ fn span_within(bounds: Option<Bounds>, span: Span) -> Span
         Some(bounds) => Span {
             first: bounds.first,
             last: bounds.last,
+            low: span.low,
         },
     }
 }
@@ -30,30 +33,56 @@ pub(crate) fn cut_read(bounds: Option<Bounds>, read: AbsRead) -> AbsRead
 {
     match read {
         AbsRead::Byte(span) => AbsRead::Byte(span_within(bounds, span)),
-        AbsRead::Nothing | AbsRead::Top => read,
+        AbsRead::Nothing | AbsRead::Top | AbsRead::Word(_) => read,
     }
 }
 
-fn cut_write(bounds: Option<Bounds>, write: &mut AbsWrite)
-    ensures { write.new ≡ Refined.cut_write bounds write.old }
+/// Where SP is put aside, POP reads a word there.
+pub(crate) fn read_around(rules: Rules, aside: Option<Bounds>, op: Op, read: AbsRead) -> AbsRead
+    ensures { result ≡ Refined.read_around rules aside op read }
 {
-    let Some(Bounds { first, last }) = bounds else {
-        return;
-    };
-    if let AbsWrite::Byte(span, _) = write {
-        *span = Span { first, last };
+    match (rules, aside, op) {
+        (Rules::Extended, Some(bounds), Op::Pop(_)) => AbsRead::Word(Span {
+            first: bounds.first,
+            last: bounds.last,
+            low: none(),
+        }),
+        _ => read,
     }
 }
 
-/// The address and the carry of an effect are known so.
+/// Where low bits of an address are known, the addresses count that have them.
+fn with_bits(bits: Option<LowBits>, span: Span) -> Span
+    ensures { result ≡ Refined.with_bits bits span }
+{
+    match bits {
+        None => span,
+        Some(low) => Span { low, ..span },
+    }
+}
+
+fn cut_write(bounds: Option<Bounds>, bits: Option<LowBits>, write: &mut AbsWrite)
+    ensures { write.new ≡ Refined.cut_write bounds bits write.old }
+{
+    if let AbsWrite::Byte(span, _) = write {
+        *span = with_bits(bits, span_within(bounds, *span));
+    }
+}
+
+/// The address with its low bits, and the carry of an effect are known so.
 #[tactic(auto, unfolding(crate::specs::Refined::refined))]
-pub(crate) fn refine(bounds: Option<Bounds>, carry: Option<bool>, effect: &mut AbsEffect)
-    ensures { effect.new ≡ Refined.refined bounds carry effect.old }
+pub(crate) fn refine(
+    bounds: Option<Bounds>,
+    bits: Option<LowBits>,
+    carry: Option<bool>,
+    effect: &mut AbsEffect,
+)
+    ensures { effect.new ≡ Refined.refined bounds bits carry effect.old }
 {
     if let Some(carry) = carry {
         effect.core.flags.carry = known(carry);
     }
-    cut_write(bounds, &mut effect.write);
+    cut_write(bounds, bits, &mut effect.write);
 }
 
 /// Whether a word is the one that was pushed as the procedure was entered.
@@ -107,6 +136,7 @@ fn moved_target(stack_move: StackMove, next: u16, target: Target) -> Target
         | StackMove::Take(_)
         | StackMove::Append(_)
         | StackMove::Set(_)
+        | StackMove::Aside(_)
         | StackMove::Lost => target,
     }
 }

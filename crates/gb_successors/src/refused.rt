@@ -4,11 +4,14 @@ ghost use Rattle.std.specs.Prelude.{◌≡◌, true};
 ghost use Rattle.gb_successors.specs.Refused as Refused;
 ghost use Rattle.gb_successors.specs.Successors.{has};
 
+use crate::loads::span_behind;
 use crate::successor::Successor;
 use crate::successors::Successors;
-use gb_code::{
-    Rom, is_limited, is_storable, is_store_limited, meets_closed_ram, store_meets_closed_ram,
+use gb_abs_memory::Rom;
+use gb_abs_memory::refusals::{
+    is_limited, is_store_limited, meets_closed_ram, store_meets_closed_ram,
 };
+use gb_abs_memory::store::is_storable;
 use gb_domain::types::{Core, Range, Setting};
 use gb_ops::machine::{Kind, Region};
 use gb_product::{AbsRead, AbsWrite, Span, Target};
@@ -47,6 +50,9 @@ fn reads_closed_ram(rom: &Rom<'_>, core: &Core, read: AbsRead) -> bool
 {
     match read {
         AbsRead::Byte(span) => meets_closed_ram(rom, core, span),
+        AbsRead::Word(span) => {
+            meets_closed_ram(rom, core, span) || meets_closed_ram(rom, core, span_behind(span))
+        }
         AbsRead::Nothing | AbsRead::Top => false,
     }
 }
@@ -81,6 +87,7 @@ fn is_read_limited(region: Region, core: &Core, read: AbsRead) -> bool
 {
     match read {
         AbsRead::Byte(span) => is_limited(core, span),
+        AbsRead::Word(span) => is_limited(core, span) || is_limited(core, span_behind(span)),
         AbsRead::Top => is_stack_limited(region, core),
         AbsRead::Nothing => false,
     }

@@ -6,7 +6,7 @@ ghost use Rattle.gb_successors.specs.Behind as Behind;
 ghost use Rattle.gb_successors.specs.Behind.{summary_or};
 ghost use Rattle.gb_successors.specs.Summaries as Summaries;
 
-use crate::stacks::Stack;
+use crate::stacks::{Stack, StackMove, with_aside};
 use crate::way::{Moved, move_state};
 use arrayvec::ArrayVec;
 use gb_domain::LowBits;
@@ -18,21 +18,11 @@ use gb_domain::summary::Summary;
 use gb_domain::types::{Abs, Cell, Core, Rules, Val};
 use gb_domain::values::interval_of;
 use gb_ops::machine::Kind;
-use gb_ops::op::{Op, Pair, Pointer};
+use gb_ops::op::{Op, Pair};
 use gb_ops::registers::Registers;
 use gb_product::{
-    AbsWrite, AddressSet, InstructionStore, Program, Values, sp_bounds, summary_after,
+    AbsWrite, AddressSet, InstructionStore, Program, Values, pointed_bits, sp_bounds, summary_after,
 };
-
-/// What is known of the low bits of an address that goes by a pointer: those of its low byte.
-pub(crate) fn pointed_bits(pointer: Option<Pointer>, registers: &Registers<Val>) -> LowBits
-    ensures { result ≡ Summaries.pointed_bits pointer registers.now }
-{
-    match pointer {
-        None => none(),
-        Some(pointer) => low_bits_of(interval_of(registers.get(pointer.low()))),
-    }
-}
 
 /// What an instruction stores, and where it may.
 #[tactic(auto, unfolding(crate::specs::Summaries::stored_by))]
@@ -55,48 +45,18 @@ fn stored_by(op: Op, registers: &Registers<Val>, write: AbsWrite) -> Instruction
     }
 }
 
-/// Whether an instruction leaves SP where it is, and interrupts off.
-fn keeps_aside(op: Op) -> bool
-    ensures { result ≡ Summaries.keeps_aside op }
+/// Where SP is put aside behind the stack's move.
+fn aside_behind(stack_move: StackMove, aside: Option<Bounds>) -> Option<Bounds>
+    ensures { result ≡ Summaries.aside_behind stack_move aside }
 {
-    match op {
-        Op::EnableInterrupts
-        | Op::LoadPair(Pair::Sp, _)
-        | Op::IncrementPair(Pair::Sp)
-        | Op::DecrementPair(Pair::Sp)
-        | Op::ReturnIf(_)
-        | Op::Return
-        | Op::ReturnFromInterrupt
-        | Op::Pop(_)
-        | Op::Push(_)
-        | Op::CallIf(_, _)
-        | Op::Call(_)
-        | Op::Restart(_)
-        | Op::AddSp(_)
-        | Op::LoadSpHl => false,
-        _ => true,
-    }
-}
-
-/// The same, but for where SP is put aside.
-fn without_aside(summary: &Summary) -> Summary
-    ensures { result ≡ record summary.now { aside = None } }
-{
-    let mut fills = ArrayVec::new();
-    if fills.try_extend_from_slice(summary.fills()).is_err() {
-        unreachable!();
-    }
-    Summary::of_parts(summary.level(), fills, summary.shadows(), None)
-}
-
-/// Where SP is put aside is said behind an instruction that leaves it there.
-fn aside_kept(op: Op, summary: &Summary) -> Summary
-    ensures { result ≡ Summaries.aside_kept op summary.now }
-{
-    if keeps_aside(op) {
-        summary.copied()
-    } else {
-        without_aside(summary)
+    match stack_move {
+        StackMove::Aside(bounds) => Some(bounds),
+        StackMove::Set(_) | StackMove::Restart(_) => None,
+        StackMove::Stay
+        | StackMove::Push(_)
+        | StackMove::Take(_)
+        | StackMove::Append(_)
+        | StackMove::Lost => aside,
     }
 }
 
@@ -109,16 +69,18 @@ fn summary_with(
     state: &Abs,
     core: &Core,
     relations: &Relations,
+    stack_move: StackMove,
     write: AbsWrite,
     cells: &[Cell],
 ) -> Summary
-    ensures { result ≡ Summaries.summary_by Extended stack.now program.now op state.now (record { core = core.now; relations = relations.now }) write cells.now }
+    ensures { result ≡ Summaries.summary_by Extended stack.now program.now op state.now (record { core = core.now; relations = relations.now }) stack_move write cells.now }
 {
     let values = Values {
         registers: core.registers,
         pairs: relations.pairs,
     };
-    summary_after(
+    let aside = state.summary().aside();
+    let after = summary_after(
         program.kind,
         program.facts,
         stack.region,
@@ -128,8 +90,9 @@ fn summary_with(
         &values,
         &relations.byte,
         stored_by(op, &core.registers, write),
-        &aside_kept(op, state.summary()),
-    )
+        &with_aside(state.summary(), None),
+    );
+    with_aside(&after, aside_behind(stack_move, aside))
 }
 
 /// What is said behind it, of which it is said what it moves.
@@ -141,10 +104,11 @@ fn summary_moved(
     state: &Abs,
     core: &Core,
     relations: &Relations,
+    stack_move: StackMove,
     write: AbsWrite,
     moved: Option<Moved>,
 ) -> Summary
-    ensures { result ≡ Summaries.summary_by Extended stack.now program.now op state.now (record { core = core.now; relations = relations.now }) write (Behind.moved_by moved write state.now).cells }
+    ensures { result ≡ Summaries.summary_by Extended stack.now program.now op state.now (record { core = core.now; relations = relations.now }) stack_move write (Behind.moved_by moved write state.now).cells }
 {
     match moved {
         None => summary_with(
@@ -154,6 +118,7 @@ fn summary_moved(
             state,
             core,
             relations,
+            stack_move,
             write,
             state.cells(),
         ),
@@ -167,6 +132,7 @@ fn summary_moved(
                 state,
                 core,
                 relations,
+                stack_move,
                 write,
                 after.cells(),
             )
@@ -184,13 +150,25 @@ fn tells_nothing(rules: Rules, kind: Kind) -> bool
     }
 }
 
+/// Whether SP is put aside.
+fn puts_aside(stack_move: StackMove) -> bool
+    ensures { result ≡ Summaries.puts_aside stack_move }
+{
+    matches!(stack_move, StackMove::Aside(_))
+}
+
 /// Whether nothing was said, and nothing will be.
 #[inline(always)]
 #[tactic(auto, unfolding(crate::specs::Summaries::stays_silent))]
-fn stays_silent(rules: Rules, program: &Program<'_>, summary: &Summary) -> bool
-    ensures { result ≡ Summaries.stays_silent rules program.now summary.now }
+fn stays_silent(
+    rules: Rules,
+    program: &Program<'_>,
+    stack_move: StackMove,
+    summary: &Summary,
+) -> bool
+    ensures { result ≡ Summaries.stays_silent rules program.now stack_move summary.now }
 {
-    tells_nothing(rules, program.kind) && summary.is_silent()
+    tells_nothing(rules, program.kind) && !puts_aside(stack_move) && summary.is_silent()
 }
 
 /// What is said behind an instruction that is taken, where it isn't what was said before.
@@ -204,18 +182,19 @@ pub(crate) fn summary_behind(
     state: &Abs,
     core: &Core,
     relations: &Relations,
+    stack_move: StackMove,
     write: AbsWrite,
     moved: Option<Moved>,
 ) -> Option<Summary>
-    ensures { summary_or result state.now.summary ≡ Summaries.summary_by rules stack.now program.now op state.now (record { core = core.now; relations = relations.now }) write (Behind.moved_by moved write state.now).cells }
+    ensures { summary_or result state.now.summary ≡ Summaries.summary_by rules stack.now program.now op state.now (record { core = core.now; relations = relations.now }) stack_move write (Behind.moved_by moved write state.now).cells }
 {
-    if stays_silent(rules, program, state.summary()) {
+    if stays_silent(rules, program, stack_move, state.summary()) {
         return None;
     }
     match rules {
         Rules::Simple => Some(Summary::none()),
         Rules::Extended => Some(summary_moved(
-            stack, program, op, state, core, relations, write, moved,
+            stack, program, op, state, core, relations, stack_move, write, moved,
         )),
     }
 }

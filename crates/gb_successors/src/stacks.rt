@@ -1,14 +1,15 @@
 //! What an instruction does to the stack.
 
-ghost use Rattle.std.specs.Prelude.{◌≡◌};
+ghost use Rattle.std.specs.Prelude.{◌≡◌, Some, None};
 ghost use Rattle.gb_domain.specs.declared.rules.Rules.TheVariants.{Extended};
 ghost use Rattle.gb_product.specs.Below.gb_abs.Bytes as Bytes;
 ghost use Rattle.gb_product.specs.Below.gb_abs.Origins as Origins;
 ghost use Rattle.gb_successors.specs.Stacks as Stacks;
 
 use arrayvec::ArrayVec;
-use gb_domain::pairs::Bounds;
-use gb_domain::types::{Abs, Core, Halves, Rules, Setting};
+use gb_domain::pairs::{ANY_BOUNDS, Bounds};
+use gb_domain::summary::Summary;
+use gb_domain::types::{Abs, Core, Halves, ImeSet, Rules, Setting};
 use gb_ops::machine::Region;
 use gb_ops::op::{Op, Pair};
 use gb_product::{AbsWrite, append_bytes, cells_without_origins, core_without_origins, resize};
@@ -40,8 +41,92 @@ pub enum StackMove {
     Set(u8),
     /// SP is set so that main holds so many bytes, and main begins anew.
     Restart(u8),
+    /// SP is put aside, within bounds.
+    Aside(Bounds),
     /// SP is set to an address that isn't known, or that is neither the procedure's nor main's.
     Lost,
+}
+
+/// Where the stack is put aside in the states before an instruction, and may be behind it.
+#[derive(Clone, Copy)]
+pub struct Around {
+    /// The bounds of SP, where it is put aside.
+    pub aside: Option<Bounds>,
+    /// Whether SP may be put aside: the stack is set, and interrupts are off (version 4).
+    pub may_leave: bool,
+}
+
+fn is_off_alone(ime: ImeSet) -> bool
+    ensures { result ≡ Stacks.is_off_alone ime }
+{
+    ime.off && !ime.pending && !ime.on
+}
+
+/// Where the stack is put aside, and may be.
+#[tactic(auto, unfolding(crate::specs::Stacks::around_of))]
+pub fn around_of(setting: Setting, state: &Abs) -> Around
+    ensures { result ≡ Stacks.around_of setting state.now }
+{
+    let core = state.core();
+    Around {
+        aside: state.summary().aside(),
+        may_leave: setting.is_whole && core.stack_set && is_off_alone(core.ime),
+    }
+}
+
+/// Where SP would be lost within bounds, it is put aside there.
+fn aside_if(stack_move: StackMove, may_leave: bool, bounds: Bounds) -> StackMove
+    ensures { result ≡ Stacks.aside_if stack_move may_leave bounds }
+{
+    match stack_move {
+        StackMove::Lost => {
+            if may_leave {
+                StackMove::Aside(bounds)
+            } else {
+                StackMove::Lost
+            }
+        }
+        StackMove::Stay
+        | StackMove::Push(_)
+        | StackMove::Take(_)
+        | StackMove::Append(_)
+        | StackMove::Set(_)
+        | StackMove::Restart(_)
+        | StackMove::Aside(_) => stack_move,
+    }
+}
+
+fn aside_within(stack_move: StackMove, may_leave: bool, bounds: Option<Bounds>) -> StackMove
+    ensures { result ≡ Stacks.aside_within stack_move may_leave bounds }
+{
+    match bounds {
+        None => stack_move,
+        Some(bounds) => aside_if(stack_move, may_leave, bounds),
+    }
+}
+
+/// Behind a word at an address within bounds.
+fn behind_word(bounds: Bounds) -> Bounds
+    ensures { result ≡ Stacks.behind_word bounds }
+{
+    if bounds.first < 0xFFFE && bounds.last < 0xFFFE {
+        Bounds {
+            first: bounds.first + 2,
+            last: bounds.last + 2,
+        }
+    } else {
+        ANY_BOUNDS
+    }
+}
+
+/// Put aside, SP passes a word; else a word is taken off.
+fn popped_by(rules: Rules, aside: Option<Bounds>) -> StackMove
+    ensures { result ≡ Stacks.popped_by rules aside }
+{
+    match (rules, aside) {
+        (Rules::Extended, Some(bounds)) => StackMove::Aside(behind_word(bounds)),
+        _ => StackMove::Take(2),
+    }
 }
 
 /// The bytes from an address up to a base, where so many may be held.
@@ -153,18 +238,30 @@ fn push_of(write: AbsWrite) -> StackMove
     }
 }
 
-/// What an instruction does to the stack that writes so; where it takes an address of HL, that has the bounds.
+/// What an instruction does to the stack that writes so, from states around it; where it takes an address of HL, that has the bounds.
 #[inline(always)]
 #[tactic(auto, unfolding(crate::specs::Stacks::stack_move))]
-pub fn stack_move(stack: Stack, op: Op, write: AbsWrite, hl: Option<Bounds>) -> StackMove
-    ensures { result ≡ Stacks.stack_move stack op write hl }
+pub fn stack_move(
+    stack: Stack,
+    around: Around,
+    op: Op,
+    write: AbsWrite,
+    hl: Option<Bounds>,
+) -> StackMove
+    ensures { result ≡ Stacks.stack_move stack around op write hl }
 {
     let rules = stack.setting.rules;
     match op {
-        Op::LoadPair(Pair::Sp, address) => set_to(stack, address),
-        Op::LoadSpHl => set_within(stack, hl),
+        Op::LoadPair(Pair::Sp, address) => {
+            let bounds = Bounds {
+                first: address,
+                last: address,
+            };
+            aside_if(set_to(stack, address), around.may_leave, bounds)
+        }
+        Op::LoadSpHl => aside_within(set_within(stack, hl), around.may_leave, hl),
         Op::Push(_) => push_of(write),
-        Op::Pop(_) => StackMove::Take(2),
+        Op::Pop(_) => popped_by(rules, around.aside),
         Op::IncrementPair(Pair::Sp) => extended(rules, StackMove::Take(1)),
         Op::DecrementPair(Pair::Sp) => extended(rules, StackMove::Append(1)),
         Op::AddSp(e8) => extended(rules, displaced_by(e8)),
@@ -232,6 +329,26 @@ fn begun_anew(state: &Abs) -> Abs
     )
 }
 
+/// The same is said, but for where SP is put aside.
+pub(crate) fn with_aside(summary: &Summary, aside: Option<Bounds>) -> Summary
+    ensures { result ≡ record summary.now { aside = aside } }
+{
+    let mut fills = ArrayVec::new();
+    if fills.try_extend_from_slice(summary.fills()).is_err() {
+        unreachable!();
+    }
+    Summary::of_parts(summary.level(), fills, summary.shadows(), aside)
+}
+
+/// SP is put aside within bounds, or isn't.
+#[inline(never)]
+fn put_aside(aside: Option<Bounds>, state: &mut Abs)
+    ensures { state.new ≡ Stacks.with_aside aside state.old }
+{
+    let summary = with_aside(state.summary(), aside);
+    state.set_summary(summary);
+}
+
 /// Appends bytes of any value to the states where they are. It is out of line, so that the copy is paid only here.
 #[inline(never)]
 fn append_if_room(setting: Setting, count: u8, state: &mut Abs)
@@ -242,15 +359,17 @@ fn append_if_room(setting: Setting, count: u8, state: &mut Abs)
 
 #[inline(never)]
 fn resize_if_room(setting: Setting, count: u8, state: &mut Abs)
-    ensures { state.new ≡ Stacks.set_if_room setting count state.old }
+    ensures { state.new ≡ Stacks.set_if_room setting count (Stacks.with_aside None state.old) }
 {
+    put_aside(None, state);
     *state = set_if_room(setting, count, state);
 }
 
 #[inline(never)]
 fn restart_if_room(setting: Setting, count: u8, state: &mut Abs)
-    ensures { state.new ≡ Stacks.set_if_room setting count (Stacks.begun_anew state.old) }
+    ensures { state.new ≡ Stacks.set_if_room setting count (Stacks.begun_anew (Stacks.with_aside None state.old)) }
 {
+    put_aside(None, state);
     *state = set_if_room(setting, count, &begun_anew(state));
 }
 
@@ -266,6 +385,7 @@ pub(crate) fn move_stack(setting: Setting, stack_move: StackMove, state: &mut Ab
         StackMove::Append(count) => append_if_room(setting, count, state),
         StackMove::Set(count) => resize_if_room(setting, count, state),
         StackMove::Restart(count) => restart_if_room(setting, count, state),
+        StackMove::Aside(bounds) => put_aside(Some(bounds), state),
     }
 }
 
@@ -290,6 +410,7 @@ pub(crate) fn move_core(stack_move: StackMove, core: &mut Core)
         | StackMove::Push(_)
         | StackMove::Take(_)
         | StackMove::Append(_)
+        | StackMove::Aside(_)
         | StackMove::Lost => {}
     }
 }

@@ -12,11 +12,12 @@ ghost use Rattle.gb_successors.specs.Behind.{state_behind};
 ghost use Rattle.gb_successors.specs.Successors as Succession;
 
 use crate::loads::{TakenSide, read_word};
-use crate::refined::{cut_read, refine, refined_target};
+use crate::refined::{cut_read, read_around, refine, refined_target};
 use crate::said::summary_behind;
-use crate::stacks::{Stack, StackMove, move_core, stack_move};
+use crate::stacks::{Stack, StackMove, around_of, move_core, stack_move};
 pub use crate::way::{Moved, Successor};
-use gb_code::{Area, Rom, area_of, starts_oam_transfer, store_in_core};
+use gb_abs_memory::Rom;
+use gb_abs_memory::store::{Area, area_of, starts_oam_transfer, store_in_core};
 use gb_domain::pairs::Bounds;
 use gb_domain::relations::Relations;
 use gb_domain::types::{Abs, Cell, Core, ImeSet, Rules, Setting};
@@ -24,8 +25,9 @@ use gb_ops::machine::Kind;
 use gb_ops::op::{Op, Row};
 use gb_product::parts::{Branch, Product};
 use gb_product::{
-    AbsEffect, AbsRead, AbsWrite, Inputs, Program, Span, Target, end, known_carry, pass,
-    pointer_bounds, quiet, read_of, relations_after, sp_bounds, sp_halves, target_of, transfer_in,
+    AbsEffect, AbsRead, AbsWrite, Inputs, Program, Span, Target, end, known_bits, known_carry,
+    pass, pointer_bounds, quiet, read_of, relations_after, sp_bounds, sp_halves, target_of,
+    transfer_in,
 };
 
 /// Whether a write starts an OAM transfer.
@@ -164,7 +166,13 @@ fn successor_by<'a>(
     };
     let pointer = pointer_bounds(rules, op, &core.registers, &relations.pairs);
     let sp = sp_bounds(setting, state);
-    let read = cut_read(pointer, read_of(op, core));
+    let around = around_of(setting, state);
+    let read = read_around(
+        rules,
+        around.aside,
+        op,
+        cut_read(pointer, read_of(op, core)),
+    );
     let inputs = Inputs {
         is_whole: setting.is_whole,
         next,
@@ -173,8 +181,15 @@ fn successor_by<'a>(
     };
     transfer_in(op, &inputs, effect);
     let carry = known_carry(rules, op, sp, &core.registers, &relations.pairs);
-    refine(pointer, carry, effect);
-    let stack_move = stack_move(Stack { setting, ..*stack }, op, effect.write, pointer);
+    let bits = known_bits(rules, setting.is_whole, op, &core.registers);
+    refine(pointer, bits, carry, effect);
+    let stack_move = stack_move(
+        Stack { setting, ..*stack },
+        around,
+        op,
+        effect.write,
+        pointer,
+    );
     let behind = target_of(op, next, core);
     let target = refined_target(setting, op, &inputs, core, pointer, stack_move, behind);
     let kind = taken.rom.kind();
@@ -182,7 +197,7 @@ fn successor_by<'a>(
     let program = taken.program;
     let write = effect.write;
     let summary = summary_behind(
-        rules, stack, program, op, state, core, relations, write, moved,
+        rules, stack, program, op, state, core, relations, stack_move, write, moved,
     );
     let low = inputs.word.low;
     let relations = relations_after(

@@ -11,7 +11,7 @@ ghost use Rattle.gb_product.specs.Reduced.{product_of};
 
 use crate::stacks::Stack;
 use crate::successor::{Successor, staying_successor, taken_successor, untaken_successor};
-use gb_code::Rom;
+use gb_abs_memory::Rom;
 use gb_domain::relations::Relations;
 use gb_domain::types::{Abs, Core, Rules, Val};
 use gb_ops::op::{Op, Row};

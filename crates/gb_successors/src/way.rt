@@ -8,7 +8,7 @@ ghost use Rattle.gb_successors.specs.Behind as Behind;
 ghost use Rattle.gb_successors.specs.Behind.{with_relations, with_summary};
 
 use crate::stacks::{Stack, StackMove, move_stack};
-use gb_code::store_in;
+use gb_abs_memory::store::store_in;
 use gb_domain::relations::Relations;
 use gb_domain::summary::Summary;
 use gb_domain::types::{Abs, Cell, Core, Rules, Setting, Val};
@@ -100,13 +100,14 @@ impl<'a> Successor<'a> {
     }
 
     /// The states behind, in the place of others.
-    #[tactic(auto, using(crate::proofs::MovedLaws::moved_summary))]
     pub fn put_state(&self, after: &mut Abs)
         ensures { after.new ≡ self.now.state }
     {
         copy_state(self.before, after);
         if let Some(moved) = self.moved {
             move_state(moved, self.write, after);
+            // What a move makes of it is told by `summary`.
+            after.set_summary(self.before.summary().copied());
         }
         after.set_core(self.core);
         after.set_relations(self.relations);

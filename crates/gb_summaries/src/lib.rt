@@ -31,10 +31,12 @@ pub fn nothing_is_said()
 pub use covering::known_byte;
 
 // What lies below, for the crates above.
+pub use gb_ram_bounds;
 pub use gb_ram_bounds::AddressSet;
 pub use gb_ram_bounds::addresses::is_in;
 pub use gb_ram_bounds::cells::has_cell;
 pub use gb_relations::compared::only_of_a;
+pub use gb_relations::pointed_bits::{known_bits, pointed_bits};
 pub use gb_relations::pointers::{known_carry, pointer_bounds};
 pub use gb_relations::returned::{Kept, returned};
 pub use gb_relations::transfer::relations_after;

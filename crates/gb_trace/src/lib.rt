@@ -28,9 +28,9 @@ pub use gb_witness::{
     Program, Progress, Range, Reason, Relations, Rom, Rules, RunOutcome, Setting, Sighting, Span,
     Stepped, Test, UpgradeTo, Upgraded, Val, Verdict, WatchOutcome, Watched, WatchedRun, callee,
     certificate_line, check, check_irqs, check_node, covered_at, covers, ending_line, enter,
-    fault_line, find_stack, header_bytes, header_line, keys_at, lowest_fault, no_fault_line,
-    put_all, resume, run_bytes, run_script, run_script_shown, seconds_of, show_bytes, show_cert,
-    steps_are_played, successors_of, upgrade_bytes, verdict_ignores_version, verify_bytes,
-    watch_bytes, watch_frame, watch_line, watch_script, watch_script_shown,
+    fault_line, find_stack, gb_calls, header_bytes, header_line, keys_at, lowest_fault,
+    no_fault_line, put_all, resume, run_bytes, run_script, run_script_shown, seconds_of,
+    show_bytes, show_cert, steps_are_played, successors_of, upgrade_bytes, verdict_ignores_version,
+    verify_bytes, watch_bytes, watch_frame, watch_line, watch_script, watch_script_shown,
     watched_runs_are_played,
 };

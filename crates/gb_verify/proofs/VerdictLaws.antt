@@ -1,6 +1,6 @@
 -- The verdict: step by step over the nodes, and what it says.
 use Rattle.std.proofs.Common.{◌≡◌, ℕ, zero, suc, ◌+◌, ◌≤◌, ◌<◌, Bool, true, false, ◌==◌, cond, not, ◌&&◌, ◌||◌, ◌⊎◌, inl, inr, List, [], ◌∷◌, Option, Some, None, length, drop, slice_get, refl, sym, ◌∙◌, ap, subst, arith}
-use Rattle.std.specs.Prelude.{option_and_then, is_some}
+use Rattle.std.specs.Prelude.{option_and_then, is_some, is_none}
 use Rattle.std.proofs.lemmas.Option.{slice_get-get_or}
 use Rattle.gb_rules.specs.Below.gb_domain.declared.rules.Rules.{Rules}
 use Rattle.gb_rules.specs.Below.gb_domain.declared.rules.Rules.TheVariants.{Simple, Extended}
@@ -30,7 +30,8 @@ use Rattle.gb_rules.specs.Below.gb_calls.Resuming.{resumed}
 use Rattle.gb_rules.specs.Covered.{covered_at, is_covered_by_bytes, is_covered_by_one, is_covered_by_register, registers}
 use Rattle.gb_rules.specs.Procedures.{kept_of, ranges_of, need_of, exit_of, base_in, setting_of, stack_of, program_of, taken_by}
 use Rattle.gb_rules.specs.Below.gb_successors.Refused.{is_unstorable, meets_oam_transfer}
-use Rattle.gb_rules.specs.Rules.{breaks_stack, is_code_limited, moves_too_deep, callee_by, callee_at, is_over, is_overfull, calls_too_deep, is_uncovered_if, is_resumed_uncovered, is_back_uncovered, is_inlined_uncovered, is_call_uncovered, is_uncovered_at, is_uncovered, is_outside_of, is_uncallable_at, is_uncallable, is_unreturnable_at, is_unreturnable, interrupts, is_dispatch_deep, handles_too_deep, is_unhandled, lacks_handler, test_row, test_instruction, node_bytes, ways_of, any_of, is_possible, grows_too_deep, stores_outside, meets_ram, meets_transfer, leads_anywhere, leads_uncovered, calls_wrongly, returns_wrongly, applies_to_row, applies, reasons, reason_of}
+use Rattle.gb_rules.specs.Below.gb_successors.Code.{area_end, leaves_area, known_byte}
+use Rattle.gb_rules.specs.Rules.{may_read_twice, is_undefined, breaks_stack, is_code_limited, moves_too_deep, callee_by, callee_at, is_over, is_overfull, calls_too_deep, is_uncovered_if, is_resumed_uncovered, is_back_uncovered, is_inlined_uncovered, is_call_uncovered, is_uncovered_at, is_uncovered, is_outside_of, is_uncallable_at, is_uncallable, is_unreturnable_at, is_unreturnable, interrupts, is_dispatch_deep, handles_too_deep, is_unhandled, lacks_handler, test_row, test_instruction, node_bytes, ways_of, any_of, is_possible, grows_too_deep, stores_outside, meets_ram, meets_transfer, leads_anywhere, leads_uncovered, calls_wrongly, returns_wrongly, applies_to_row, applies, reasons, reason_of}
 use Rattle.gb_verify.specs.declared.verdict.Verdict.TheVariants.{Refused}
 use Rattle.gb_verify.specs.Verdict.{reason_against, reason_against_at, refusal_or, verdict_from, verdict_of, is_bad_node, is_bad_entry, main_entry, IsVerdict, IgnoresVersion}
 use Rattle.gb_verify.specs.PowerUp.{state_at_power_up}
@@ -348,6 +349,7 @@ same_growth rom cert version n row e =
 same_row : (rom : List ℕ) (cert : Certificate) (version : ℕ) (n : Node) (row : Row) (r : Reason) → AreAlike rom cert version
     → applies_to_row rom (other cert version) n row r ≡ applies_to_row rom cert n row r
 unfolding applies_to_row stores_outside meets_ram meets_transfer leads_anywhere leads_uncovered calls_wrongly returns_wrongly ranges_of
+same_row rom cert version n row reason.Halt e = ap (λ p. may_read_twice p rom n row.op) e.program
 same_row rom cert version n row reason.Stack e = ap (λ k. breaks_stack k n row.op) (same_stack cert version n.procedure e.ruled)
 same_row rom cert version n row reason.Depth e = same_growth rom cert version n row e
 same_row rom cert version n row reason.Store e =
@@ -382,11 +384,13 @@ same_instruction test also (Some bytes) same = by (decoded bytes)
 same_applies : (rom : List ℕ) (cert : Certificate) (version : ℕ) (n : Node) (r : Reason) → AreAlike rom cert version
     → applies rom (other cert version) n r ≡ applies rom cert n r
 unfolding applies
-same_applies rom cert version n reason.Area e = refl
+same_applies rom cert version n reason.Area e = ap (λ p. leaves_area n.address (known_byte p rom n.state n.address) (area_end n.address)) e.program
 same_applies rom cert version n reason.Bank e = refl
-same_applies rom cert version n reason.Unreadable e = refl
-same_applies rom cert version n reason.UndefinedOpcode e = refl
-same_applies rom cert version n r e = same_instruction _ _ (node_bytes rom n) (λ row. same_row rom cert version n row r e)
+same_applies rom cert version n reason.Unreadable e = ap (λ p. is_none (node_bytes p rom n)) e.program
+same_applies rom cert version n reason.UndefinedOpcode e = ap (λ p. is_undefined (node_bytes p rom n)) e.program
+same_applies rom cert version n r e =
+    ap (λ p. test_instruction (λ row. applies_to_row rom (other cert version) n row r) (node_bytes p rom n)) e.program
+    ∙ same_instruction _ _ (node_bytes (program_of rom cert) rom n) (λ row. same_row rom cert version n row r e)
 
 same_find : {X : Type 0} (test also : X → Bool) (xs : List X) → ((x : X) → test x ≡ also x) → find test xs ≡ find also xs
 same_find test also [] same = refl

@@ -5,7 +5,7 @@ use Rattle.gb_ops.specs.declared.machine.Event.{Event}
 use Rattle.gb_ops.specs.Faults.{no_faults}
 use Rattle.gb_ops.specs.Play.{MState, IsStart, IsReached, play}
 use Rattle.gb_rules.specs.Below.gb_domain.Certificate.{Certificate}
-use Rattle.gb_rules.specs.Below.gb_code.Places.{IsCertified}
+use Rattle.gb_rules.specs.Below.gb_successors.Places.{IsCertified}
 use Rattle.gb_verify.specs.declared.verdict.Verdict.{Verdict}
 use Rattle.gb_verify.specs.declared.verdict.Verdict.TheVariants.{Accepted, Refused}
 

@@ -18,6 +18,7 @@ pub use verdict::Verdict;
 pub use verify::{Answer, Outcome};
 
 // What lies below, for the crates above.
+pub use gb_ops;
 pub use gb_rules::covered::covered_at;
 pub use gb_rules::interrupts::check_irqs;
 pub use gb_rules::procedures::{
@@ -31,10 +32,10 @@ pub use gb_rules::{
     Rules, Setting, Shadows, Span, Stack, States, Successor, Successors, Summary, Target, Test,
     Val, WordPair, any, are_ranges_inside, area_end, byte_of, callee, cell_at, covers,
     covers_controller, covers_core, covers_ime, covers_may, covers_origin, covers_relations,
-    covers_said, covers_val, enter, handler, holds_bytes, is_limited, is_ram, is_stack_limited,
-    known_bank, known_byte, known_bytes, leaves_area, left_by_dispatch, length_of,
-    lies_in_high_ram, may_come, meets_closed_ram, reduced, resume, successors_of, test_alone,
-    with_value,
+    covers_said, covers_val, enter, gb_calls, gb_domain, gb_ram_bounds, handler, holds_bytes,
+    is_limited, is_ram, is_stack_limited, known_bank, known_byte, known_bytes, leaves_area,
+    left_by_dispatch, length_of, lies_in_high_ram, may_come, meets_closed_ram, reduced, resume,
+    successors_of, test_alone, with_value,
 };
 pub use gb_text::sink::Plain;
 pub use gb_text::{HeaderFault, Rom};

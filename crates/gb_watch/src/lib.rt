@@ -23,6 +23,6 @@ pub use gb_console::{
     ImeSet, Input, KeptBanks, Keys, May, Memory, Met, NodeRef, OneByte, Origin, Outcome,
     ProcedureRef, Program, Range, Reason, Relations, Rules, Setting, Span, Stepped, Test,
     UpgradeTo, Upgraded, Val, Verdict, WIDTH, callee, certificate_line, check, check_irqs,
-    check_node, covered_at, covers, enter, resume, successors_of, upgrade_bytes,
+    check_node, covered_at, covers, enter, gb_calls, resume, successors_of, upgrade_bytes,
     verdict_ignores_version, verify_bytes,
 };

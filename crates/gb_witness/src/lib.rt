@@ -26,10 +26,10 @@ pub use gb_printed::{
     Input, KeptBanks, Keys, May, Memory, Met, OneByte, Origin, Outcome, Program, Progress, Range,
     Reason, Relations, Rules, RunOutcome, Setting, Sighting, Silence, Span, Stepped, Test,
     UpgradeTo, Upgraded, Val, Verdict, Watched, callee, certificate_line, check, check_irqs,
-    check_node, covered_at, covers, ending_line, enter, header_bytes, header_line, keys_at,
-    place_now, resume, run_bytes, run_script, run_script_shown, seconds_of, show_bytes, show_cert,
-    steps_are_played, successors_of, upgrade_bytes, verdict_ignores_version, verify_bytes,
-    watch_frame,
+    check_node, covered_at, covers, ending_line, enter, gb_calls, header_bytes, header_line,
+    keys_at, place_now, resume, run_bytes, run_script, run_script_shown, seconds_of, show_bytes,
+    show_cert, steps_are_played, successors_of, upgrade_bytes, verdict_ignores_version,
+    verify_bytes, watch_frame,
 };
 pub use gb_text::put::put_all;
 pub use gb_text::{HeaderFault, Rom};

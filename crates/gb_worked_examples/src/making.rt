@@ -2,9 +2,8 @@
 
 use crate::judging::{Ceiling, Upgrades, judge_made};
 use crate::reporting::{report_findings, tell_report};
-use gb_refine::{
-    Finding, Made, SearchLimits, SearchProgress, ShownFinding, Symbols, finding_json, make,
-};
+use gb_page::{Finding, ShownFinding, Symbols, finding_json};
+use gb_refine::{Made, SearchLimits, SearchProgress, make};
 use gb_text::Rom;
 use std::alloc::Global;
 use std::io::{self, Write};

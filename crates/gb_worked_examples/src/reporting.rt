@@ -2,7 +2,7 @@
 //! what is in the way.
 
 use gb_console::Cert;
-use gb_refine::{
+use gb_page::{
     Extras, Facts, Finding, FindingsExtras, InstructionFinding, Outline, Sketch, Symbols,
     facts_json, findings_page, page_of,
 };

@@ -9,6 +9,6 @@ push-requires c =
     let few = c.cells-cell-items.ensures.few in
     let most : length c.cells-cell-items.result.now ≤ 64 = omega arith in (
       omega arith,
-      mapped_room (widened_at c.args.first c.args.last c.args.val) c.loop-cell.cells.items c.cells-cell-items.result.now c.loop-cell.cell-index
+      mapped_room (widened_at c.args.is_whole c.args.span c.args.val) c.loop-cell.cells.items c.cells-cell-items.result.now c.loop-cell.cell-index
           c.loop-cell.invariant c.loop-cell-test.true most,
     )

@@ -4,4 +4,4 @@ use Rattle.gb_abs.proofs.cells.widened_or_same.Given as goal
 
 abbrev pub invariant-loop-cell : goal.invariant-loop-cell
 invariant-loop-cell l =
-    l.cells.items ++ map (widened_at l.first l.last l.val) (drop l.cell-index l.cell-items) ≡ map (widened_at l.first l.last l.val) l.cell-items
+    l.cells.items ++ map (widened_at l.is_whole l.span l.val) (drop l.cell-index l.cell-items) ≡ map (widened_at l.is_whole l.span l.val) l.cell-items

@@ -3,7 +3,7 @@ use Rattle.gb_domain.specs.Interval.{any_byte}
 use Rattle.gb_domain.specs.Values.{interval_of}
 use Rattle.gb_product.specs.Below.gb_summaries.Below.gb_ram_bounds.Addresses.{is_in, joined_with}
 use Rattle.gb_product.specs.Covering.{byte_in}
-use Rattle.gb_code.specs.Below.gb_abs_memory.Access.{home_of}
+use Rattle.gb_abs_memory.specs.Access.{home_of}
 use Rattle.gb_successors.proofs.JoinedLaws.{told_soon, joined_more}
 use Rattle.gb_successors.proofs.loads.joined_told.Goals as goal
 

@@ -1,10 +1,11 @@
 use Rattle.std.proofs.Common.{refl, sym}
-use Rattle.gb_successors.specs.Successors.{effect_in, taken_parts, relations_behind, summary_behind, taken_successor}
+use Rattle.gb_successors.specs.Stacks.{around_of}
+use Rattle.gb_successors.specs.Successors.{effect_in, taken_parts, taken_move, relations_behind, summary_behind, taken_successor}
 use Rattle.gb_successors.proofs.MovedLaws.{taken_state, moved_cells}
 use Rattle.gb_successors.proofs.successor.successor_by.Goals as goal
 
 pub returns : goal.returns
-unfolding effect_in taken_parts relations_behind summary_behind taken_successor
+unfolding around_of effect_in taken_parts taken_move relations_behind summary_behind taken_successor
 returns c =
     rw (
       c.move_of-moved.ensures,
@@ -18,12 +19,15 @@ returns c =
       c.target_of-behind.ensures.exact,
       c.stack_move-stack_move.ensures,
       c.refine.ensures,
+      c.known_bits-bits.ensures.exact,
       c.known_carry-carry.ensures.exact,
       c.transfer_in.ensures.exact,
       c.requires.before,
       c.read_word.ensures,
       c.sp_halves.ensures.exact,
-      c.cut_read-read.ensures,
+      c.read_around-read.ensures,
+      c.cut_read.ensures,
+      c.around_of-around.ensures,
       c.read_of.ensures.exact,
       c.sp_bounds-sp.ensures.exact,
       c.pointer_bounds-pointer.ensures.exact,

@@ -1,3 +1,0 @@
-pub mod ByteLaws
-pub mod CodeLaws
-pub mod Below

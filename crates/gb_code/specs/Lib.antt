@@ -1,4 +1,0 @@
-pub mod Code
-pub mod Fetched
-pub mod Places
-pub mod Below

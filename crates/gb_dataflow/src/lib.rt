@@ -1,0 +1,22 @@
+//! How data flows through the procedures of a run, and the plans that follow from it: which states are to be told apart, and where.
+//!
+//! Read `sources` (what instructions make registers from), `spots` (what a run knows at an address) and `ways` (a procedure's graph and
+//! its loops); then `plan`, what may be refined, and over them `slices` (where a value comes from), `loops` and `waiting` (bytes on the
+//! stack). Nothing here is trusted: a plan that doesn't help costs time alone.
+#![tactic(auto)]
+
+mod carries;
+pub mod loops;
+pub mod plan;
+pub mod slices;
+pub mod sources;
+pub mod spots;
+pub mod waiting;
+pub mod ways;
+
+// What lies below, for the crates above.
+pub use gb_fixpoint::{
+    Abs, Cell, Core, Ctl, EditedPlaces, Flg, ImeSet, May, PADDING, Rom, Rules, Span, Val, cause,
+    cell_at, code_point, configuration, gb_ops, keys, known_bank, known_bytes, limits,
+    register_set, types,
+};

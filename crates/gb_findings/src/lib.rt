@@ -1,0 +1,35 @@
+//! What there is to report from a run that failed: where, in which state, how the code gets there, and what multiplies.
+//!
+//! Read `finding`, which takes it from a run, with `path` (how a node was reached), `chain` (through which calls) and `crowd` (what is
+//! there too often); `lost_bank` with `steps_back` says who left another bank mapped, `pushed_return` which return takes bytes that
+//! the code pushed, and `handlers` which handlers switch banks. Nothing here is text.
+#![tactic(auto)]
+
+pub mod chain;
+pub mod crowd;
+pub mod finding;
+mod handlers;
+pub mod lost_bank;
+pub mod path;
+pub mod pushed_return;
+pub mod steps_back;
+
+pub use chain::{CallChain, EnteredRoutine, Root};
+pub use crowd::{Count, Crowd, Multiplied, Multiplier, ReachedLimit};
+pub use finding::{BankFinding, Finding, InstructionFinding, PointerLoad, Spent, report_finding};
+pub use lost_bank::{BankLoser, LostBank, Mapping};
+pub use path::{Path, Segment, Start};
+pub use pushed_return::{PushedReturn, is_by_wild_return};
+pub use steps_back::MappedBanks;
+
+// What lies below, for the crates above.
+pub use gb_fixpoint;
+pub use gb_fixpoint::code_point::CodePoint;
+pub use gb_fixpoint::{
+    Abs, Cell, Cert, NodeRef, Program, Range, Rom, Verdict, cause, code_at, gb_ops, known_bank,
+    program_of,
+};
+pub use gb_symbols;
+pub use gb_symbols::{
+    Format, SourceLine, Symbol, SymbolFault, SymbolFaultKind, SymbolOffset, Symbols,
+};

@@ -1,5 +1,0 @@
-use Rattle.std.proofs.Common.{length}
-use Rattle.gb_fixpoint.proofs.tracking.+from_address.Given as goal
-
-abbrev pub decreases-from_address : goal.decreases-from_address
-decreases-from_address l = length l.tracked.now
