@@ -16,7 +16,6 @@ pub mod ways;
 
 // What lies below, for the crates above.
 pub use gb_fixpoint::{
-    Abs, Cell, Core, Ctl, EditedPlaces, Flg, ImeSet, May, PADDING, Rom, Rules, Span, Val, cause,
-    cell_at, code_point, configuration, gb_ops, keys, known_bank, known_bytes, limits,
-    register_set, types,
+    Abs, EditedPlaces, PADDING, Rules, Span, cause, cell_at, code_point, configuration, gb_ops,
+    known_bank, limits, register_set, types,
 };

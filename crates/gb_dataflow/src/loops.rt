@@ -16,7 +16,7 @@ use std::alloc::{AllocError, Global};
 use std::collections::HashMap;
 
 /// Whether all points of a loop are keyed.
-fn is_keyed(run: &Run<'_>, target: CodePoint, around: &Loop) -> bool {
+pub(crate) fn is_keyed(run: &Run<'_>, target: CodePoint, around: &Loop) -> bool {
     around.iter().all(|point| run.configuration.keyed.contains(&TargetPlace {
         target,
         point: *point,

@@ -1,6 +1,7 @@
 //! Slices: straight-line code backwards, through the stack too, to where the wanted registers come from one register that can be
 //! taken value by value.
 
+use crate::loops::{is_keyed, pointers_read};
 use crate::plan::{Edit, Plan, split_at, unless_taken_back};
 use crate::sources::{count, first, loaded_by, meet, sources, written};
 use crate::spots::{has_entry, narrower, op_at, open_at, place_of, points_to_rom, width_at};
@@ -45,6 +46,8 @@ pub enum SliceBy {
     Loop,
     /// All, before a branch past a few instructions that change what is known.
     Skip,
+    /// All, before the loop around the spot itself, whose rounds are told apart already.
+    Start,
     /// All that may help an access that has to be allowed at each address. Where its pointer is only copied from where it was loaded
     /// from RAM, and nothing is compared, it would be refused for one of the values as for all.
     Bounds,
@@ -163,7 +166,7 @@ impl Walk {
         }
         let is_wanted = match sought.by {
             SliceBy::Any | SliceBy::Single | SliceBy::First | SliceBy::Bounds => true,
-            SliceBy::Loop | SliceBy::Skip => self.is_through,
+            SliceBy::Loop | SliceBy::Skip | SliceBy::Start => self.is_through,
             SliceBy::Table => self.is_behind_table,
             SliceBy::Index => self.is_behind_table || self.is_behind_sum,
         };
@@ -216,6 +219,7 @@ impl Walk {
         match self.before_wait(run, ways)? {
             None if by == SliceBy::Loop => self.before_losing_loop(run, ways),
             None if by == SliceBy::Skip => self.before_skip(run, ways),
+            None if by == SliceBy::Start => self.before_own_loop(run, ways),
             before => Ok(before),
         }
     }
@@ -303,6 +307,32 @@ impl Walk {
             return Ok(None);
         };
         self.wanted = wanted;
+        self.is_through = true;
+        self.is_copied = false;
+        self.add_loop(&around)?;
+        Ok(Some(before))
+    }
+
+    /// Before the loop around the spot itself, where its rounds are told apart already: they still start with too many pointers. Those
+    /// that the loop reads by are wanted there too, since what it reads may end it.
+    fn before_own_loop(
+        &mut self,
+        run: &Run<'_>,
+        ways: &Ways,
+    ) -> Result<Option<CodePoint>, AllocError> {
+        let Some((around, before)) = ways.entered_loop(self.at)? else {
+            return Ok(None);
+        };
+        let is_own = self
+            .chain
+            .first()
+            .is_some_and(|point| around.contains(point));
+        let target = run.target(self.procedure);
+        if !is_own || !is_keyed(run, target, &around) || !self.waiting.is_empty() {
+            return Ok(None);
+        }
+        let pointers = pointers_read(run, ways, self.spot())?;
+        self.wanted = self.wanted.union(&pointers);
         self.is_through = true;
         self.is_copied = false;
         self.add_loop(&around)?;
@@ -479,7 +509,7 @@ fn most_pairs(by: SliceBy) -> u32 {
     match by {
         SliceBy::Any | SliceBy::Bounds => PAIRS,
         SliceBy::Table | SliceBy::Index => FEW_VALUES,
-        SliceBy::First | SliceBy::Loop | SliceBy::Skip | SliceBy::Single => 0,
+        SliceBy::First | SliceBy::Loop | SliceBy::Skip | SliceBy::Start | SliceBy::Single => 0,
     }
 }
 
@@ -603,7 +633,7 @@ fn walk_back(
         two: None,
     };
     let most = match sought.by {
-        SliceBy::Loop | SliceBy::Skip => LONG_SLICE,
+        SliceBy::Loop | SliceBy::Skip | SliceBy::Start => LONG_SLICE,
         _ => SLICE,
     };
     for _ in 0..most {
@@ -663,6 +693,21 @@ pub fn slice_past_skip(
     wanted: &RegisterSet,
 ) -> Result<Option<Plan>, AllocError> {
     let Some(sought) = goal_by(run, wanted, SliceBy::Skip) else {
+        return Ok(None);
+    };
+    slice(alloc, run, ways, spot, &sought)
+}
+
+/// A register to be split before the loop around a spot, whose rounds are told apart already: a routine that copies one of several
+/// texts up to its end, each to a place of its own. By the rules of version 3.
+pub fn slice_to_start(
+    alloc: Global,
+    run: &Run<'_>,
+    ways: &Ways,
+    spot: Spot,
+    wanted: &RegisterSet,
+) -> Result<Option<Plan>, AllocError> {
+    let Some(sought) = goal_by(run, wanted, SliceBy::Start) else {
         return Ok(None);
     };
     slice(alloc, run, ways, spot, &sought)

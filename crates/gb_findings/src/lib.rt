@@ -26,10 +26,7 @@ pub use steps_back::MappedBanks;
 pub use gb_fixpoint;
 pub use gb_fixpoint::code_point::CodePoint;
 pub use gb_fixpoint::{
-    Abs, Cell, Cert, NodeRef, Program, Range, Rom, Verdict, cause, code_at, gb_ops, known_bank,
-    program_of,
+    Abs, Cell, Cert, NodeRef, Program, Range, Rom, Verdict, code_at, gb_ops, program_of,
 };
 pub use gb_symbols;
-pub use gb_symbols::{
-    Format, SourceLine, Symbol, SymbolFault, SymbolFaultKind, SymbolOffset, Symbols,
-};
+pub use gb_symbols::{Format, SymbolFault, SymbolFaultKind, SymbolOffset, Symbols};

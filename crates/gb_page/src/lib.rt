@@ -42,8 +42,7 @@ pub use screen::Screen;
 // What lies below, for the crates above.
 pub use gb_reports::{
     Bound, CallLink, Cert, Code, CodePoint, CodeRun, Count, Crowd, EnteredBy, Explanation, Facts,
-    Finding, FindingPart, Format, InstructionFinding, Interrupt, Listing, Multiplied, Multiplier,
-    Outline, PointerLoad, ReachedLimit, Rom, ShownFinding, ShownPart, Sketch, Spent, SymbolFault,
-    SymbolFaultKind, SymbolOffset, Symbols, Verdict, color_note, explain, finding_json,
-    is_by_wild_return, report_finding,
+    Finding, Format, InstructionFinding, Interrupt, Listing, Multiplied, Multiplier, Outline,
+    ReachedLimit, Rom, ShownFinding, Sketch, SymbolFault, SymbolFaultKind, SymbolOffset, Symbols,
+    Verdict, color_note, explain, finding_json,
 };

@@ -16,6 +16,7 @@ use gb_dataflow::plan::{Edit, Plan, parted_by, unless_taken_back};
 use gb_dataflow::register_set::{REGISTERS, RegisterSet};
 use gb_dataflow::slices::{
     SliceBy, SliceGoal, slice, slice_past_skip, slice_through_loop, slice_to_adder, slice_to_call,
+    slice_to_start,
 };
 use gb_dataflow::sources::high_registers;
 use gb_dataflow::spots::{is_known, place_of, value_of};
@@ -267,6 +268,8 @@ enum Near {
     /// What a jump comes from.
     Jump,
     Loops,
+    /// A slice before the loop around the spot.
+    Start,
     /// A slice to a pointer's page.
     Page,
     /// A slice with up to 256 values.
@@ -275,7 +278,7 @@ enum Near {
     Call,
 }
 
-const NEAR: [Near; 11] = [
+const NEAR: [Near; 12] = [
     Near::Calls,
     Near::Array,
     Near::Through,
@@ -284,6 +287,7 @@ const NEAR: [Near; 11] = [
     Near::Filled,
     Near::Jump,
     Near::Loops,
+    Near::Start,
     Near::Page,
     Near::WideSlice,
     Near::Call,
@@ -314,13 +318,16 @@ fn try_near(
         Near::Array if trouble.is_array_sought => plan_array(alloc, run, spot, &trouble.wanted),
         Near::Filled if trouble.is_array_sought => plan_filled(alloc, run, spot, &trouble.wanted),
         Near::Jump | Near::Array | Near::Filled => Ok(None),
-        Near::Through | Near::Skip | Near::Call | Near::Page | Near::WideSlice if trouble.is_jump =>
-            { Ok(None) }
+        Near::Through | Near::Skip | Near::Start | Near::Call | Near::Page | Near::WideSlice
+            if trouble.is_jump => Ok(None),
         Near::Through => slice_through_loop(alloc, run, ways, spot, &trouble.wanted),
         Near::Skip if trouble.is_bound_wanted => {
             slice_past_skip(alloc, run, ways, spot, &trouble.wanted)
         }
-        Near::Skip => Ok(None),
+        Near::Start if !trouble.is_kept_in_ram => {
+            slice_to_start(alloc, run, ways, spot, &trouble.wanted)
+        }
+        Near::Skip | Near::Start => Ok(None),
         Near::Call => {
             let sought = SliceGoal {
                 wanted: trouble.wanted,

@@ -28,14 +28,11 @@ pub use state::{ShownCell, ShownFlags, ShownRegisters, fmt_core};
 // What lies below, for the crates above.
 pub use gb_facts::{
     AFTER_VECTORS, Bound, CallLink, Code, CodeRun, Difference, EnteredBy, Exit, Explanation, Facts,
-    INTERRUPTS, Interrupt, Key, Keyed, Outline, Peak, ProcedureFacts, ShownSummary, Side, Sketch,
-    StackStep, differences, explain, interrupt_at, is_same_way, length_at, steps_from, target_of,
-    way_from,
+    INTERRUPTS, Interrupt, Key, Keyed, Outline, ProcedureFacts, ShownSummary, Side, Sketch,
+    StackStep, differences, explain, interrupt_at, is_same_way, length_at, target_of, way_from,
 };
 pub use gb_findings::{
-    Abs, BankFinding, BankLoser, CallChain, Cell, Cert, CodePoint, Count, Crowd, EnteredRoutine,
-    Finding, Format, InstructionFinding, LostBank, MappedBanks, Mapping, Multiplied, Multiplier,
-    NodeRef, Path, PointerLoad, Program, PushedReturn, Range, ReachedLimit, Rom, Root, Segment,
-    SourceLine, Spent, Start, Symbol, SymbolFault, SymbolFaultKind, SymbolOffset, Symbols, Verdict,
-    code_at, gb_ops, is_by_wild_return, known_bank, program_of, report_finding,
+    Abs, Cell, Cert, CodePoint, Count, Crowd, Finding, Format, InstructionFinding, Multiplied,
+    Multiplier, NodeRef, Program, Range, ReachedLimit, Rom, Segment, Start, SymbolFault,
+    SymbolFaultKind, SymbolOffset, Symbols, Verdict, code_at, gb_ops, program_of,
 };
