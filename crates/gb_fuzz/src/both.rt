@@ -2,8 +2,10 @@
 
 use crate::cartridges::{FEW, runs};
 use crate::certificates::{Aim, Certificates, ToldVerdict, agree_on_verdict, changed_by};
+use crate::claims::Claims;
+use crate::meaning::is_said;
 use crate::random::Random;
-use crate::reached::{is_said, reached_states};
+use crate::reached::reached_states;
 use crate::tally::Tally;
 use gb_header::Rom;
 use gb_printed::gb_calls::gb_cert::Cert;
@@ -13,8 +15,8 @@ use std::io;
 /// How many bytes the code of the examples has, and some behind it.
 const CODE: usize = 0x18;
 
-/// How many states of a changed cartridge's console are compared with its certificate.
-const SEEN: usize = 24;
+/// About how many states of a changed cartridge are taken at random in each of its two runs.
+const SEEN: usize = 16;
 
 /// Changes a byte of the code behind the header, or of the handlers, and tells where it stood and what it was.
 fn change_code(random: &mut Random, rom: &mut [u8]) -> (usize, u8) {
@@ -38,12 +40,13 @@ fn runs_as_said(
     random: &mut Random,
     rom: &Rom<'_>,
     bytes: &[u8],
+    claims: &mut Claims,
 ) -> io::Result<bool> {
     if !runs(alloc, random, rom, FEW) {
         return Ok(false);
     }
     let mut reached = reached_states(alloc, rom, SEEN)?;
-    Ok(is_said(alloc, reached.as_mut_slice(), bytes))
+    Ok(is_said(alloc, reached.as_mut_slice(), bytes, claims))
 }
 
 /// What the verdict is on these bytes; a cartridge that is accepted runs, each state as the certificate says.
@@ -56,7 +59,7 @@ fn judge(alloc: Global, random: &mut Random, file: &[u8], bytes: &[u8]) -> io::R
     ) {
         (Ok(rom), Some(ToldVerdict::Accepted)) => {
             tally.count_accepted();
-            runs_as_said(alloc, random, &rom, bytes)?
+            runs_as_said(alloc, random, &rom, bytes, &mut tally.claims)?
         }
         (Ok(_), Some(ToldVerdict::Refused { reason })) => {
             tally.note_reason(reason);

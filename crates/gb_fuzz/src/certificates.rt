@@ -3,8 +3,9 @@
 ghost use Rattle.std.specs.Prelude.{◌≡◌, false};
 
 use crate::edits::edited;
+use crate::meaning::is_said;
 use crate::random::Random;
-use crate::reached::{ReachedState, is_said};
+use crate::reached::ReachedState;
 use crate::tally::Tally;
 use gb_cert_place::place::{Sought, fault_place};
 use gb_printed::gb_calls::gb_cert::{Cert, CertFault, encode};
@@ -203,7 +204,7 @@ fn judge(alloc: Global, rom: &[u8], bytes: &[u8], reached: &mut [ReachedState<'_
     let is_right = match agree_on_verdict(alloc, rom, bytes, fault) {
         Some(ToldVerdict::Accepted) => {
             tally.count_accepted();
-            is_said(alloc, reached, bytes)
+            is_said(alloc, reached, bytes, &mut tally.claims)
         }
         Some(ToldVerdict::Refused { reason }) => {
             tally.note_reason(reason);

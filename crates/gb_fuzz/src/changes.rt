@@ -1,12 +1,15 @@
 //! Changes that an example names: bytes of its certificate, lengths of its files, and frames behind its end.
 
+use crate::claims::Claims;
+use crate::meaning::is_said;
 use crate::random::Random;
+use crate::reached::{SEEN, reached_states};
 use bitflags::Flags;
 use gb_header::Rom;
 use gb_printed::gb_calls::gb_cert::Cert;
 use gb_printed::{Console, Ending, Verdict, check, verify_bytes};
 use gb_samples::cartridges::put;
-use gb_samples::spelled::Example;
+use gb_samples::spelled::{Example, word_of};
 use gb_text::kept_bytes::KeptBytes;
 use gb_timer::irqs::Keys;
 use std::alloc::Global;
@@ -45,6 +48,39 @@ pub fn write_verdict<W: Write>(
         Verdict::Refused { node, reason } => {
             writeln!(out, "refused, node {node} reason {}", reason.number())
         }
+    }
+}
+
+/// Whether the machine holds what a certificate with these bytes says in the states that the cartridge reaches.
+fn is_held(alloc: Global, rom: &Rom<'_>, bytes: &[u8]) -> io::Result<bool> {
+    let mut reached = reached_states(alloc, rom, SEEN)?;
+    let mut claims = Claims::new();
+    Ok(is_said(alloc, reached.as_mut_slice(), bytes, &mut claims))
+}
+
+/// Plants a wrong claim of some kind into the certificate: bytes at their offsets. Writes whether the machine tells it from the right
+/// one; the checker isn't asked.
+pub fn write_planted<W: Write>(
+    alloc: Global,
+    out: &mut W,
+    example: &Example,
+    line: &str,
+) -> io::Result<()> {
+    let (kind, changes) = word_of(line);
+    let mut bytes = Vec::from_slice(alloc, example.cert.as_slice())?;
+    replace(bytes.as_mut_slice(), changes);
+    write!(out, "{kind} {changes}: ")?;
+    let Ok(rom) = Rom::parse(example.rom.as_slice()) else {
+        return writeln!(out, "no cartridge");
+    };
+    if Cert::parse(alloc, bytes.as_slice()).is_err() {
+        return writeln!(out, "no certificate");
+    }
+    let is_right = is_held(alloc, &rom, example.cert.as_slice())?;
+    if is_right && !is_held(alloc, &rom, bytes.as_slice())? {
+        writeln!(out, "the wrong claim is seen")
+    } else {
+        writeln!(out, "the wrong claim isn't seen")
     }
 }
 

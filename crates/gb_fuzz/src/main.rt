@@ -1,35 +1,43 @@
 //! Storms: cartridges and certificates with bytes changed, cut off and put in, words in any order, and frames with random
 //! keys. Of each file the calls that read it have to say the same; a certificate that can be read is written again byte for
-//! byte, and a fault's place lies in the file; where the checker accepts, each frame is whole, and some node means what registers
-//! and memory hold.
+//! byte, and a fault's place lies in the file; where the checker accepts, each frame is whole, and some node means what the
+//! machine holds.
 //!
 //! Examples come from standard input, as lines: `about` with a sentence; `sizes`, `rom` and `cert` (gb_samples); then `storm`
 //! with how many certificates, cartridges and frames, `parts` with how many certificates are changed in what version 4 has, and
 //! `both` with how many cartridges are changed at once with their certificates. `words` reads so many lists of words, and
-//! `seen` says which faults were met. `cuts` cuts both files off at each of their lengths; `check` with offsets and bytes, as
-//! 117=05, gives the verdict on the certificate with these bytes; `stays` with a number runs a frame, and then so many more,
-//! which change nothing where the console is locked or stopped. The program's word multiplies the storms' numbers, so that
-//! `1000` makes storms of millions.
+//! `seen` says which faults were met, and which kinds of claims were compared with the machine; `claims` says how many. `cuts` cuts
+//! both files off at each of their lengths; `check` with offsets and bytes, as 117=05, gives the verdict on the certificate with
+//! these bytes; `planted` with a kind of claims and such a list says whether the machine tells this certificate from the right
+//! one, whatever the checker would say; `stays` with a number runs a frame, and then so many more, which change nothing where
+//! the console is locked or stopped. The program's word multiplies the storms' numbers, so that `1000` makes storms of millions.
 #![tactic(auto)]
 
+mod banks;
 mod both;
 mod cartridges;
 mod certificates;
 mod changes;
+mod claims;
 mod edits;
+mod meaning;
 mod parts;
 mod random;
 mod reached;
+mod related;
+mod stack;
 mod tally;
+mod values;
 mod words;
 
 use certificates::{Aim, Certificates};
+use claims::KINDS;
 use gb_header::Rom;
 use gb_printed::{Outcome, verify_bytes};
 use gb_samples::spelled::{Example, word_of};
 use gb_text::kept_bytes::KeptBytes;
 use random::Random;
-use reached::reached_states;
+use reached::{SEEN, reached_states};
 use std::alloc::Global;
 use std::env;
 use std::io::{self, BufRead, BufReader, BufWriter, Write};
@@ -46,9 +54,6 @@ struct Weather {
     cartridges: Tally,
     both: Certificates,
 }
-
-/// How many states of an example's console are compared with changed certificates that are accepted.
-const SEEN: usize = 48;
 
 /// A number of a line, in decimal digits, times the factor.
 fn number_of(digits: &str, factor: usize) -> usize {
@@ -248,6 +253,30 @@ fn write_seen_of_versions<W: Write>(out: &mut W, weather: &Weather) -> io::Resul
     )
 }
 
+/// Each kind of claims that was compared with the machine, and how many of it.
+fn claims_of(weather: &Weather) -> [(&'static str, u64); KINDS] {
+    let (alone, both) = (&weather.certificates.all, &weather.both.all);
+    alone.claims.joined(&both.claims).named()
+}
+
+/// Says of each kind of claims whether some were compared with the machine.
+fn write_compared<W: Write>(out: &mut W, weather: &Weather) -> io::Result<()> {
+    write!(out, "compared with the machine")?;
+    for (name, count) in claims_of(weather) {
+        write!(out, "; {name}: {}", yes_or_no(count > 0))?;
+    }
+    writeln!(out)
+}
+
+/// Says how many claims of each kind were compared with the machine.
+fn write_claims<W: Write>(out: &mut W, weather: &Weather) -> io::Result<()> {
+    write!(out, "compared with the machine")?;
+    for (name, count) in claims_of(weather) {
+        write!(out, "; {name}: {count}")?;
+    }
+    writeln!(out)
+}
+
 /// Reads lists of words.
 fn storm_of_words<W: Write>(
     alloc: Global,
@@ -305,9 +334,12 @@ fn take<W: Write>(
         "seen" => {
             write_seen(out, weather)?;
             write_seen_of_versions(out, weather)?;
+            write_compared(out, weather)?;
         }
+        "claims" => write_claims(out, weather)?,
         "cuts" => changes::write_cuts(alloc, out, example)?,
         "check" => changes::write_verdict(alloc, out, example, rest)?,
+        "planted" => changes::write_planted(alloc, out, example, rest)?,
         "stays" => {
             let frames = number_of(rest, 1);
             changes::write_stay(alloc, out, &mut weather.random, example, frames)?;

@@ -1,5 +1,7 @@
 //! What came of changed files.
 
+use crate::claims::Claims;
+
 /// How many there were, how many of them broke a rule, and which kinds were among them.
 #[derive(Clone, Copy)]
 pub struct Tally {
@@ -14,6 +16,8 @@ pub struct Tally {
     pub faults: u16,
     /// Bit n where one was refused for the reason with the number n.
     pub reasons: u32,
+    /// What was compared with the machine of those that were accepted.
+    pub claims: Claims,
 }
 
 impl Tally {
@@ -25,6 +29,7 @@ impl Tally {
             accepted: 0,
             faults: 0,
             reasons: 0,
+            claims: Claims::new(),
         }
     }
 
@@ -37,6 +42,7 @@ impl Tally {
             accepted: self.accepted.wrapping_add(other.accepted),
             faults: self.faults | other.faults,
             reasons: self.reasons | other.reasons,
+            claims: self.claims.joined(&other.claims),
         }
     }
 

@@ -1,0 +1,60 @@
+//! Where a state says that SP is, and what it says of the bytes on the stack.
+
+use crate::reached::ReachedState;
+use crate::values::is_in;
+use gb_cpu::Bus;
+use gb_domain::types::{Abs, Setting};
+use gb_domain::{Bounds, Val};
+use gb_ops::registers::{Ime, Processor};
+
+/// Whether SP is in the bounds of a stack that is put aside. Interrupts would push there, so they are off.
+fn stands_aside(processor: &Processor, within: Bounds) -> bool {
+    within.first <= processor.sp && processor.sp <= within.last && processor.ime == Ime::Off
+}
+
+impl ReachedState<'_> {
+    /// The address above the items: SP and their number give it. None is answered where the procedure's base is another number.
+    fn base_by_sp(&self, known: Option<u32>, count: usize) -> Option<u32> {
+        let count = u32::try_from(count).unwrap_or(u32::MAX);
+        let base = u32::from(self.processor.sp).saturating_add(count);
+        if known.unwrap_or(base) == base {
+            Some(base)
+        } else {
+            None
+        }
+    }
+
+    /// Whether the bytes below an address are the items, the oldest first.
+    fn keeps_items(&mut self, base: u32, items: &[Val], start: Option<Processor>) -> bool {
+        let mut above = base;
+        for item in items {
+            above = above.saturating_sub(1);
+            let Ok(address) = u16::try_from(above) else {
+                return false;
+            };
+            if !is_in(self.memory.read(address), item, start) {
+                return false;
+            }
+        }
+        true
+    }
+
+    /// Whether SP is where a state says, and its items are on the stack. Where the stack is put aside and the procedure's base
+    /// isn't a number, one state alone doesn't tell where they are.
+    pub fn keeps_stack(&mut self, setting: Setting, state: &Abs, start: Option<Processor>) -> bool {
+        let known = setting.known_base().map(|base| u32::from(base));
+        let items = state.items();
+        let base = match (state.core().stack_set, state.summary().aside()) {
+            (true, None) => match self.base_by_sp(known, items.len()) {
+                Some(base) => Some(base),
+                None => return false,
+            },
+            (_, Some(within)) if !stands_aside(&self.processor, within) => return false,
+            _ => known,
+        };
+        match base {
+            Some(base) => self.keeps_items(base, items, start),
+            None => true,
+        }
+    }
+}
