@@ -16,7 +16,7 @@ use std::alloc::{AllocError, Global};
 use std::collections::HashMap;
 
 /// Whether all points of a loop are keyed.
-pub(crate) fn is_keyed(run: &Run<'_>, target: CodePoint, around: &Loop) -> bool {
+fn is_keyed(run: &Run<'_>, target: CodePoint, around: &Loop) -> bool {
     around.iter().all(|point| run.configuration.keyed.contains(&TargetPlace {
         target,
         point: *point,
@@ -387,17 +387,19 @@ fn count_items(
 
 /// The pairs by which the innermost loop around a spot reads, where that loop has an end.
 pub fn pointers_read(run: &Run<'_>, ways: &Ways, spot: Spot) -> Result<RegisterSet, AllocError> {
-    let mut pointers = RegisterSet::empty();
     let loops = ways.loops(spot.point)?;
-    let Some(around) = loops.first() else {
-        return Ok(pointers);
-    };
-    if ways.is_endless(around) {
-        return Ok(pointers);
-    }
+    Ok(match loops.first() {
+        Some(around) if !ways.is_endless(around) => read_by(run, spot.procedure, around),
+        _ => RegisterSet::empty(),
+    })
+}
+
+/// The pairs by which a loop reads.
+pub(crate) fn read_by(run: &Run<'_>, procedure: usize, around: &Loop) -> RegisterSet {
+    let mut pointers = RegisterSet::empty();
     for point in around.iter() {
         let spot = Spot {
-            procedure: spot.procedure,
+            procedure,
             point: *point,
         };
         if let Some(op) = op_at(run, spot)
@@ -406,7 +408,7 @@ pub fn pointers_read(run: &Run<'_>, ways: &Ways, spot: Spot) -> Result<RegisterS
             pointers = pointers.union(&RegisterSet::of_pointer(pointer));
         }
     }
-    Ok(pointers)
+    pointers
 }
 
 /// The registers that no instruction of a loop changes.

@@ -1,7 +1,7 @@
 //! Slices: straight-line code backwards, through the stack too, to where the wanted registers come from one register that can be
 //! taken value by value.
 
-use crate::loops::{is_keyed, pointers_read};
+use crate::loops::read_by;
 use crate::plan::{Edit, Plan, split_at, unless_taken_back};
 use crate::sources::{count, first, loaded_by, meet, sources, written};
 use crate::spots::{has_entry, narrower, op_at, open_at, place_of, points_to_rom, width_at};
@@ -46,7 +46,7 @@ pub enum SliceBy {
     Loop,
     /// All, before a branch past a few instructions that change what is known.
     Skip,
-    /// All, before the loop around the spot itself, whose rounds are told apart already.
+    /// All, before the loop around the spot itself.
     Start,
     /// All that may help an access that has to be allowed at each address. Where its pointer is only copied from where it was loaded
     /// from RAM, and nothing is compared, it would be refused for one of the values as for all.
@@ -313,8 +313,8 @@ impl Walk {
         Ok(Some(before))
     }
 
-    /// Before the loop around the spot itself, where its rounds are told apart already: they still start with too many pointers. Those
-    /// that the loop reads by are wanted there too, since what it reads may end it.
+    /// Before the loop around the spot itself: it begins with too many pointers. Those by which it reads are wanted there too, since
+    /// what it reads may end it. Its points are keyed with the others.
     fn before_own_loop(
         &mut self,
         run: &Run<'_>,
@@ -327,11 +327,10 @@ impl Walk {
             .chain
             .first()
             .is_some_and(|point| around.contains(point));
-        let target = run.target(self.procedure);
-        if !is_own || !is_keyed(run, target, &around) || !self.waiting.is_empty() {
+        if !is_own || !self.waiting.is_empty() {
             return Ok(None);
         }
-        let pointers = pointers_read(run, ways, self.spot())?;
+        let pointers = read_by(run, self.procedure, &around);
         self.wanted = self.wanted.union(&pointers);
         self.is_through = true;
         self.is_copied = false;
@@ -698,8 +697,8 @@ pub fn slice_past_skip(
     slice(alloc, run, ways, spot, &sought)
 }
 
-/// A register to be split before the loop around a spot, whose rounds are told apart already: a routine that copies one of several
-/// texts up to its end, each to a place of its own. By the rules of version 3.
+/// A register to be split before the loop around a spot, whose rounds are told apart too: a routine that copies one of several texts
+/// up to its end. By the rules of version 3.
 pub fn slice_to_start(
     alloc: Global,
     run: &Run<'_>,
