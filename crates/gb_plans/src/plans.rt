@@ -267,9 +267,12 @@ enum Near {
     Filled,
     /// What a jump comes from.
     Jump,
+    /// Loops that have an end in their procedure.
     Loops,
     /// A slice before the loop around the spot.
     Start,
+    /// Loops without one.
+    Endless,
     /// A slice to a pointer's page.
     Page,
     /// A slice with up to 256 values.
@@ -278,7 +281,7 @@ enum Near {
     Call,
 }
 
-const NEAR: [Near; 12] = [
+const NEAR: [Near; 13] = [
     Near::Calls,
     Near::Array,
     Near::Through,
@@ -288,6 +291,7 @@ const NEAR: [Near; 12] = [
     Near::Jump,
     Near::Loops,
     Near::Start,
+    Near::Endless,
     Near::Page,
     Near::WideSlice,
     Near::Call,
@@ -314,7 +318,8 @@ fn try_near(
         }
         Near::Slice => slice_to(alloc, run, ways, spot, trouble, (FEW_VALUES, by)),
         Near::Jump if trouble.is_jump => plan_jump(alloc, run, ways, spot, trouble),
-        Near::Loops => refine_loops(alloc, run, ways, spot, !trouble.is_kept_in_ram),
+        Near::Loops => refine_loops(alloc, run, ways, spot, false),
+        Near::Endless => refine_loops(alloc, run, ways, spot, !trouble.is_kept_in_ram),
         Near::Array if trouble.is_array_sought => plan_array(alloc, run, spot, &trouble.wanted),
         Near::Filled if trouble.is_array_sought => plan_filled(alloc, run, spot, &trouble.wanted),
         Near::Jump | Near::Array | Near::Filled => Ok(None),
