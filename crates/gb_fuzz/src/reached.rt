@@ -109,15 +109,15 @@ impl<'a> Run<'a> {
         self.count.saturating_mul(self.apart())
     }
 
-    /// Its states.
-    fn taken(&self) -> &[ReachedState<'a>] {
-        self.states.as_slice().get(self.first..).unwrap_or(&[])
+    /// How many states it has.
+    fn taken(&self) -> usize {
+        self.states.len().saturating_sub(self.first)
     }
 
     /// Whether few of its states stand at the same address with the same flags.
     fn is_rare(&self, bank: u16, processor: &Processor) -> bool {
         let mut met = 0usize;
-        for state in self.taken() {
+        for state in self.states.iter().skip(self.first) {
             let is_there = state.processor.pc == processor.pc && state.bank == bank;
             if is_there && state.processor.flags == processor.flags {
                 met = met.wrapping_add(1);
@@ -139,7 +139,7 @@ impl<'a> Run<'a> {
         memory: &Memory<'a>,
     ) -> io::Result<bool> {
         let bank = bank_at(memory, processor.pc);
-        let is_full = self.taken().len() >= self.count.saturating_mul(2);
+        let is_full = self.taken() >= self.count.saturating_mul(2);
         if is_full || memory.transfer_left() > 0 {
             return Ok(false);
         }

@@ -39,22 +39,33 @@ impl ReachedState<'_> {
         true
     }
 
-    /// Whether SP is where a state says, and its items are on the stack. Where the stack is put aside and the procedure's base
-    /// isn't a number, one state alone doesn't tell where they are.
+    /// Whether the items are on the stack by the base that is known; without one, one state alone doesn't tell where they are.
+    fn keeps_items_by(
+        &mut self,
+        known: Option<u32>,
+        items: &[Val],
+        start: Option<Processor>,
+    ) -> bool {
+        match known {
+            Some(base) => self.keeps_items(base, items, start),
+            None => true,
+        }
+    }
+
+    /// Whether SP is where a state says, and its items are on the stack. Where the stack is put aside, SP doesn't tell where they are.
     pub fn keeps_stack(&mut self, setting: Setting, state: &Abs, start: Option<Processor>) -> bool {
         let known = setting.known_base().map(|base| u32::from(base));
         let items = state.items();
-        let base = match (state.core().stack_set, state.summary().aside()) {
-            (true, None) => match self.base_by_sp(known, items.len()) {
-                Some(base) => Some(base),
-                None => return false,
-            },
-            (_, Some(within)) if !stands_aside(&self.processor, within) => return false,
-            _ => known,
-        };
-        match base {
+        if let Some(within) = state.summary().aside() {
+            return stands_aside(&self.processor, within)
+                && self.keeps_items_by(known, items, start);
+        }
+        if !state.core().stack_set {
+            return self.keeps_items_by(known, items, start);
+        }
+        match self.base_by_sp(known, items.len()) {
             Some(base) => self.keeps_items(base, items, start),
-            None => true,
+            None => false,
         }
     }
 }
