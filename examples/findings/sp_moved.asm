@@ -17,4 +17,6 @@ start:
 	ld	h, (hl)
 	ld	l, a
 	ld	sp, hl			; any address
+	call	play
 1$:	jr	1$
+play:	ret

@@ -11,5 +11,6 @@ start:
 	ld	sp, #0xE000
 	call	init
 	ld	sp, #0xD000		; another stack
+	call	init
 1$:	jr	1$
 init:	ret

@@ -1,5 +1,4 @@
-; A table is copied by POP: SP is kept in RAM, borrowed as a pointer with interrupts off, and loaded again. While SP is in
-; ROM there is no stack, which no rule can follow; so it is refused. Copy by (HL+).
+; A table is copied by POP: with interrupts off SP is kept in RAM, borrowed as a pointer, and loaded again.
 
 	.module copy_by_stack
 	.include "hardware.inc"

@@ -101,7 +101,7 @@ fn procedure_plan<'a>(
         need: u16::try_from(procedure.need).unwrap_or(u16::MAX - 1),
         ranges: procedure.ranges.as_slice(),
         kept,
-        mark: 0,
+        mark: procedure.mark.unwrap_or(0),
         exit: exit_of(procedure),
     }
 }

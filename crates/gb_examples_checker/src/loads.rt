@@ -78,6 +78,7 @@ fn behind(setting: Setting, rom: &Rom<'_>, bytes: [u8; 3], state: &Abs) -> Optio
         region: REGION,
         need: 16,
         main_need: 16,
+        mark: 0,
     };
     let program = Program {
         kind: Kind::Rom,

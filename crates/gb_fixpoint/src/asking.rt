@@ -125,6 +125,16 @@ impl<'a> Run<'a> {
         }
     }
 
+    /// Whether SP is saved where the procedure's mark is or may be, or comes back in a procedure that has one: then its base needn't be
+    /// known (version 4). That HL is the mark's address shows once the bytes are tracked that it comes from.
+    fn goes_by_mark(&self, procedure: usize, state: &Abs, op: Op) -> bool {
+        match op {
+            Op::StoreSp(_) => self.may_mark(procedure, state),
+            Op::LoadSpHl => self.has_mark(procedure),
+            _ => false,
+        }
+    }
+
     /// What an instruction asks before it is executed in a state of a procedure.
     pub(crate) fn ask_before(&self, procedure: usize, state: &Abs, op: Op) -> Result<(), RunStop> {
         if self.rules() == Rules::Simple {
@@ -134,7 +144,7 @@ impl<'a> Run<'a> {
         if state.core().stack_set && missing != 0 {
             self.want_bytes(procedure, missing)?;
         }
-        if names_stack(op) {
+        if names_stack(op) && !self.goes_by_mark(procedure, state, op) {
             self.want_base(procedure)?;
         }
         if procedure != 0 && uses_return(op, state.core()) {

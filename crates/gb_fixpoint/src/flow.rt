@@ -239,9 +239,8 @@ impl<'a> Run<'a> {
         let key = NodeKey::of_state(
             procedure,
             place.point,
-            core,
+            state,
             self.controller_key(procedure, state),
-            state.items().len(),
             self.key_registers(place, core),
             cells,
             words,

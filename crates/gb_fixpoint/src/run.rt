@@ -37,6 +37,7 @@ impl RunProcedure {
             ranges: RangeSet::new(),
             sites: BTreeSet::new(alloc),
             callees: BTreeSet::new(alloc),
+            mark: None,
             need: 0,
         }
     }

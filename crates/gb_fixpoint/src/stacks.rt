@@ -2,10 +2,12 @@
 
 use crate::types::Run;
 use gb_joining::gb_ops::machine::Region;
-use gb_joining::gb_verify::{Rules, Setting, Stack};
+use gb_joining::gb_verify::{Abs, Rules, Setting, Stack, is_located};
 
 /// The most bytes that SP may be set below a base.
 const ROOM: u32 = 255;
+/// The mark of a procedure that doesn't save SP: so many bytes are hardly ever held.
+const NO_MARK: u8 = 255;
 
 impl<'a> Run<'a> {
     /// The rules by which states are taken on.
@@ -26,6 +28,51 @@ impl<'a> Run<'a> {
         }
     }
 
+    /// How many bytes below its base a procedure saves SP; where it doesn't, what no instruction takes for a mark.
+    fn mark_of(&self, procedure: usize) -> u8 {
+        match self.procedures.get(procedure) {
+            Some(procedure) => procedure.mark.unwrap_or(NO_MARK),
+            None => NO_MARK,
+        }
+    }
+
+    /// Whether a procedure has saved SP.
+    pub(crate) fn has_mark(&self, procedure: usize) -> bool {
+        match self.procedures.get(procedure) {
+            Some(procedure) => procedure.mark.is_some(),
+            None => false,
+        }
+    }
+
+    /// Whether a procedure may save SP with so many bytes on the stack and come back by its mark: it has no other one yet.
+    pub(crate) fn may_mark(&self, procedure: usize, state: &Abs) -> bool {
+        match self.procedures.get(procedure) {
+            Some(procedure) if self.is_fourth() && is_located(state) => {
+                let held = state.items().len();
+                match procedure.mark {
+                    Some(mark) => usize::from(mark) == held,
+                    None => held < usize::from(NO_MARK),
+                }
+            }
+            _ => false,
+        }
+    }
+
+    /// A node saves SP: its procedure's mark is there from now on, if it has none yet.
+    pub(crate) fn mark_here(&mut self, number: usize) {
+        let Some(node) = self.nodes.get(number) else {
+            return;
+        };
+        let procedure = node.key.procedure;
+        if !self.may_mark(procedure, &node.state) {
+            return;
+        }
+        let held = u8::try_from(node.state.items().len()).unwrap_or(NO_MARK);
+        if let Some(procedure) = self.procedures.get_mut(procedure) {
+            procedure.mark = Some(held);
+        }
+    }
+
     /// The stack of a procedure. How much it may hold isn't known before all is found.
     pub(crate) fn stack_of(&self, procedure: usize) -> Stack {
         let setting = Setting {
@@ -39,6 +86,7 @@ impl<'a> Run<'a> {
             region: self.configuration.region,
             need: u16::MAX,
             main_need: u16::MAX,
+            mark: self.mark_of(procedure),
         }
     }
 }

@@ -149,6 +149,8 @@ pub struct RunProcedure {
     pub sites: BTreeSet<usize>,
     /// The numbers of the procedures that it calls, or that may interrupt it.
     pub callees: BTreeSet<usize>,
+    /// How many bytes below its base it saves SP first: with so many it may come back there, by the rules of version 4.
+    pub mark: Option<u8>,
     /// The bytes of stack that it needs, once gb_draft's `find_needs` has found them.
     pub need: usize,
 }

@@ -78,10 +78,20 @@ fn bytes_moved(op: Op) -> Option<usize> {
     }
 }
 
-/// What is wrong with the stack by the rules of version 3, except for LD SP,HL.
+/// What is wrong where the stack is put aside: only POP goes on then, as a load.
+fn aside_misuse(op: Op) -> Option<StackMisuse> {
+    match op {
+        Op::Pop(_) => None,
+        _ => Some(StackMisuse::NotSet),
+    }
+}
+
+/// What is wrong with the stack by the rules of versions 3 and 4, except for LD SP,HL.
 fn extended_misuse(state: &Abs, op: Op) -> Option<StackMisuse> {
     let bytes = bytes_moved(op)?;
-    if !state.core().stack_set {
+    if state.summary().aside().is_some() {
+        aside_misuse(op)
+    } else if !state.core().stack_set {
         Some(StackMisuse::NotSet)
     } else if state.items().len() < bytes {
         Some(StackMisuse::TakesTooMany)

@@ -4,7 +4,7 @@ use crate::code_point::CodePoint;
 use crate::register_set::{REGISTERS, RegisterSet};
 use gb_verify::gb_ops::op::Register;
 use gb_verify::gb_ops::registers::Registers;
-use gb_verify::{Core, Ctl, May, Val};
+use gb_verify::{Abs, Core, Ctl, May, Val};
 
 /// The values of registers that have one alone, in the order of their letters, and the carry where it is known and tells apart.
 #[derive(Clone, Copy, PartialEq, Eq, Hash)]
@@ -38,6 +38,8 @@ pub struct NodeKey {
     pub ime: (bool, bool, bool),
     pub bound: u8,
     pub stack_set: bool,
+    /// The first and the last address where SP may be, while the stack is put aside.
+    pub aside: Option<(u16, u16)>,
     pub items: usize,
     pub controller: Option<ControllerKey>,
     /// The bounds of IE.
@@ -184,6 +186,7 @@ impl NodeKey {
             ime: (false, false, false),
             bound: 0,
             stack_set: true,
+            aside: None,
             items: 0,
             controller: None,
             ie: (0, 0),
@@ -193,18 +196,17 @@ impl NodeKey {
         }
     }
 
-    /// The key of a node with this core and so many bytes on the stack, parted by what is told apart of the controller, registers, key
-    /// cells and words.
+    /// The key of a node with these states, parted by what is told apart of the controller, registers, key cells and words.
     pub fn of_state(
         procedure: usize,
         point: CodePoint,
-        core: &Core,
+        state: &Abs,
         controller: ControllerKey,
-        items: usize,
         registers: KnownRegisters,
         cells: usize,
         words: usize,
     ) -> NodeKey {
+        let core = state.core();
         NodeKey {
             procedure,
             address: point.address,
@@ -213,7 +215,11 @@ impl NodeKey {
             ime: (core.ime.off, core.ime.pending, core.ime.on),
             bound: core.bound,
             stack_set: core.stack_set,
-            items,
+            aside: state
+                .summary()
+                .aside()
+                .map(|bounds| (bounds.first, bounds.last)),
+            items: state.items().len(),
             controller: Some(controller),
             ie: (core.ie.lo, core.ie.hi),
             registers,

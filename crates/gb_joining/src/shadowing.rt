@@ -77,7 +77,7 @@ impl ShadowedWindow {
     }
 }
 
-/// What both states say of the whole program.
+/// What both states say of the whole program, where both put the stack aside alike.
 pub fn join_summaries(basis: &Basis<'_>, a: &Abs, b: &Abs) -> Summary {
     if a.summary().is_silent() && b.summary().is_silent() {
         return Summary::none();
@@ -87,7 +87,7 @@ pub fn join_summaries(basis: &Basis<'_>, a: &Abs, b: &Abs) -> Summary {
         second: ShadowedWindow::Second.join(basis, a, b),
     };
     let level = a.summary().level().min(b.summary().level());
-    Summary::of_parts(level, ArrayVec::new(), shadows, None)
+    Summary::of_parts(level, ArrayVec::new(), shadows, a.summary().aside())
 }
 
 /// Whether an address of RAM shadows the register of the controller's first window.

@@ -30,6 +30,7 @@ pub(crate) struct ChangedProcedure {
     need: u16,
     ranges: ArrayVec<Range, 8>,
     kept: ArrayVec<u16, 16>,
+    mark: u8,
     pub(crate) exit: Option<Abs>,
 }
 
@@ -92,6 +93,7 @@ impl<'a> Changed<'a> {
                 need: procedure.need(),
                 ranges: ranges_of(cert, number),
                 kept: kept_of(cert, number),
+                mark: procedure.mark(),
                 exit: exit_of(cert, number),
             })?;
         }
@@ -225,7 +227,7 @@ impl ChangedProcedure {
             need: self.need,
             ranges: self.ranges.as_slice(),
             kept: self.kept.as_slice(),
-            mark: 0,
+            mark: self.mark,
             exit: match &self.exit {
                 Some(exit) => Some(exit),
                 None => None,

@@ -120,7 +120,7 @@ run_unmarked : (rom : List ℕ) (cert : Certificate) (n : Node) (entry : Activat
     → x.processor.halt_mark ≡ false → (slice_index reads 0 ≤ 255) × (slice_index reads 1 ≤ 255) → IsSafeHappening rom cert n.procedure entry base x (event.Run fetch reads)
 run_unmarked rom cert n entry base x k fetch reads mark byte =
     let p = k.passes in
-    let done = (sound_ways rom cert n entry base x k).executes (ranges_of cert n.procedure) entry base x reads k.program (stands rom cert n entry base x k)
+    let done = (sound_ways rom cert n entry base x k).executes (ranges_of cert n.procedure) entry base x reads k.program k.names.mark (stands rom cert n entry base x k)
     (is_ruled rom cert n entry base x k) mark byte.0 byte.1 in
     let t = done.successor in
     let may = allowed rom cert n p base t done.is_one k.state k.return_word k.room in
@@ -403,7 +403,7 @@ bug_safe rom cert n entry base x k mark possible =
     let off : x.processor.ime ≡ ime.Off = is_off x.processor.ime (ap (λ (q : Processor). is_ime q.ime ime.Off) (sym (processor_is rom x)) ∙ parts.1) in
     let clear = unmarked_at_halt rom cert n entry base x k mark parts.0 in
     let halt = at_halt rom cert n entry base x k parts.0 in
-    let way = (sound_ways rom cert n entry base x k).repeats (ranges_of cert n.procedure) entry base x k.program (stands rom cert n entry base x k) halt off clear in
+    let way = (sound_ways rom cert n entry base x k).repeats (ranges_of cert n.procedure) entry base x k.program k.names.mark (stands rom cert n entry base x k) halt off clear in
     let nop = nop_behind (program_of rom cert) rom n.state n.address p.end (area_end n.address) p.is_end
     (halt_guarded (is_halt p.row.op) n.state.core.ime.off _ (ap is_halt halt.op_is) (off_known n.state x.processor.ime off k.means.parts.core.ime) p.halt) in
     let small = area_small n.address p.end p.is_end in

@@ -32,7 +32,7 @@ use Rattle.gb_rules.proofs.CertificateLaws.{HasStateParts}
 use Rattle.gb_rules.proofs.ProgramLaws.{no_controller}
 use Rattle.gb_rules.specs.Covered.{covered_at}
 use Rattle.gb_rules.specs.Procedures.{ranges_of, kept_of, need_of, setting_of, program_of, exit_of}
-use Rattle.gb_rules.specs.Safety.{begun, IsAt, IsMeant, Calls, Returns}
+use Rattle.gb_rules.specs.Safety.{Declares, begun, IsAt, IsMeant, Calls, Returns}
 use Rattle.gb_rules.specs.Frames.{Keeps, Frame, IsWaiting, AreWaiting, Stands}
 use Rattle.gb_rules.proofs.CoveringLaws.{IsFoundAt, covered_items, found_at}
 use Rattle.gb_rules.proofs.ProcedureLaws.{based_setting, HasReturnWord-simply, return_word_of, ranges_apart, apart_outside, exit_state, exit_located, exit_items}
@@ -97,7 +97,7 @@ no_items program k kept s n h = covered_items program (entered_by program Simple
 
 -- the callee stands at its entry, and was entered just now
 IsAt-called : (rom : List ℕ) (cert : Certificate) (procedure : ℕ) (entry : Activation) (base : ℕ) (t : MState) → IsCertificate cert → rules_of cert.version ≡ Simple → entry.program ≡ program_of rom cert
-    → (c : Calls cert procedure entry base t) → IsPlacedCall cert procedure entry base t c → IsAt rom cert c.node (begun rom cert c.node.procedure t) t.processor.sp t
+    → (c : Calls cert procedure entry base t) → IsPlacedCall cert procedure entry base t c → IsAt rom cert c.node (begun rom cert c.node.procedure t.processor.sp t) t.processor.sp t
 IsAt-called rom cert procedure entry base t certificate simple program c p =
     let small : t.processor.sp < 65536 = (let h = p.small in omega arith) in
     let none = no_items entry.program (length c.node.state.items) (kept_of cert c.node.procedure) c.state c.node c.begins in
@@ -107,10 +107,10 @@ IsAt-called rom cert procedure entry base t certificate simple program c p =
     record {
       address = c.address;
       program = refl;
-      names = refl;
-      means = Means-covered (entered_by (program_of rom cert) Simple (length c.node.state.items) (kept_of cert c.node.procedure) c.state) c.node.state (begun rom cert c.node.procedure t) t.processor.sp t
+      names = record { kept = refl; mark = refl };
+      means = Means-covered (entered_by (program_of rom cert) Simple (length c.node.state.items) (kept_of cert c.node.procedure) c.state) c.node.state (begun rom cert c.node.procedure t.processor.sp t) t.processor.sp t
           (subst (λ q. covers q (entered_by q Simple (length c.node.state.items) (kept_of cert c.node.procedure) c.state) c.node.state ≡ true) program c.begins)
-          (Means-entered (program_of rom cert) (length c.node.state.items) (kept_of cert c.node.procedure) c.state entry base (begun rom cert c.node.procedure t) program refl refl (caller_means cert procedure entry base t c p) small);
+          (Means-entered (program_of rom cert) (length c.node.state.items) (kept_of cert c.node.procedure) c.state entry base (begun rom cert c.node.procedure t.processor.sp t) program refl refl (caller_means cert procedure entry base t c p) small);
       mark = inl c.mark;
       main = λ e. absurd (omega arith);
       based = based_setting cert c.node.procedure t.processor.sp certificate simple (λ e. absurd (omega arith));
@@ -131,7 +131,7 @@ waiting_in cert rules frames procedure entry base is w = subst (λ r. AreWaiting
 -- the machine has called: the procedure waits, and the callee was entered just now
 pub Stands-called : (rom : List ℕ) (cert : Certificate) (frames : List Frame) (procedure : ℕ) (entry : Activation) (base : ℕ) (s t : MState) → IsCertificate cert → rules_of cert.version ≡ Simple
     → Stands rom cert frames procedure entry base s → (c : Calls cert procedure entry base t) → Keeps cert procedure base s t
-    → Stands rom cert (record { procedure = procedure; entry = entry; base = base } ∷ frames) c.node.procedure (begun rom cert c.node.procedure t) t.processor.sp t
+    → Stands rom cert (record { procedure = procedure; entry = entry; base = base } ∷ frames) c.node.procedure (begun rom cert c.node.procedure t.processor.sp t) t.processor.sp t
 Stands-called rom cert frames procedure entry base s t certificate simple stands c keeps =
     let at = stands.meant.at in
     let same = stands.meant.procedure_is in
@@ -139,11 +139,11 @@ Stands-called rom cert frames procedure entry base s t certificate simple stands
     let p = placed_call cert procedure entry base t certificate room c in
     record {
       meant = record { node = c.node; is_node = c.is_node; procedure_is = refl; at = IsAt-called rom cert procedure entry base t certificate simple at.program c p };
-      waiting = waiting_in cert Simple (record { procedure = procedure; entry = entry; base = base } ∷ frames) c.node.procedure (begun rom cert c.node.procedure t) t.processor.sp simple (
+      waiting = waiting_in cert Simple (record { procedure = procedure; entry = entry; base = base } ∷ frames) c.node.procedure (begun rom cert c.node.procedure t.processor.sp t) t.processor.sp simple (
         record {
           calls = c;
           program = at.program;
-          names = at.names ∙ ap (kept_of cert) same;
+          names = subst (λ n. Declares cert n base entry) same at.names;
           callee = refl;
           base_is = refl;
           main = λ e. at.main (same ∙ e);
@@ -262,7 +262,7 @@ IsMeant-returned rom cert f procedure entry base s t certificate simple program 
       at = record {
         address = r.address ∙ (back_is cert f procedure entry base s certificate simple w before ∙ sym g.address);
         program = w.program ∙ program;
-        names = w.names ∙ ap (kept_of cert) (sym same);
+        names = subst (λ n. Declares cert n f.base f.entry) (sym same) w.names;
         means = g.means;
         mark = inl r.mark;
         main = λ e. w.main (sym same ∙ e);

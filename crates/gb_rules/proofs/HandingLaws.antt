@@ -30,7 +30,7 @@ use Rattle.gb_calls.proofs.ResumingLaws.{Means-resumed}
 use Rattle.gb_calls.proofs.TakenOverLaws.{taken_over-pointer, given_back-pointer}
 use Rattle.gb_rules.specs.Covered.{covered_at}
 use Rattle.gb_rules.specs.Procedures.{ranges_of, kept_of, need_of, setting_of, program_of, exit_of, taken_by}
-use Rattle.gb_rules.specs.Safety.{begun, IsAt, IsMeant, HandsOver, GoesBack}
+use Rattle.gb_rules.specs.Safety.{Declares, begun, IsAt, IsMeant, HandsOver, GoesBack}
 use Rattle.gb_rules.specs.Frames.{Keeps, Frame, IsWaitingAbove, Stands}
 use Rattle.gb_rules.proofs.CoveringLaws.{IsFoundAt, covered_items, found_by}
 use Rattle.gb_rules.proofs.ProcedureLaws.{HasReturnWord-widely, ranges_apart, exit_state, exit_located}
@@ -92,7 +92,7 @@ is_called cert procedure entry base t h = record { few = h.few; located = h.loca
 
 -- the callee stands at its entry, and was entered just now
 IsAt-handed : (rom : List ℕ) (cert : Certificate) (procedure : ℕ) (entry : Activation) (base : ℕ) (t : MState) → rules_of cert.version ≡ Extended → entry.program ≡ program_of rom cert
-    → (h : HandsOver cert procedure entry base t) → IsPlacedAbove cert procedure entry base t h → IsAt rom cert h.node (begun rom cert h.node.procedure t) (base_below (taken_by cert h.node.procedure) h.state.items base) t
+    → (h : HandsOver cert procedure entry base t) → IsPlacedAbove cert procedure entry base t h → IsAt rom cert h.node (begun rom cert h.node.procedure (base_below (taken_by cert h.node.procedure) h.state.items base) t) (base_below (taken_by cert h.node.procedure) h.state.items base) t
 IsAt-handed rom cert procedure entry base t extended program h p =
     let k = taken_by cert h.node.procedure in
     let kept = kept_of cert h.node.procedure in
@@ -100,10 +100,10 @@ IsAt-handed rom cert procedure entry base t extended program h p =
     record {
       address = h.address;
       program = refl;
-      names = refl;
-      means = Means-covered (entered_by (program_of rom cert) Extended k kept h.state) h.node.state (begun rom cert h.node.procedure t) (base_below k h.state.items base) t
+      names = record { kept = refl; mark = refl };
+      means = Means-covered (entered_by (program_of rom cert) Extended k kept h.state) h.node.state (begun rom cert h.node.procedure (base_below k h.state.items base) t) (base_below k h.state.items base) t
           (subst (λ q. covers q (entered_by q Extended k kept h.state) h.node.state ≡ true) program h.begins)
-          (Means-taken_over (program_of rom cert) k kept h.state entry base (begun rom cert h.node.procedure t) program refl refl (is_called cert procedure entry base t h));
+          (Means-taken_over (program_of rom cert) k kept h.state entry base (begun rom cert h.node.procedure (base_below k h.state.items base) t) program refl refl (is_called cert procedure entry base t h));
       mark = inl h.mark;
       main = λ e. absurd (omega arith);
       based = h.based;
@@ -115,7 +115,7 @@ IsAt-handed rom cert procedure entry base t extended program h p =
 -- the machine has called: the procedure waits above the items that it keeps, and the callee was entered just now
 pub Stands-handed : (rom : List ℕ) (cert : Certificate) (frames : List Frame) (procedure : ℕ) (entry : Activation) (base : ℕ) (s t : MState) → rules_of cert.version ≡ Extended
     → Stands rom cert frames procedure entry base s → (h : HandsOver cert procedure entry base t) → Keeps cert procedure base s t
-    → Stands rom cert (record { procedure = procedure; entry = entry; base = base } ∷ frames) h.node.procedure (begun rom cert h.node.procedure t) (base_below (taken_by cert h.node.procedure) h.state.items base) t
+    → Stands rom cert (record { procedure = procedure; entry = entry; base = base } ∷ frames) h.node.procedure (begun rom cert h.node.procedure (base_below (taken_by cert h.node.procedure) h.state.items base) t) (base_below (taken_by cert h.node.procedure) h.state.items base) t
 Stands-handed rom cert frames procedure entry base s t extended stands h keeps =
     let at = stands.meant.at in
     let same = stands.meant.procedure_is in
@@ -123,11 +123,11 @@ Stands-handed rom cert frames procedure entry base s t extended stands h keeps =
     let under = base_below (taken_by cert h.node.procedure) h.state.items base in
     record {
       meant = record { node = h.node; is_node = h.is_node; procedure_is = refl; at = IsAt-handed rom cert procedure entry base t extended at.program h (placed_above cert procedure entry base t room h) };
-      waiting = waiting_in cert Extended (record { procedure = procedure; entry = entry; base = base } ∷ frames) h.node.procedure (begun rom cert h.node.procedure t) under extended (
+      waiting = waiting_in cert Extended (record { procedure = procedure; entry = entry; base = base } ∷ frames) h.node.procedure (begun rom cert h.node.procedure under t) under extended (
         record {
           calls = h;
           program = at.program;
-          names = at.names ∙ ap (kept_of cert) same;
+          names = subst (λ n. Declares cert n base entry) same at.names;
           callee = refl;
           base_is = refl;
           main = λ e. at.main (same ∙ e);
@@ -241,7 +241,7 @@ IsMeant-given_back rom cert f procedure entry base s t certificate extended prog
       at = record {
         address = r.address ∙ (w.calls.return_word ∙ sym g.address);
         program = w.program ∙ program;
-        names = w.names ∙ ap (kept_of cert) (sym same);
+        names = subst (λ n. Declares cert n f.base f.entry) (sym same) w.names;
         means = g.means;
         mark = inl r.mark;
         main = λ e. w.main (sym same ∙ e);
@@ -260,7 +260,7 @@ Stands-given_back rom cert f rest procedure entry base s t certificate extended 
     let waiting = waiting_by cert Extended (f ∷ rest) procedure entry base extended stands.waiting in
     let w = waiting.0 in
     let all = Keeps-then cert procedure base entry.entered s t stands.keeps keeps in
-    let names = stands.meant.at.names ∙ ap (kept_of cert) stands.meant.procedure_is in
+    let names = stands.meant.at.names.kept ∙ ap (kept_of cert) stands.meant.procedure_is in
     record {
       meant = IsMeant-given_back rom cert f procedure entry base s t certificate extended stands.meant.at.program names w stands.keeps r keeps;
       waiting = waiting_in cert Extended rest f.procedure f.entry f.base extended waiting.1;

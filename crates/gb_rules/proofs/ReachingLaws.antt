@@ -30,7 +30,7 @@ use Rattle.gb_calls.proofs.CalleeLaws.{IsCallee-found, IsEntryNode-entry, fits-f
 use Rattle.gb_rules.specs.Covered.{covered_at}
 use Rattle.gb_rules.specs.Procedures.{ranges_of, kept_of, need_of, setting_of, program_of, exit_of, items_in, entry_in, taken_by, base_in}
 use Rattle.gb_rules.specs.Rules.{is_extended, is_over, is_resumed_uncovered, is_back_uncovered, is_call_uncovered, is_uncovered_if, is_outside_of, is_exit_missed}
-use Rattle.gb_rules.specs.Safety.{begun, IsMeant, HandsOver, GoesBack, LeadsBy}
+use Rattle.gb_rules.specs.Safety.{begun, Declares, IsMeant, HandsOver, GoesBack, LeadsBy}
 use Rattle.gb_rules.proofs.SearchLaws.{Contains-slice_get}
 use Rattle.gb_rules.proofs.CoveringLaws.{covered_items, found_by}
 use Rattle.gb_rules.proofs.ProcedureLaws.{kept_is, HasReturnWord-widely, main_room, main_based}
@@ -51,7 +51,7 @@ pub record IsReached (cert : Certificate) (procedure a : ℕ) (state : AbsState)
 
 -- it stays: behind an instruction, behind a jump to a known word, or where what is called has no callee
 pub IsMeant-reached : (rom : List ℕ) (cert : Certificate) (procedure a : ℕ) (state : AbsState) (entry : Activation) (base : ℕ) (y : MState) → rules_of cert.version ≡ Extended
-    → entry.program ≡ program_of rom cert → entry.kept ≡ kept_of cert procedure → IsReached cert procedure a state entry base y → IsMarkHarmless rom y
+    → entry.program ≡ program_of rom cert → Declares cert procedure base entry → IsReached cert procedure a state entry base y → IsMarkHarmless rom y
     → covered_at entry.program Extended cert procedure a state ≡ true → IsMeant rom cert procedure entry base y
 IsMeant-reached rom cert procedure a state entry base y extended program names k mark covered =
     let f = found_by Extended cert procedure a state entry base y k.pairs k.bytes covered k.means in
@@ -63,7 +63,7 @@ IsMeant-reached rom cert procedure a state entry base y extended program names k
       at = record {
         address = k.address ∙ sym f.address;
         program = program;
-        names = names ∙ ap (kept_of cert) (sym same);
+        names = subst (λ n. Declares cert n base entry) (sym same) names;
         means = f.means;
         mark = mark;
         main = λ e. k.main (sym same ∙ e);
@@ -75,11 +75,11 @@ IsMeant-reached rom cert procedure a state entry base y extended program names k
     }
 
 -- main begins anew, as if it were entered now
-pub IsMeant-anew : (rom : List ℕ) (cert : Certificate) (a : ℕ) (state : AbsState) (y : MState) → rules_of cert.version ≡ Extended → IsCertificate cert → Means state (begun rom cert 0 y) (cert.region.last + 1) y
+pub IsMeant-anew : (rom : List ℕ) (cert : Certificate) (a : ℕ) (state : AbsState) (y : MState) → rules_of cert.version ≡ Extended → IsCertificate cert → Means state (begun rom cert 0 (cert.region.last + 1) y) (cert.region.last + 1) y
     → y.processor.pc ≡ a → AreBytes y.processor.registers → ArePairs state.relations.pairs → AreInRegion cert.region (cert.region.last + 1) (length state.items) → IsMarkHarmless rom y
-    → covered_at (program_of rom cert) Extended cert 0 a state ≡ true → IsMeant rom cert 0 (begun rom cert 0 y) (cert.region.last + 1) y
+    → covered_at (program_of rom cert) Extended cert 0 a state ≡ true → IsMeant rom cert 0 (begun rom cert 0 (cert.region.last + 1) y) (cert.region.last + 1) y
 IsMeant-anew rom cert a state y extended certificate means address bytes pairs held mark covered =
-    IsMeant-reached rom cert 0 a state (begun rom cert 0 y) (cert.region.last + 1) y extended refl refl
+    IsMeant-reached rom cert 0 a state (begun rom cert 0 (cert.region.last + 1) y) (cert.region.last + 1) y extended refl (record { kept = refl; mark = refl })
     (record {
       means = means;
       address = address;
@@ -190,7 +190,7 @@ HandsOver-called cert procedure a back state entry base y q extended certificate
 
 -- whatever is called: its callee takes over, or without one the procedure goes on there
 pub LeadsBy-called : (rom : List ℕ) (cert : Certificate) (procedure a back : ℕ) (state : AbsState) (entry : Activation) (base : ℕ) (x y : MState) (o : Option ℕ) → rules_of cert.version ≡ Extended → IsCertificate cert
-    → entry.program ≡ program_of rom cert → entry.kept ≡ kept_of cert procedure → IsCalling cert procedure a back state entry base y → callee_of entry.program cert (setting_of cert procedure) a state ≡ o → is_outside_of (setting_of cert procedure) cert procedure o ≡ false
+    → entry.program ≡ program_of rom cert → Declares cert procedure base entry → IsCalling cert procedure a back state entry base y → callee_of entry.program cert (setting_of cert procedure) a state ≡ o → is_outside_of (setting_of cert procedure) cert procedure o ≡ false
     → is_over Extended cert (need_of cert procedure) (length state.items) o ≡ false → is_call_uncovered entry.program Extended cert procedure a back state o ≡ false → LeadsBy Extended rom cert procedure entry base x y
 LeadsBy-called rom cert procedure a back state entry base x y None extended certificate program names k is inside depth covered =
     inl (IsMeant-reached rom cert procedure a state entry base y extended program names k.reached (inl k.mark) (not-false _ covered))

@@ -23,7 +23,7 @@ use Rattle.gb_successors.specs.declared.stacks.Stack.{Stack}
 use Rattle.gb_successors.specs.declared.stacks.StackMove.{StackMove}
 use Rattle.gb_successors.specs.declared.stacks.StackMove.TheVariants as move
 use Rattle.gb_successors.specs.Sound.{HasRoomFor, HoldsBytes, IsReady, IsStackRuled}
-use Rattle.gb_successors.specs.Stacks.{bytes_to, bytes_to_if, own_bytes, main_bytes, set_by, set_to, set_within, extended, displaced_by, push_of, stack_move, around_of, aside_if, aside_within, popped_by}
+use Rattle.gb_successors.specs.Stacks.{bytes_to, bytes_to_if, own_bytes, main_bytes, set_by, set_to, set_within, extended, displaced_by, push_of, stack_move, around_of, aside_if, aside_within, back_or, popped_by}
 use Rattle.gb_successors.specs.Successors.{pointer_in, taken_move, product_before, successors_of}
 use Rattle.gb_successors.specs.Below.gb_abs.Meaning.{is_located}
 use Rattle.gb_successors.specs.Summaries.{enables_interrupts}
@@ -31,6 +31,8 @@ use Rattle.gb_successors.proofs.Below.gb_abs_laws.LocationLaws.{located-none}
 use Rattle.gb_rules.specs.Rules.{is_lost_move, sets_lost, sets_lost_from, lacks_bytes, breaks_extended_stack, is_deep, bytes_after, is_deep_if, grows_over, lacks_word}
 use Rattle.gb_rules.proofs.RegionLaws.{fewer_bytes}
 use Rattle.gb_successors.specs.Below.gb_domain.Summaries.{Program}
+use Rattle.gb_successors.specs.Below.gb_domain.declared.types.Core.{Core}
+use Rattle.gb_successors.proofs.StackMarkLaws.{IsBack, back_of}
 
 -- where a procedure's states stand by the rules of version 3: its bytes lie in the region, and so do main's
 pub record IsRoomy (k : Stack) (base : ℕ) : Type 0 where
@@ -160,46 +162,67 @@ ready_pop k o s base Extended e (Some b) same h = tt
 
 -- ---- each instruction
 
-loaded : (k : Stack) (n : Node) (which : Pair) (w base : ℕ) (what : AbsWrite) (b : Option Bounds) → IsRoomy k base → breaks_extended_stack k n (op.LoadPair which w) ≡ false
-    → IsReady k (op.LoadPair which w) (stack_move k (around_of k.setting n.state) (op.LoadPair which w) what b) n.state base
-unfolding breaks_extended_stack stack_move
-loaded k n pair.Sp w base what b r h =
-    ready_aside k (op.LoadPair pair.Sp w) (set_to k.setting.rules k w) (around_of k.setting n.state).may_leave _ n.state base h (λ some. ready_set_to k (op.LoadPair pair.Sp w) w n.state base r some)
-loaded k n pair.Bc w base what b r h = λ e. quiet_op e
-loaded k n pair.De w base what b r h = λ e. quiet_op e
-loaded k n pair.Hl w base what b r h = λ e. quiet_op e
+loaded : (k : Stack) (n : Node) (core : Core) (which : Pair) (w base : ℕ) (what : AbsWrite) (b : Option Bounds) → IsRoomy k base → breaks_extended_stack k n (op.LoadPair which w) ≡ false
+    → IsReady k (op.LoadPair which w) (stack_move k (around_of k n.state core) (op.LoadPair which w) what b) n.state base
+unfolding breaks_extended_stack stack_move around_of
+loaded k n core pair.Sp w base what b r h =
+    ready_aside k (op.LoadPair pair.Sp w) (set_to k.setting.rules k w) (around_of k n.state core).may_leave _ n.state base h (λ some. ready_set_to k (op.LoadPair pair.Sp w) w n.state base r some)
+loaded k n core pair.Bc w base what b r h = λ e. quiet_op e
+loaded k n core pair.De w base what b r h = λ e. quiet_op e
+loaded k n core pair.Hl w base what b r h = λ e. quiet_op e
 
-increased : (k : Stack) (n : Node) (which : Pair) (base : ℕ) (what : AbsWrite) (b : Option Bounds) → IsRoomy k base → breaks_extended_stack k n (op.IncrementPair which) ≡ false
-    → IsReady k (op.IncrementPair which) (stack_move k (around_of k.setting n.state) (op.IncrementPair which) what b) n.state base
+increased : (k : Stack) (n : Node) (core : Core) (which : Pair) (base : ℕ) (what : AbsWrite) (b : Option Bounds) → IsRoomy k base → breaks_extended_stack k n (op.IncrementPair which) ≡ false
+    → IsReady k (op.IncrementPair which) (stack_move k (around_of k n.state core) (op.IncrementPair which) what b) n.state base
 unfolding breaks_extended_stack stack_move
-increased k n pair.Sp base what b r h = ready_widely k (op.IncrementPair pair.Sp) (move.Take 1) n.state base r (taken_ready k (op.IncrementPair pair.Sp) 1 n.state base (holds 1 n.state h))
-increased k n pair.Bc base what b r h = λ e. quiet_op e
-increased k n pair.De base what b r h = λ e. quiet_op e
-increased k n pair.Hl base what b r h = λ e. quiet_op e
+increased k n core pair.Sp base what b r h = ready_widely k (op.IncrementPair pair.Sp) (move.Take 1) n.state base r (taken_ready k (op.IncrementPair pair.Sp) 1 n.state base (holds 1 n.state h))
+increased k n core pair.Bc base what b r h = λ e. quiet_op e
+increased k n core pair.De base what b r h = λ e. quiet_op e
+increased k n core pair.Hl base what b r h = λ e. quiet_op e
 
-decreased : (k : Stack) (n : Node) (which : Pair) (base : ℕ) (what : AbsWrite) (b : Option Bounds) → IsRoomy k base → breaks_extended_stack k n (op.DecrementPair which) ≡ false
-    → is_deep_if k.need (bytes_after (op.DecrementPair which) (length n.state.items)) ≡ false → IsReady k (op.DecrementPair which) (stack_move k (around_of k.setting n.state) (op.DecrementPair which) what b) n.state base
+decreased : (k : Stack) (n : Node) (core : Core) (which : Pair) (base : ℕ) (what : AbsWrite) (b : Option Bounds) → IsRoomy k base → breaks_extended_stack k n (op.DecrementPair which) ≡ false
+    → is_deep_if k.need (bytes_after (op.DecrementPair which) (length n.state.items)) ≡ false → IsReady k (op.DecrementPair which) (stack_move k (around_of k n.state core) (op.DecrementPair which) what b) n.state base
 unfolding breaks_extended_stack stack_move bytes_after
-decreased k n pair.Sp base what b r h deep = ready_widely k (op.DecrementPair pair.Sp) (move.Append 1) n.state base r (has_room k 1 n.state base r (holds 0 n.state h).located deep)
-decreased k n pair.Bc base what b r h deep = λ e. quiet_op e
-decreased k n pair.De base what b r h deep = λ e. quiet_op e
-decreased k n pair.Hl base what b r h deep = λ e. quiet_op e
+decreased k n core pair.Sp base what b r h deep = ready_widely k (op.DecrementPair pair.Sp) (move.Append 1) n.state base r (has_room k 1 n.state base r (holds 0 n.state h).located deep)
+decreased k n core pair.Bc base what b r h deep = λ e. quiet_op e
+decreased k n core pair.De base what b r h deep = λ e. quiet_op e
+decreased k n core pair.Hl base what b r h deep = λ e. quiet_op e
+
+-- SP comes back, or moves otherwise
+ready_back :
+    (k : Stack) (o : Op) (s : AbsState) (base : ℕ) (m : StackMove) (back : Option ℕ) (rules : Rules) → is_lost_move (back_or rules back m) ≡ false → (is_lost_move m ≡ false → IsReady k o m s base)
+    → ((n : ℕ) → back ≡ Some n → IsReady k o (move.Set n) s base) → IsReady k o (back_or rules back m) s base
+ready_back k o s base m (Some n) Extended h g b = b n refl
+ready_back k o s base m None Extended h g b = g h
+ready_back k o s base m back Simple h g b = g h
+
+-- as many bytes as the procedure may hold lie in the region
+held_room : (k : Stack) (core : Core) (s : AbsState) (base n : ℕ) → IsRoomy k base → IsBack k core n → IsReady k op.LoadSpHl (move.Set n) s base
+held_room k core s base n r b =
+    let room = r.room in
+    let first = room.first in
+    let count = b.count in
+    let fits = b.fits in
+    record { first = omega arith; last = room.last }
 
 -- LD SP,HL takes what is known of HL
-no_address : (k : Stack) (rules : Rules) (s : AbsState) (p : Product) → product_before rules s ≡ Some p → sets_lost_from k (around_of k.setting s) (product_before rules s) ≡ false → sets_lost k (around_of k.setting s) op.LoadSpHl (pointer_in k op.LoadSpHl p) ≡ false
-no_address k rules s p is h = subst (λ o. sets_lost_from k (around_of k.setting s) o ≡ false) is h
+no_address : (k : Stack) (rules : Rules) (s : AbsState) (p : Product) → product_before rules s ≡ Some p → sets_lost_from k s (product_before rules s) ≡ false → sets_lost k (around_of k s p.core) op.LoadSpHl (pointer_in k op.LoadSpHl p) ≡ false
+no_address k rules s p is h = subst (λ o. sets_lost_from k s o ≡ false) is h
 
 ready : (k : Stack) (n : Node) (o : Op) (base : ℕ) (what : AbsWrite) (p : Product) → IsRoomy k base → product_before k.setting.rules n.state ≡ Some p → breaks_extended_stack k n o ≡ false
-    → is_deep_if k.need (bytes_after o (length n.state.items)) ≡ false → IsReady k o (stack_move k (around_of k.setting n.state) o what (pointer_in k o p)) n.state base
+    → is_deep_if k.need (bytes_after o (length n.state.items)) ≡ false → IsReady k o (stack_move k (around_of k n.state p.core) o what (pointer_in k o p)) n.state base
 unfolding breaks_extended_stack stack_move bytes_after around_of
-ready k n (op.LoadPair which w) base what p r is h deep = loaded k n which w base what (pointer_in k (op.LoadPair which w) p) r h
+ready k n (op.LoadPair which w) base what p r is h deep = loaded k n p.core which w base what (pointer_in k (op.LoadPair which w) p) r h
 ready k n op.LoadSpHl base what p r is h deep =
-    ready_aside_within k op.LoadSpHl (set_within k (pointer_in k op.LoadSpHl p)) (around_of k.setting n.state).may_leave (pointer_in k op.LoadSpHl p) n.state base (no_address k k.setting.rules n.state p is h)
-    (λ some. ready_within k op.LoadSpHl (pointer_in k op.LoadSpHl p) n.state base (λ e. quiet_op e) r some)
+    let g = around_of k n.state p.core in
+    let hl = pointer_in k op.LoadSpHl p in
+    ready_back k op.LoadSpHl n.state base (aside_within (set_within k hl) g.may_leave hl) g.back k.setting.rules
+    (no_address k k.setting.rules n.state p is h)
+    (λ kept. ready_aside_within k op.LoadSpHl (set_within k hl) g.may_leave hl n.state base kept (λ some. ready_within k op.LoadSpHl hl n.state base (λ e. quiet_op e) r some))
+    (λ count e. held_room k p.core n.state base count r (back_of k n.state p.core count e))
 ready k n (op.Push from) base what p r is h deep = puts_word k (op.Push from) what n.state base r h deep
 ready k n (op.Pop to) base what p r is h deep = ready_pop k (op.Pop to) n.state base k.setting.rules r.extended n.state.summary.aside refl h
-ready k n (op.IncrementPair which) base what p r is h deep = increased k n which base what (pointer_in k (op.IncrementPair which) p) r h
-ready k n (op.DecrementPair which) base what p r is h deep = decreased k n which base what (pointer_in k (op.DecrementPair which) p) r h deep
+ready k n (op.IncrementPair which) base what p r is h deep = increased k n p.core which base what (pointer_in k (op.IncrementPair which) p) r h
+ready k n (op.DecrementPair which) base what p r is h deep = decreased k n p.core which base what (pointer_in k (op.DecrementPair which) p) r h deep
 ready k n (op.AddSp e8) base what p r is h deep = ready_widely k (op.AddSp e8) (displaced_by e8) n.state base r (ready_displaced k (op.AddSp e8) e8 n.state base r h deep)
 ready k n (op.CallIf condition w) base what p r is h deep = ready_widely k (op.CallIf condition w) (push_of what) n.state base r (puts_word k (op.CallIf condition w) what n.state base r h deep)
 ready k n (op.Call w) base what p r is h deep = ready_widely k (op.Call w) (push_of what) n.state base r (puts_word k (op.Call w) what n.state base r h deep)

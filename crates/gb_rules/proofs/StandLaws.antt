@@ -26,9 +26,9 @@ use Rattle.gb_successors.proofs.WayLaws.{successors_of_sound}
 use Rattle.gb_calls.specs.Below.gb_states.WholeRules.{IsCertificate}
 use Rattle.gb_ops.specs.Cartridge.{kind_of}
 use Rattle.gb_successors.specs.Below.gb_abs_memory.Windows.{known_kind}
-use Rattle.gb_rules.specs.Procedures.{ranges_of, kept_of, need_of, setting_of, stack_of, program_of}
+use Rattle.gb_rules.specs.Procedures.{ranges_of, mark_of, need_of, setting_of, stack_of, program_of}
 use Rattle.gb_rules.specs.Rules.{ways_of}
-use Rattle.gb_rules.specs.Safety.{HasReturnWord}
+use Rattle.gb_rules.specs.Safety.{HasReturnWord, Declares}
 use Rattle.gb_rules.proofs.NodeLaws.{IsNodeState, Passes, IsHoused, ruled, known_by}
 
 -- the machine stands at a node that passes
@@ -40,7 +40,7 @@ pub record OnNode (rom : List ℕ) (cert : Certificate) (n : Node) (entry : Acti
   pub passes : Passes rom cert n
   pub address : x.processor.pc ≡ n.address
   pub program : entry.program ≡ program_of rom cert
-  pub names : entry.kept ≡ kept_of cert n.procedure
+  pub names : Declares cert n.procedure base entry
   pub means : Means n.state entry base x
   pub main : n.procedure ≡ 0 → base ≡ cert.region.last + 1
   pub return_word : HasReturnWord (rules_of cert.version) cert.region n.procedure base
@@ -81,7 +81,7 @@ housed rom cert n entry base x k = record { main = k.main; based = k.based; room
 
 -- where its procedure's states stand, and how much it may have on the stack
 abbrev pub whole_stack : Certificate → ℕ → Stack
-whole_stack cert procedure = record { setting = setting_of cert procedure; region = cert.region; need = need_of cert procedure; main_need = need_of cert 0 }
+whole_stack cert procedure = record { setting = setting_of cert procedure; region = cert.region; need = need_of cert procedure; main_need = need_of cert 0; mark = mark_of cert procedure }
 
 pub sound_ways : (rom : List ℕ) (cert : Certificate) (n : Node) (entry : Activation) (base : ℕ) (x : MState) (k : OnNode rom cert n entry base x)
     → AreSoundSuccessors (whole_stack cert n.procedure) (program_of rom cert) rom k.passes.row n.address n.state (ways_of rom cert n k.passes.row)
@@ -166,7 +166,7 @@ pub some_way : (rom : List ℕ) (cert : Certificate) (n : Node) (entry : Activat
 unfolding on_unmarked
 some_way rom cert n entry base x k =
     let u = on_unmarked rom cert n entry base x k in
-    let done = (sound_ways rom cert n entry base (unmarked x) u).executes (ranges_of cert n.procedure) entry base (unmarked x) [] u.program (stands rom cert n entry base (unmarked x) u)
+    let done = (sound_ways rom cert n entry base (unmarked x) u).executes (ranges_of cert n.procedure) entry base (unmarked x) [] u.program u.names.mark (stands rom cert n entry base (unmarked x) u)
     (is_ruled rom cert n entry base x k) refl (omega arith) (omega arith) in
     (done.successor, done.is_one)
 

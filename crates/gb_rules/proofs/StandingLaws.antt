@@ -32,14 +32,14 @@ IsStanding-called : (rules : Rules) (rom : List ℕ) (cert : Certificate) (frame
 IsStanding-called Simple rom cert frames procedure entry base s t certificate is stands c keeps = record {
   frames = record { procedure = procedure; entry = entry; base = base } ∷ frames;
   procedure = c.node.procedure;
-  entry = begun rom cert c.node.procedure t;
+  entry = begun rom cert c.node.procedure t.processor.sp t;
   base = t.processor.sp;
   stands = Stands-called rom cert frames procedure entry base s t certificate is stands c keeps;
 }
 IsStanding-called Extended rom cert frames procedure entry base s t certificate is stands h keeps = record {
   frames = record { procedure = procedure; entry = entry; base = base } ∷ frames;
   procedure = h.node.procedure;
-  entry = begun rom cert h.node.procedure t;
+  entry = begun rom cert h.node.procedure (base_below (taken_by cert h.node.procedure) h.state.items base) t;
   base = base_below (taken_by cert h.node.procedure) h.state.items base;
   stands = Stands-handed rom cert frames procedure entry base s t is stands h keeps;
 }
@@ -68,11 +68,11 @@ IsStanding-returned Extended rom cert (f ∷ rest) procedure entry base s t cert
 }
 
 -- where main has just begun, nobody waits
-pub IsStanding-start : (rom : List ℕ) (cert : Certificate) (base : ℕ) (s : MState) → IsMeant rom cert 0 (begun rom cert 0 s) base s → IsStanding rom cert s
+pub IsStanding-start : (rom : List ℕ) (cert : Certificate) (base : ℕ) (s : MState) → IsMeant rom cert 0 (begun rom cert 0 base s) base s → IsStanding rom cert s
 IsStanding-start rom cert base s meant = record {
   frames = [];
   procedure = 0;
-  entry = begun rom cert 0 s;
+  entry = begun rom cert 0 base s;
   base = base;
   stands = record { meant = meant; waiting = refl; keeps = Keeps-none cert 0 base s };
 }

@@ -56,7 +56,7 @@ goes : (k : Stack) (program : Program) (rom : List ℕ) (row : Row) (next : ℕ)
 unfolding taken_successor taken_parts
 goes k program rom row next s b =
     let p = product_of b.core b.relations in
-    record { around = around_of k.setting s; core = b.core; word = word_in k program rom row.op s p; pointer = pointer_in k row.op p; write = (effect_in k program rom row.op next s p).write; is = refl }
+    record { around = around_of k s b.core; core = b.core; word = word_in k program rom row.op s p; pointer = pointer_in k row.op p; write = (effect_in k program rom row.op next s p).write; is = refl }
 
 is_taken_to : (k : Stack) (program : Program) (rom : List ℕ) (row : Row) (a : ℕ) (s : AbsState) (t : Successor) → (successors_of k program rom row a s).taken ≡ Some t → IsTakenTo k row.op ((a + row.length) % 65536) t
 unfolding successors_of

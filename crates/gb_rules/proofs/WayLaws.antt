@@ -34,7 +34,7 @@ use Rattle.gb_rules.specs.Procedures.{ranges_of, kept_of, need_of, setting_of, e
 use Rattle.gb_rules.proofs.ProcedureLaws.{kept_is}
 use Rattle.gb_successors.specs.Below.gb_product.Covering.{covers}
 use Rattle.gb_rules.specs.Rules.{ways_of, callee_by, callee_at, is_over, calls_too_deep, is_resumed_uncovered, is_back_uncovered, is_call_uncovered, is_uncovered, is_uncovered_at, is_outside_of, is_uncallable, is_uncallable_at, is_exit_missed, is_unreturnable, is_unreturnable_at}
-use Rattle.gb_rules.specs.Safety.{HasReturnWord, IsMeant, Calls, Returns, LeadsBy, Leads}
+use Rattle.gb_rules.specs.Safety.{Declares, HasReturnWord, IsMeant, Calls, Returns, LeadsBy, Leads}
 use Rattle.gb_rules.proofs.SearchLaws.{Contains-slice_get}
 use Rattle.gb_rules.proofs.CoveringLaws.{found_at}
 use Rattle.gb_rules.proofs.NodeLaws.{simple_at, covered_if, IsUnopposed, unopposed, followed}
@@ -157,7 +157,7 @@ stays_at rom cert n entry base x k t a y to related said covered mark =
       at = record {
         address = to.goes ∙ sym f.address;
         program = k.program;
-        names = k.names ∙ ap (kept_of cert) (sym f.procedure_is);
+        names = subst (λ m. Declares cert m base entry) (sym f.procedure_is) k.names;
         means = f.means;
         mark = mark;
         main = λ is. k.main (sym f.procedure_is ∙ is);

@@ -1,6 +1,6 @@
 -- What a successor of a node that passes leads to by the rules of version 3: a node of the procedure, a callee that takes items
 -- over, the procedure's exit, or main, which begins anew.
-use Rattle.std.proofs.Common.{◌≡◌, ℕ, ◌<◌, true, false, ◌==◌, inl, inr, length, List, refl, sym, ap, subst, arith}
+use Rattle.std.proofs.Common.{◌≡◌, ◌+◌, ℕ, ◌<◌, true, false, ◌==◌, inl, inr, length, List, refl, sym, ap, subst, arith}
 use Rattle.std.proofs.lemmas.Bool.{not-false, or_parts}
 use Rattle.std.proofs.lemmas.Bool.Decides.{nat_tests}
 use Rattle.gb_ops.specs.Play.{MState}
@@ -86,7 +86,7 @@ Leads-widely rom cert n entry base x k t extended is y leads related_if said mar
     related = related_if (found_followed t.target (found entry.program cert n t u))
 
     -- main begins anew in the same program
-    anew : IsSummarized t.state (begun rom cert 0 y) y
+    anew : IsSummarized t.state (begun rom cert 0 (cert.region.last + 1) y) y
     anew = subst (λ p. HoldSummary p t.state.cells t.state.summary y.processor (peek y.storage) y.storage.banks) k.program said
 
     own : wide_at cert n ≡ setting_of cert n.procedure
@@ -104,8 +104,8 @@ Leads-widely rom cert n entry base x k t extended is y leads related_if said mar
         let parts = or_parts _ _ returnable in
         inr (inr (inl (GoesBack-reached cert n.procedure t.state entry base y (not_main n.procedure parts.0) (record { parts = to.means; related = related; summary = said }) to.room to.goes (marked.clear tt) parts.1)))
     by (target.Main a) to known covered callable shallow returnable marked =
-        let means = to.means (begun rom cert 0 y) (sym k.program) in
-        inr (inr (inr (IsMeant-anew rom cert a t.state y extended k.certificate (record { parts = means; related = related; summary = anew }) to.goes (AreBytes-core t.state.core (begun rom cert 0 y) y f.core means.core) f.pairs to.room marked.harmless
+        let means = to.means (begun rom cert 0 (cert.region.last + 1) y) (sym k.program) in
+        inr (inr (inr (IsMeant-anew rom cert a t.state y extended k.certificate (record { parts = means; related = related; summary = anew }) to.goes (AreBytes-core t.state.core (begun rom cert 0 (cert.region.last + 1) y) y f.core means.core) f.pairs to.room marked.harmless
         (subst (λ p. covered_at p Extended cert 0 a t.state ≡ true) k.program (not-false _ covered)))))
     by target.Unknown to known covered callable shallow returnable marked = absurd known
     by target.Lost to known covered callable shallow returnable marked = absurd known

@@ -12,8 +12,8 @@ use Rattle.gb_successors.specs.Below.gb_abs.Stack.{AreInRegion}
 use Rattle.gb_successors.specs.Below.gb_abs.Storage.{peek}
 use Rattle.gb_successors.specs.Below.gb_abs_memory.Kept.{IsKept}
 use Rattle.gb_calls.specs.TakenOver.{base_below}
-use Rattle.gb_rules.specs.Procedures.{ranges_of, kept_of, need_of, setting_of, taken_by}
-use Rattle.gb_rules.specs.Safety.{IsMeant, Calls, HandsOver}
+use Rattle.gb_rules.specs.Procedures.{ranges_of, need_of, setting_of, taken_by}
+use Rattle.gb_rules.specs.Safety.{Declares, IsMeant, Calls, HandsOver}
 
 -- from s to t each byte stays that a procedure with this base has to keep
 pub record Keeps (cert : Certificate) (procedure base : ℕ) (s t : MState) : Type 0 where
@@ -31,7 +31,7 @@ pub record Frame : Type 0 where
 pub record IsWaiting (cert : Certificate) (f : Frame) (procedure : ℕ) (above : Activation) (base : ℕ) : Type 0 where
   pub calls : Calls cert f.procedure f.entry f.base above.entered
   pub program : f.entry.program ≡ above.program
-  pub names : f.entry.kept ≡ kept_of cert f.procedure
+  pub names : Declares cert f.procedure f.base f.entry
   pub callee : calls.node.procedure ≡ procedure
   pub base_is : base ≡ above.entered.processor.sp
   pub main : f.procedure ≡ 0 → f.base ≡ cert.region.last + 1
@@ -43,7 +43,7 @@ pub record IsWaiting (cert : Certificate) (f : Frame) (procedure : ℕ) (above :
 pub record IsWaitingAbove (cert : Certificate) (f : Frame) (procedure : ℕ) (above : Activation) (base : ℕ) : Type 0 where
   pub calls : HandsOver cert f.procedure f.entry f.base above.entered
   pub program : f.entry.program ≡ above.program
-  pub names : f.entry.kept ≡ kept_of cert f.procedure
+  pub names : Declares cert f.procedure f.base f.entry
   pub callee : calls.node.procedure ≡ procedure
   pub base_is : base ≡ base_below (taken_by cert procedure) calls.state.items f.base
   pub main : f.procedure ≡ 0 → f.base ≡ cert.region.last + 1

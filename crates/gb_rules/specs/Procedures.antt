@@ -37,6 +37,14 @@ kept_of cert procedure = kept_in (slice_get cert.procedures procedure)
 unfoldable pub need_of : Certificate → ℕ → ℕ
 need_of cert procedure = need_in (slice_get cert.procedures procedure)
 
+abbrev pub mark_in : Option ProcedureParts → ℕ
+mark_in None = 0
+mark_in (Some p) = p.mark
+
+-- how many bytes below its base it puts its stack aside
+unfoldable pub mark_of : Certificate → ℕ → ℕ
+mark_of cert procedure = mark_in (slice_get cert.procedures procedure)
+
 abbrev pub base_in : Option ProcedureParts → ℕ
 base_in None = 0
 base_in (Some p) = p.base
@@ -53,7 +61,7 @@ exit_of cert procedure = exit_in (slice_get cert.procedures procedure)
 -- where its states stand, and how much it may have on the stack
 unfoldable pub stack_of : Certificate → ℕ → Stack
 stack_of cert procedure =
-    record { setting = setting_of cert procedure; region = cert.region; need = need_of cert procedure; main_need = need_of cert 0 }
+    record { setting = setting_of cert procedure; region = cert.region; need = need_of cert procedure; main_need = need_of cert 0; mark = mark_of cert procedure }
 
 -- how many bytes a procedure begins with
 abbrev pub items_in : Option Node → ℕ

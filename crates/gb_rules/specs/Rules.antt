@@ -97,9 +97,9 @@ abbrev pub sets_lost : Stack → Around → Op → Option Bounds → Bool
 sets_lost k g o hl = is_lost_move (stack_move k g o write.Nothing hl)
 
 -- LD SP,HL from these states; where nothing is meant, nothing is asked
-abbrev pub sets_lost_from : Stack → Around → Option Product → Bool
-sets_lost_from k g None = false
-sets_lost_from k g (Some p) = sets_lost k g op.LoadSpHl (pointer_in k op.LoadSpHl p)
+abbrev pub sets_lost_from : Stack → AbsState → Option Product → Bool
+sets_lost_from k s None = false
+sets_lost_from k s (Some p) = sets_lost k (around_of k s p.core) op.LoadSpHl (pointer_in k op.LoadSpHl p)
 
 -- SP doesn't stand where the items end, or fewer bytes are held
 abbrev pub lacks_bytes : ℕ → AbsState → Bool
@@ -114,8 +114,8 @@ lacks_word (Some b) s = false
 -- the stack set, and as many bytes as it takes off. By those of version 4 SP may be put aside: then POP reads elsewhere, and nothing else
 -- moves SP but what sets it; nor does anything let interrupts come.
 unfoldable pub breaks_extended_stack : Stack → Node → Op → Bool
-breaks_extended_stack k n (op.LoadPair pair.Sp w) = sets_lost k (around_of k.setting n.state) (op.LoadPair pair.Sp w) None
-breaks_extended_stack k n op.LoadSpHl = sets_lost_from k (around_of k.setting n.state) (product_before k.setting.rules n.state)
+breaks_extended_stack k n (op.LoadPair pair.Sp w) = sets_lost k (around_of k n.state n.state.core) (op.LoadPair pair.Sp w) None
+breaks_extended_stack k n op.LoadSpHl = sets_lost_from k n.state (product_before k.setting.rules n.state)
 breaks_extended_stack k n (op.Push from) = lacks_bytes 0 n.state
 breaks_extended_stack k n (op.Pop to) = lacks_word n.state.summary.aside n.state
 breaks_extended_stack k n (op.IncrementPair pair.Sp) = lacks_bytes 1 n.state

@@ -28,9 +28,10 @@ use Rattle.gb_successors.specs.Below.gb_abs_memory.Kept.{IsKept}
 use Rattle.gb_calls.specs.Calls.{entered_by, are_ranges_inside}
 use Rattle.gb_calls.specs.Resuming.{resumed}
 use Rattle.gb_successors.specs.Places.{IsCertified}
+use Rattle.gb_successors.specs.Stacks.{address_below}
 use Rattle.gb_successors.specs.Below.gb_abs_effects.Pairs.{known_word}
 use Rattle.gb_rules.specs.Covered.{covered_at}
-use Rattle.gb_rules.specs.Procedures.{ranges_of, kept_of, need_of, setting_of, program_of, exit_of, taken_by}
+use Rattle.gb_rules.specs.Procedures.{ranges_of, kept_of, mark_of, need_of, setting_of, program_of, exit_of, taken_by}
 
 -- ---- where the machine stands
 
@@ -40,13 +41,19 @@ abbrev pub HasReturnWord : Rules → Region → ℕ → ℕ → Type 0
 HasReturnWord Simple region procedure base = 0 < procedure → base + 2 ≤ region.last + 1
 HasReturnWord Extended region procedure base = Unit {0}
 
+-- as it runs, a procedure names what the certificate says: the addresses whose bytes it keeps, and a mark, which lies so many bytes
+-- below its base
+pub record Declares (cert : Certificate) (procedure base : ℕ) (entry : Activation) : Type 0 where
+  pub kept : entry.kept ≡ kept_of cert procedure
+  pub mark : entry.mark ≡ address_below base (mark_of cert procedure)
+
 -- the machine stands at a node, in a state that the node means: entry says how its procedure was entered, what that keeps, and which
 -- program it is part of, and base is the address above its items (main's is the one behind the region); those, and the bytes that it may need,
 -- lie in the region
 pub record IsAt (rom : List ℕ) (cert : Certificate) (n : Node) (entry : Activation) (base : ℕ) (s : MState) : Type 0 where
   pub address : s.processor.pc ≡ n.address
   pub program : entry.program ≡ program_of rom cert
-  pub names : entry.kept ≡ kept_of cert n.procedure
+  pub names : Declares cert n.procedure base entry
   pub means : Means n.state entry base s
   pub mark : IsMarkHarmless rom s
   pub main : n.procedure ≡ 0 → base ≡ cert.region.last + 1
@@ -144,14 +151,14 @@ abbrev pub ReturnsBy : Rules → Certificate → ℕ → Activation → ℕ → 
 ReturnsBy Simple cert procedure entry base s t = Returns cert procedure entry base s t
 ReturnsBy Extended cert procedure entry base s t = GoesBack cert procedure entry base t
 
--- a procedure that begins in this state; by the rules so far none puts its stack aside
-abbrev pub begun : List ℕ → Certificate → ℕ → MState → Activation
-begun rom cert procedure s = record { entered = s; kept = kept_of cert procedure; mark = 0; program = program_of rom cert }
+-- a procedure that begins in this state, with this base
+abbrev pub begun : List ℕ → Certificate → ℕ → ℕ → MState → Activation
+begun rom cert procedure base s = record { entered = s; kept = kept_of cert procedure; mark = address_below base (mark_of cert procedure); program = program_of rom cert }
 
 -- By the rules of version 3 the machine may have begun anew: it stands in main, as if that were entered now.
 abbrev pub RestartsBy : Rules → List ℕ → Certificate → MState → Type 0
 RestartsBy Simple rom cert t = ⊥
-RestartsBy Extended rom cert t = IsMeant rom cert 0 (begun rom cert 0 t) (cert.region.last + 1) t
+RestartsBy Extended rom cert t = IsMeant rom cert 0 (begun rom cert 0 (cert.region.last + 1) t) (cert.region.last + 1) t
 
 -- from s to t the machine stays in the procedure, calls, returns or begins anew
 abbrev pub LeadsBy : Rules → List ℕ → Certificate → ℕ → Activation → ℕ → MState → MState → Type 0

@@ -59,6 +59,18 @@ pub fn need_of(cert: &Cert<'_>, procedure: u16) -> u16
     }
 }
 
+/// How many bytes below its base a procedure puts its stack aside; 0 where there is none with the number.
+#[tactic(auto, unfolding(crate::specs::Procedures::mark_of))]
+fn mark_of(cert: &Cert<'_>, procedure: u16) -> u8
+    ensures { result ≡ Procedures.mark_of cert.now procedure }
+{
+    if procedure < cert.procedures() {
+        cert.procedure(procedure).mark()
+    } else {
+        0
+    }
+}
+
 /// The rules of the certificate's version.
 pub(crate) fn rules_of(cert: &Cert<'_>) -> Rules
     ensures { result ≡ Limits.rules_of cert.now.version }
@@ -122,6 +134,7 @@ pub fn stack_of(cert: &Cert<'_>, procedure: u16) -> Stack
         region: cert.region(),
         need: need_of(cert, procedure),
         main_need: need_of(cert, 0),
+        mark: mark_of(cert, procedure),
     }
 }
 

@@ -2,13 +2,12 @@
 
 ghost use Rattle.std.specs.Prelude.{◌≡◌};
 ghost use Rattle.gb_successors.specs.Below.gb_abs_effects.Targets as Targets;
-ghost use Rattle.gb_successors.specs.Below.gb_abs.Meaning as Located;
 ghost use Rattle.gb_rules.specs.Rules as Ruled;
 
 use gb_calls::NodeRef;
 use gb_ops::machine::Region;
 use gb_ops::op::{Op, Pair};
-use gb_successors::stacks::{Around, Stack, StackMove, around_of, stack_move};
+use gb_successors::stacks::{Around, Stack, StackMove, around_of, is_located, stack_move};
 use gb_successors::successor::pointer_in;
 use gb_successors::successors::product_before;
 use gb_successors::{Abs, AbsWrite, Bounds, Product, Rules};
@@ -50,31 +49,21 @@ fn sets_lost(stack: Stack, around: Around, op: Op, hl: Option<Bounds>) -> bool
 }
 
 /// Whether LD SP,HL sets it so from these states. Where nothing is meant, nothing is asked.
-fn sets_lost_from(stack: Stack, around: Around, product: &Option<Product>) -> bool
-    ensures { result ≡ Ruled.sets_lost_from stack around product.now }
+fn sets_lost_from(stack: Stack, state: &Abs, product: &Option<Product>) -> bool
+    ensures { result ≡ Ruled.sets_lost_from stack state.now product.now }
 {
     match product {
         None => false,
         Some(product) => sets_lost(
             stack,
-            around,
+            around_of(stack, state, &product.core),
             Op::LoadSpHl,
             pointer_in(stack, Op::LoadSpHl, product),
         ),
     }
 }
 
-/// Whether SP stands where the items end.
-fn is_located(state: &Abs) -> bool
-    ensures { result ≡ Located.is_located state.now }
-{
-    match state.summary().aside() {
-        None => state.core().stack_set,
-        Some(_) => false,
-    }
-}
-
-/// Whether SP doesn't stand there, or fewer bytes are held.
+/// Whether SP doesn't stand where the items end, or fewer bytes are held.
 fn lacks_bytes(count: usize, state: &Abs) -> bool
     ensures { result ≡ Ruled.lacks_bytes count state.now }
 {
@@ -99,12 +88,12 @@ fn breaks_extended_stack(stack: Stack, node: &NodeRef<'_>, state: &Abs, op: Op) 
     ensures { result ≡ Ruled.breaks_extended_stack stack node.now op }
 {
     match op {
-        Op::LoadPair(Pair::Sp, _) => sets_lost(stack, around_of(stack.setting, state), op, None),
-        Op::LoadSpHl => sets_lost_from(
-            stack,
-            around_of(stack.setting, state),
-            &product_before(stack.setting.rules, state),
-        ),
+        Op::LoadPair(Pair::Sp, _) => {
+            sets_lost(stack, around_of(stack, state, state.core()), op, None)
+        }
+        Op::LoadSpHl => {
+            sets_lost_from(stack, state, &product_before(stack.setting.rules, state))
+        }
         Op::Push(_) | Op::CallIf(_, _) | Op::Call(_) | Op::Restart(_) => lacks_bytes(0, state),
         Op::Pop(_) => lacks_word(state.summary().aside(), state),
         Op::ReturnIf(_) | Op::Return | Op::ReturnFromInterrupt | Op::EnableInterrupts => {

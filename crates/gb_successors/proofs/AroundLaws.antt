@@ -22,7 +22,7 @@ use Rattle.gb_product.specs.Below.gb_summaries.Meaning.{IsAside}
 use Rattle.gb_successors.specs.declared.stacks.StackMove.{StackMove}
 use Rattle.gb_successors.specs.declared.stacks.StackMove.TheVariants as move
 use Rattle.gb_successors.specs.Refined.{cut_read, read_around}
-use Rattle.gb_successors.specs.Stacks.{aside_if, aside_within, behind_word, popped_by}
+use Rattle.gb_successors.specs.Stacks.{aside_if, aside_within, back_or, behind_word, popped_by}
 
 -- ---- where SP is
 
@@ -88,6 +88,11 @@ pub either_popped : (P : StackMove → Type 0) (r : Rules) (o : Option Bounds) �
 either_popped P Extended (Some b) h g = g
 either_popped P Extended None h g = h
 either_popped P Simple o h g = h
+
+pub either_back : (P : StackMove → Type 0) (r : Rules) (back : Option ℕ) (m : StackMove) → P m → ((n : ℕ) → back ≡ Some n → P (move.Set n)) → P (back_or r back m)
+either_back P Extended (Some n) m h g = g n refl
+either_back P Extended None m h g = h
+either_back P Simple back m h g = h
 
 pub popped_none : (r : Rules) (o : Option Bounds) → o ≡ None → popped_by r o ≡ move.Take 2
 popped_none r o e = ap (popped_by r) e ∙ by r

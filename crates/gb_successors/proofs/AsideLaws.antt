@@ -33,7 +33,7 @@ use Rattle.gb_successors.specs.declared.stacks.Around.{Around}
 use Rattle.gb_successors.specs.declared.stacks.Stack.{Stack}
 use Rattle.gb_successors.specs.declared.stacks.StackMove.{StackMove}
 use Rattle.gb_successors.specs.declared.stacks.StackMove.TheVariants as move
-use Rattle.gb_successors.specs.Stacks.{is_off_alone, own_bytes, main_bytes, set_by, set_to, set_within, aside_if, aside_within, popped_by, extended, displaced_by, push_of, stack_move}
+use Rattle.gb_successors.specs.Stacks.{is_off_alone, own_bytes, main_bytes, set_by, set_to, set_within, aside_if, aside_within, back_or, popped_by, extended, displaced_by, push_of, stack_move}
 use Rattle.gb_successors.specs.Summaries.{enables_interrupts, puts_aside}
 
 -- ---- interrupts
@@ -215,6 +215,12 @@ within_stays k (Some b) = by (nat_lt b.first b.last)
     by true = refl
     by false = to_stays k.setting.rules k b.first
 
+-- where it comes back it isn't put aside
+back_aside : (r : Rules) (back : Option ℕ) (m : StackMove) (b : Bounds) → back_or r back m ≡ move.Aside b → m ≡ move.Aside b
+back_aside Extended (Some n) m b e = cc
+back_aside Extended None m b e = e
+back_aside Simple back m b e = e
+
 popped_aside : (r : Rules) (o : Option Bounds) (b : Bounds) → popped_by r o ≡ move.Aside b → is_some o ≡ true
 popped_aside Extended (Some c) b e = refl
 popped_aside Extended None b e = cc
@@ -227,6 +233,6 @@ left_where k g (op.LoadPair pair.Sp a) w hl b e = inl (if_may (set_to k.setting.
 left_where k g (op.LoadPair pair.Bc a) w hl b e = cc
 left_where k g (op.LoadPair pair.De a) w hl b e = cc
 left_where k g (op.LoadPair pair.Hl a) w hl b e = cc
-left_where k g op.LoadSpHl w hl b e = inl (within_may (set_within k hl) g.may_leave hl b (within_stays k hl) e)
+left_where k g op.LoadSpHl w hl b e = inl (within_may (set_within k hl) g.may_leave hl b (within_stays k hl) (back_aside k.setting.rules g.back _ b e))
 left_where k g (op.Pop to) w hl b e = inr (popped_aside k.setting.rules g.aside b e)
 left_where k g o w hl b e = absurd (leaves_by k g o w hl b e)

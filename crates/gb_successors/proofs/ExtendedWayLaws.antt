@@ -83,6 +83,9 @@ use Rattle.gb_successors.proofs.Situations.{Situation, acted_at, given_at, left_
 use Rattle.gb_successors.proofs.LandingLaws.{given_by}
 use Rattle.gb_successors.proofs.LedLaws.{IsAllowedAt, DoneAt, done_at}
 use Rattle.gb_successors.proofs.PossibleLaws.{some_reduced, possible, pairs_behind, bytes_behind_it}
+use Rattle.gb_successors.specs.StackMark.{marks, marked, marked_write}
+use Rattle.gb_successors.specs.Stacks.{address_below}
+use Rattle.gb_successors.proofs.StackMarkLaws.{marked_write_not}
 
 -- ---- the states behind, reduced
 
@@ -211,10 +214,15 @@ same_word_by Simple z region program rom v low (Some d) s c what h = same_word z
 same_word_by Extended z region program rom v low (Some d) s c read.Top h = same_word z rom (Some d) s c read.Top h
 same_word_by Extended z region program rom v low (Some d) s c read.Nothing h = same_word z rom (Some d) s c read.Nothing h
 
-same_around : (z : Setting) (cell : Option Cell) (s : AbsState) → around_of z s ≡ around_of z (with_cell_if z cell s)
+same_around : (k : Stack) (cell : Option Cell) (s : AbsState) (core : Core) → around_of k s core ≡ around_of k (with_cell_if k.setting cell s) core
 unfolding around_of with_cell_if
-same_around z None s = refl
-same_around z (Some c) s = refl
+same_around k None s core = refl
+same_around k (Some c) s core = refl
+
+same_marks : (k : Stack) (o : Op) (cell : Option Cell) (s : AbsState) (core : Core) → marks k o s core ≡ marks k o (with_cell_if k.setting cell s) core
+unfolding marks with_cell_if
+same_marks k o None s core = refl
+same_marks k o (Some c) s core = refl
 
 same_read : (k : Stack) (o : Op) (s : AbsState) (p : Product) (cell : Option Cell) → read_in k o s p ≡ read_in k o (with_cell_if k.setting cell s) p
 unfolding with_cell_if
@@ -236,20 +244,20 @@ effect_told :
 unfolding effect_in
 effect_told k program rom o next s p cell unpopped told =
     let z = k.setting in
-    rw (word_told k program rom o s p cell unpopped told, same_sp z cell s, same_sp_bounds z cell s) refl
+    rw (word_told k program rom o s p cell unpopped told, same_sp z cell s, same_sp_bounds z cell s, same_marks k o cell s p.core) refl
 
 move_told :
     (k : Stack) (program : Program) (rom : List ℕ) (row : Row) (next : ℕ) (s : AbsState) (p : Product) (cell : Option Cell) → IsNoPop cell row.op → IsTold cell (read_of row.op p.core)
     → taken_move k program rom row next s p ≡ taken_move k program rom row next (with_cell_if k.setting cell s) p
 unfolding taken_move
-move_told k program rom row next s p cell unpopped told = rw (effect_told k program rom row.op next s p cell unpopped told, same_around k.setting cell s) refl
+move_told k program rom row next s p cell unpopped told = rw (effect_told k program rom row.op next s p cell unpopped told, same_around k cell s p.core) refl
 
 parts_told :
     (k : Stack) (program : Program) (rom : List ℕ) (row : Row) (next : ℕ) (s : AbsState) (p : Product) (cell : Option Cell) → IsNoPop cell row.op → IsTold cell (read_of row.op p.core)
     → taken_parts k program rom row next s p cell ≡ taken_parts k program rom row next (with_cell_if k.setting cell s) p None
 unfolding taken_parts moved_state with_cell_if
 parts_told k program rom row next s p cell unpopped told =
-    rw (effect_told k program rom row.op next s p cell unpopped told, word_told k program rom row.op s p cell unpopped told, same_around k.setting cell s, same_read k row.op s p cell) refl
+    rw (effect_told k program rom row.op next s p cell unpopped told, word_told k program rom row.op s p cell unpopped told, same_around k cell s p.core, same_read k row.op s p cell) refl
 
 relations_told :
     (k : Stack) (program : Program) (rom : List ℕ) (o : Op) (s : AbsState) (p : Product) (cell : Option Cell) → IsNoPop cell o → IsTold cell (read_of o p.core)
@@ -273,12 +281,23 @@ same_conditional k g f (op.CallIf condition a) next sp sp_side c d low high v w 
 same_conditional k g f (op.ReturnIf condition) next sp sp_side c d low high v w b e i j h = refl
 same_conditional k g f o next sp sp_side c d low high v w b e i j h = absurd (no_such h)
 
+no_marks : (k : Stack) (o : Op) (s : AbsState) (core : Core) → is_some (Flags.condition_of o) ≡ true → marks k o s core ≡ false
+unfolding marks
+no_marks k (op.JumpRelativeIf condition e8) s core h = refl
+no_marks k (op.JumpIf condition a) s core h = refl
+no_marks k (op.CallIf condition a) s core h = refl
+no_marks k (op.ReturnIf condition) s core h = refl
+no_marks k o s core h = absurd (no_such h)
+
 taken_move_is :
-    (k : Stack) (program : Program) (rom : List ℕ) (row : Row) (next : ℕ) (s : AbsState) (p : Product)
+    (k : Stack) (program : Program) (rom : List ℕ) (row : Row) (next : ℕ) (s : AbsState) (p : Product) → is_some (Flags.condition_of row.op) ≡ true
     → taken_move k program rom row next s p
-    ≡ stack_move k (around_of k.setting s) row.op (cut_write (pointer_in k row.op p) (bits_in k row.op p) (transfer k.setting.is_whole row.op next (sp_halves k.setting s) p.core (word_in k program rom row.op s p).low (word_in k program rom row.op s p).high).write) (pointer_in k row.op p)
-unfolding taken_move effect_in refined
-taken_move_is k program rom row next s p = refl
+    ≡ stack_move k (around_of k s p.core) row.op (cut_write (pointer_in k row.op p) (bits_in k row.op p) (transfer k.setting.is_whole row.op next (sp_halves k.setting s) p.core (word_in k program rom row.op s p).low (word_in k program rom row.op s p).high).write) (pointer_in k row.op p)
+unfolding taken_move effect_in refined marked
+taken_move_is k program rom row next s p h =
+    let w = cut_write (pointer_in k row.op p) (bits_in k row.op p) (transfer k.setting.is_whole row.op next (sp_halves k.setting s) p.core (word_in k program rom row.op s p).low (word_in k program rom row.op s p).high).write in
+    ap (λ b. stack_move k (around_of k s p.core) row.op (marked_write w b) (pointer_in k row.op p)) (no_marks k row.op s p.core h)
+    ∙ ap (λ v. stack_move k (around_of k s p.core) row.op v (pointer_in k row.op p)) (marked_write_not w)
 
 -- without a condition the side is what is known before
 whole_side : (o : Op) (memory : Val) (core : Core) (r : Relations) (b : Branch) → taken_side o memory core r ≡ Some b → is_some (Flags.condition_of o) ≡ false → b ≡ record { core = core; relations = r; cell = None }
@@ -306,9 +325,9 @@ same_move k program rom row next s p b e = choose (is_some (Flags.condition_of r
 
     choose : (t : Bool) → is_some (Flags.condition_of row.op) ≡ t → taken_move k program rom row next (with_cell_if k.setting b.cell s) (product_of b.core b.relations) ≡ taken_move k program rom row next s p
     choose true h =
-        taken_move_is k program rom row next (with_cell_if k.setting b.cell s) (product_of b.core b.relations)
-        ∙ (same_conditional k (around_of k.setting told) (around_of k.setting s) row.op next (sp_halves k.setting told) (sp_halves k.setting s) b.core p.core (word_in k program rom row.op told q).low (word_in k program rom row.op told q).high (word_in k program rom row.op s p).low (word_in k program rom row.op s p).high
-        (pointer_in k row.op q) (pointer_in k row.op p) (bits_in k row.op q) (bits_in k row.op p) h ∙ sym (taken_move_is k program rom row next s p))
+        taken_move_is k program rom row next (with_cell_if k.setting b.cell s) (product_of b.core b.relations) h
+        ∙ (same_conditional k (around_of k told b.core) (around_of k s p.core) row.op next (sp_halves k.setting told) (sp_halves k.setting s) b.core p.core (word_in k program rom row.op told q).low (word_in k program rom row.op told q).high (word_in k program rom row.op s p).low (word_in k program rom row.op s p).high
+        (pointer_in k row.op q) (pointer_in k row.op p) (bits_in k row.op q) (bits_in k row.op p) h ∙ sym (taken_move_is k program rom row next s p h))
     choose false h =
         ap (λ (d : Branch). taken_move k program rom row next (with_cell_if k.setting d.cell s) (product_of d.core d.relations)) (whole_side row.op (memory_before program s p) p.core p.relations b e h)
 
@@ -435,11 +454,11 @@ Leads-at c p k e d =
 
 taken_executes :
     (k : Stack) (rom : List ℕ) (row : Row) (a : ℕ) (s : AbsState) (ranges : List Range) (entry : Activation) (base : ℕ) (x : MState) (reads : List ℕ) (p : Product) (b : Branch)
-    → k.setting.rules ≡ Extended → Stands k.setting rom k.region row a s entry base x → IsRuled k entry.program rom row a s base → x.processor.halt_mark ≡ false → slice_index reads 0 ≤ 255 → slice_index reads 1 ≤ 255
+    → k.setting.rules ≡ Extended → entry.mark ≡ address_below base k.mark → Stands k.setting rom k.region row a s entry base x → IsRuled k entry.program rom row a s base → x.processor.halt_mark ≡ false → slice_index reads 0 ≤ 255 → slice_index reads 1 ≤ 255
     → product_before k.setting.rules s ≡ Some p → IsReduced (core_settle s.core) s.relations p → taken_side row.op (memory_before entry.program s p) p.core p.relations ≡ Some b → MeansBranch b entry (begun row x)
     → (effect rom row x reads).is_taken ≡ true
     → Executes k entry.program rom ranges row a s (successors_of k entry.program rom row a s) entry base x reads
-taken_executes k rom row a s ranges entry base x reads p b extended stands ruled mark byte second before cut side meant taken =
+taken_executes k rom row a s ranges entry base x reads p b extended marked stands ruled mark byte second before cut side meant taken =
     let is : IsSideOf (memory_before entry.program s p) p.core p.relations b = side_facts _ b (memory_before entry.program s p) p.core p.relations side (taken_side_cuts row.op (memory_before entry.program s p) p.core p.relations _ refl) in
     let told : AbsState = with_cell_if k.setting b.cell s in
     let cell : IfSome b.cell (IsToldCell k.region entry x) =
@@ -469,6 +488,7 @@ taken_executes k rom row a s ranges entry base x reads p b extended stands ruled
       extended = extended;
       operands = ruled.operands;
       runs = ruled.runs;
+      marked = marked;
       ready = λ meant.
           let some = some_of (reduced k.setting.rules (parts_at c).state.core (related_at c)) meant in
           subst (λ m. IsReady k row.op m told base) (sym same)
@@ -552,9 +572,9 @@ untaken_leads k program rom row a s ranges entry base x reads p b extended stand
 
 pub executes_widely :
     (k : Stack) (program : Program) (rom : List ℕ) (row : Row) (a : ℕ) (s : AbsState) (ranges : List Range) (entry : Activation) (base : ℕ) (x : MState) (reads : List ℕ)
-    → k.setting.rules ≡ Extended → entry.program ≡ program → Stands k.setting rom k.region row a s entry base x → IsRuled k program rom row a s base → x.processor.halt_mark ≡ false → slice_index reads 0 ≤ 255 → slice_index reads 1 ≤ 255
+    → k.setting.rules ≡ Extended → entry.program ≡ program → entry.mark ≡ address_below base k.mark → Stands k.setting rom k.region row a s entry base x → IsRuled k program rom row a s base → x.processor.halt_mark ≡ false → slice_index reads 0 ≤ 255 → slice_index reads 1 ≤ 255
     → Executes k program rom ranges row a s (successors_of k program rom row a s) entry base x reads
-executes_widely k program rom row a s ranges entry base x reads extended of stands ruled mark byte second =
+executes_widely k program rom row a s ranges entry base x reads extended of marked stands ruled mark byte second =
     let before = before_of k s entry (begun row x) stands.core stands.pairs (begun_core row x s.core entry stands.means.parts.core) (related_begun row x s.relations stands.means.related) in
     by_flags before (effect rom row x reads).is_taken refl
   where
@@ -569,7 +589,7 @@ executes_widely k program rom row a s ranges entry base x reads extended of stan
     by_taken b None e taken h = absurd h
     by_taken b (Some side) e taken h =
         subst (λ q. Executes k q rom ranges row a s (successors_of k q rom row a s) entry base x reads) of
-        (taken_executes k rom row a s ranges entry base x reads b.product side extended stands (subst (λ q. IsRuled k q rom row a s base) (sym of) ruled) mark byte second b.is b.cut
+        (taken_executes k rom row a s ranges entry base x reads b.product side extended marked stands (subst (λ q. IsRuled k q rom row a s base) (sym of) ruled) mark byte second b.is b.cut
         (subst (λ q. taken_side row.op (memory_before q s b.product) b.product.core b.product.relations ≡ Some side) (sym of) e) h taken)
 
     by_not_taken : (b : Before k s entry (begun row x)) (o : Option Branch) → not_taken_side row.op (memory_before program s b.product) b.product.core b.product.relations ≡ o → (effect rom row x reads).is_taken ≡ false → IsMeantBranch o entry (begun row x)

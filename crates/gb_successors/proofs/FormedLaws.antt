@@ -74,6 +74,8 @@ use Rattle.gb_successors.proofs.SuccessorLaws.{IsWord-sp}
 use Rattle.gb_successors.proofs.MovedLaws.{told_summary}
 use Rattle.gb_successors.proofs.SummaryLaws.{apart_by}
 use Rattle.gb_successors.proofs.UntakenLaws.{untaken_simply}
+use Rattle.gb_successors.specs.StackMark.{marks, marked}
+use Rattle.gb_successors.proofs.StackMarkLaws.{IsCore-marked, IsWrite-marked}
 
 -- what a certificate too asks of states
 pub record IsFormed (region : Region) (s : AbsState) : Type 0 where
@@ -224,14 +226,14 @@ next_small n = omega arith
 effect_formed :
     (k : Stack) (program : Program) (rom : List ℕ) (row : Row) (a : ℕ) (s : AbsState) (p : Product) (entry : Activation) (base : ℕ) (x : MState) → Stands k.setting rom k.region row a s entry base x → HasBytes row.op → IsCore p.core
     → IsFormedEffect (effect_in k program rom row.op (behind_row a row) s p)
-unfolding effect_in
+unfolding effect_in marked
 effect_formed k program rom row a s p entry base x stands operands core =
     let word = is_word_by k.setting.rules k.setting k.region program rom (values_of p.core.registers p.relations.pairs) (pointed_bits (pointer_of row.op) p.core.registers) s p.core _ core.ie stands.vals stands.items stands.cartridge.bytes in
     let t = transfer k.setting.is_whole row.op (behind_row a row) (sp_halves k.setting s) p.core (word_in k program rom row.op s p).low (word_in k program rom row.op s p).high in
     let is : IsAbsEffect t =
     transfer_inhabited k.setting.is_whole row.op (behind_row a row) (sp_halves k.setting s) p.core (word_in k program rom row.op s p).low (word_in k program rom row.op s p).high t refl operands (next_small (a + row.length)) core word.low word.high
     (IsWord-sp k.setting s entry base x stands.based stands.means.parts (IsSpWithin-aside s.summary.aside x.processor stands.means.summary.aside)) in
-    record { core = subst IsCore (sym (refined_parts (pointer_in k row.op p) (bits_in k row.op p) _ t).0) (IsCore-carry _ t.core is.core); write = subst IsWrite (sym (refined_parts (pointer_in k row.op p) (bits_in k row.op p) _ t).1) (IsWrite-cut (pointer_in k row.op p) (bits_in k row.op p) t.write is.write) }
+    record { core = IsCore-marked row.op (marks k row.op s p.core) _ (subst IsCore (sym (refined_parts (pointer_in k row.op p) (bits_in k row.op p) _ t).0) (IsCore-carry _ t.core is.core)); write = IsWrite-marked _ (marks k row.op s p.core) (subst IsWrite (sym (refined_parts (pointer_in k row.op p) (bits_in k row.op p) _ t).1) (IsWrite-cut (pointer_in k row.op p) (bits_in k row.op p) t.write is.write)) }
 
 parts_core : (k : Stack) (program : Program) (rom : List ℕ) (row : Row) (next : ℕ) (s : AbsState) (p : Product) (cell : Option Cell) → IsFormedEffect (effect_in k program rom row.op next s p) → IsCore (taken_parts k program rom row next s p cell).state.core
 unfolding taken_parts

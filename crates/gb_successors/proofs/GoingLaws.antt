@@ -63,7 +63,7 @@ not_of : (b : Bool) → not b ≡ true → b ≡ false
 not_of false h = refl
 not_of true h = cc
 
-own_value : (o : Origin) (v : Val) (entry : Activation) (n : ℕ) → is_own o v ≡ true → Holds v entry n → n ≡ origin_value o entry
+pub own_value : (o : Origin) (v : Val) (entry : Activation) (n : ℕ) → is_own o v ≡ true → Holds v entry n → n ≡ origin_value o entry
 own_value o v entry n is h = h.origin o (origin_from v.origin (Some o) o is refl)
 
 single_value : (v : Val) (entry : Activation) (n : ℕ) → (v.lo == v.hi) ≡ true → Holds v entry n → n ≡ v.lo

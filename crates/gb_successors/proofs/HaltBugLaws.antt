@@ -71,6 +71,9 @@ use Rattle.gb_successors.proofs.LedLaws.{IsAllowedAt, done_at}
 use Rattle.gb_successors.proofs.PossibleLaws.{possible, pairs_behind, bytes_behind_it}
 use Rattle.gb_successors.proofs.ExtendedWayLaws.{before_of, Leads-narrowed, LeadsWidely-related, taken_way, reduced_way}
 use Rattle.gb_domain.specs.declared.types.Val.{Val}
+use Rattle.gb_successors.specs.StackMark.{marked_write}
+use Rattle.gb_successors.specs.Stacks.{address_below}
+use Rattle.gb_successors.proofs.Situations.{marks_at}
 
 -- ---- HALT
 
@@ -130,7 +133,7 @@ halt_allowed : (c : Situation) → IsTakenIn c → c.row.op ≡ op.Halt → IsAl
 halt_allowed c k e =
     let r : (parts_at c).read ≡ read.Nothing =
     part_read c ∙ (around_halt c.stack.setting.rules c.state.summary.aside c.row.op _ e ∙ ap (cut_read (pointer_at c)) (halt_reads c.row.op c.product.core e)) in
-    let w : (parts_at c).write ≡ write.Nothing = part_write c ∙ (write_is c ∙ ap (cut_write (pointer_at c) (known_at c)) (halt_writes c e)) in
+    let w : (parts_at c).write ≡ write.Nothing = part_write c ∙ (write_is c ∙ ap (λ w. marked_write (cut_write (pointer_at c) (known_at c) w) (marks_at c)) (halt_writes c e)) in
     record {
       stores = quiet_store c w;
       ram = quiet_closed c.rom c.state.core (parts_at c) r w;
@@ -198,10 +201,10 @@ as_many e = omega arith
 
 repeats_widely :
     (k : Stack) (rom : List ℕ) (row : Row) (a : ℕ) (s : AbsState) (ranges : List Range) (entry : Activation) (base : ℕ) (x : MState)
-    → k.setting.rules ≡ Extended → Stands k.setting rom k.region row a s entry base x → IsHalt row → x.processor.ime ≡ ime.Off → x.processor.halt_mark ≡ false
+    → k.setting.rules ≡ Extended → entry.mark ≡ address_below base k.mark → Stands k.setting rom k.region row a s entry base x → IsHalt row → x.processor.ime ≡ ime.Off → x.processor.halt_mark ≡ false
     → LeadsBy k.setting k.region ranges (length s.items) (successors_of k entry.program rom row a s).taken entry base x (outside (halt_bug (within rom x)))
 unfolding taken_successor with_cell_if
-repeats_widely k rom row a s ranges entry base x extended stands halt off mark =
+repeats_widely k rom row a s ranges entry base x extended below stands halt off mark =
     let before = before_of k s entry (begun row x) stands.core stands.pairs (begun_core row x s.core entry stands.means.parts.core) (related_begun row x s.relations stands.means.related) in
     let p : Product = before.product in
     let c : Situation = record {
@@ -222,6 +225,7 @@ repeats_widely k rom row a s ranges entry base x extended stands halt off mark =
       extended = extended;
       operands = halt_bytes row.op halt.op_is;
       runs = halt_runs row.op halt.op_is;
+      marked = below;
       ready = λ meant. subst (λ m. IsReady k row.op m s base) (sym (halt_stays_put c halt.op_is)) (λ enables. halt_quiet row.op halt.op_is enables);
       mark = mark;
       byte = omega arith;
@@ -261,8 +265,8 @@ repeats_widely k rom row a s ranges entry base x extended stands halt off mark =
 
 pub halt_repeats_widely :
     (k : Stack) (program : Program) (rom : List ℕ) (row : Row) (a : ℕ) (s : AbsState) (ranges : List Range) (entry : Activation) (base : ℕ) (x : MState)
-    → k.setting.rules ≡ Extended → entry.program ≡ program → Stands k.setting rom k.region row a s entry base x → IsHalt row → x.processor.ime ≡ ime.Off → x.processor.halt_mark ≡ false
+    → k.setting.rules ≡ Extended → entry.program ≡ program → entry.mark ≡ address_below base k.mark → Stands k.setting rom k.region row a s entry base x → IsHalt row → x.processor.ime ≡ ime.Off → x.processor.halt_mark ≡ false
     → LeadsBy k.setting k.region ranges (length s.items) (successors_of k program rom row a s).taken entry base x (outside (halt_bug (within rom x)))
-halt_repeats_widely k program rom row a s ranges entry base x extended of stands halt off mark =
+halt_repeats_widely k program rom row a s ranges entry base x extended of below stands halt off mark =
     subst (λ q. LeadsBy k.setting k.region ranges (length s.items) (successors_of k q rom row a s).taken entry base x (outside (halt_bug (within rom x)))) of
-    (repeats_widely k rom row a s ranges entry base x extended stands halt off mark)
+    (repeats_widely k rom row a s ranges entry base x extended below stands halt off mark)

@@ -54,6 +54,11 @@ use Rattle.gb_successors.proofs.RelatedLaws.{has_operands}
 use Rattle.gb_product.proofs.Below.gb_relations_laws.TransferLaws.{relations_after_sound}
 use Rattle.gb_product.specs.Below.gb_abs.Located.{sp_bounds}
 use Rattle.gb_domain.specs.declared.pairs.WordPair.TheVariants as pairs
+use Rattle.gb_successors.specs.StackMark.{marked_core}
+use Rattle.gb_successors.proofs.StackMarkLaws.{IsWrite-marked}
+use Rattle.gb_successors.proofs.Situations.{marks_at}
+use Rattle.gb_ops.specs.declared.op.Op.{Op}
+use Rattle.gb_ops.specs.declared.op.Op.TheVariants as op
 
 -- ---- what its reads give
 
@@ -135,14 +140,20 @@ Keeps-carry : (carry : Option Bool) (s c : Core) → Keeps s c → Keeps s (with
 Keeps-carry None s c h = h
 Keeps-carry (Some b) s c h = record { ctl = h.ctl; bound = h.bound; ie = h.ie; stack = h.stack }
 
+Keeps-marked : (o : Op) (b : Bool) (s c : Core) → Keeps s c → Keeps s (marked_core o b c)
+Keeps-marked (op.StoreSp w) b s c h = h
+Keeps-marked o false s c h = h
+Keeps-marked o true s c h = record { ctl = h.ctl; bound = h.bound; ie = h.ie; stack = h.stack }
+
 pub keeps_effect : (c : Situation) → IsTakenIn c → Keeps c.state.core (effect_at c).core
 keeps_effect c k =
     subst (λ d. Keeps c.state.core d) (sym (core_is c))
+    (Keeps-marked c.row.op (marks_at c) c.state.core _
     (Keeps-carry (carry_at c) c.state.core (transferred c).core
-    (Keeps-both c.state.core c.product.core _ k.keeps (Keeps-transfer c.stack.setting.is_whole c.row.op (next_at c) _ c.product.core (word_at c).low (word_at c).high)))
+    (Keeps-both c.state.core c.product.core _ k.keeps (Keeps-transfer c.stack.setting.is_whole c.row.op (next_at c) _ c.product.core (word_at c).low (word_at c).high))))
 
 pub is_write_at : (c : Situation) → IsTakenIn c → IsWrite (effect_at c).write
-is_write_at c k = subst IsWrite (sym (write_is c)) (IsWrite-cut (pointer_at c) (known_at c) (transferred c).write (transferred_is c k).write)
+is_write_at c k = subst IsWrite (sym (write_is c)) (IsWrite-marked _ (marks_at c) (IsWrite-cut (pointer_at c) (known_at c) (transferred c).write (transferred_is c k).write))
 
 -- ---- the machine behind it
 

@@ -1,5 +1,5 @@
 -- An instruction that is taken leads by its successor, by the rules of version 3.
-use Rattle.std.proofs.Common.{◌≡◌, ℕ, ◌+◌, ◌≤◌, Bool, true, false, nat_lt, ◌⊎◌, inl, inr, length, Option, Some, None, refl, sym, ◌∙◌, ap, subst, arith, ◌<◌}
+use Rattle.std.proofs.Common.{◌≡◌, ℕ, ◌*◌, ◌+◌, ◌≤◌, Bool, true, false, nat_lt, ◌⊎◌, inl, inr, length, Option, Some, None, refl, sym, ◌∙◌, ap, subst, arith, ◌<◌}
 use Rattle.std.proofs.lemmas.Bool.Decides.{nat_tests}
 use Rattle.gb_ops.specs.declared.machine.Read.{Read}
 use Rattle.gb_ops.specs.declared.machine.Read.TheVariants as machine_read
@@ -62,6 +62,12 @@ use Rattle.gb_successors.proofs.LandingLaws.{few_words, set_by_items}
 use Rattle.gb_successors.proofs.Situations.{Situation, next_at, pointer_at, read_at, word_at, effect_at, move_at, parts_at, begun_at, given_at, acted_at, left_at, IsTakenIn, means_begun, bits_at}
 use Rattle.gb_successors.proofs.SituationLaws.{values_hold, read_holds, read_placed, sp_within, said_begun}
 use Rattle.gb_successors.proofs.LandingLaws.{LoadsAt, loads_plainly, state_by, state_is, moved_at, quiet_state, Landed, ended_quietly, acting}
+use Rattle.gb_ops.specs.declared.op.Register.TheVariants.{H, L}
+use Rattle.gb_ops.specs.Pairs.{word}
+use Rattle.gb_domain.specs.declared.types.Origin.TheVariants.{MarkHigh, MarkLow}
+use Rattle.gb_successors.specs.Stacks.{address_below}
+use Rattle.gb_successors.proofs.GoingLaws.{own_value}
+use Rattle.gb_successors.proofs.StackMarkLaws.{back_of, back_below}
 
 no_such : false ≡ true → ⊥
 no_such h = cc
@@ -77,7 +83,7 @@ refined_is Simple z o next w core b m t h = absurd (let bad : Simple ≡ Extende
 
 -- where the stack is put aside, and may be
 abbrev pub around_at : Situation → Around
-around_at c = around_of c.stack.setting c.state
+around_at c = around_of c.stack c.state c.product.core
 
 aside_at : (c : Situation) → (around_at c).aside ≡ c.state.summary.aside
 unfolding around_of
@@ -108,14 +114,26 @@ goes_at c k l =
     (goes_to c.stack (around_at c) c.row.op (effect_at c).write (pointer_at c) (next_at c) (word_at c) c.product.core c.entry (begun_at c) (given_at c).low (given_at c).high l.low l.high k.means
     (begun_pc c.row c.machine c.address k.runs k.mark k.stands.at) k.taken (λ e. hl_within c k (ap pointer_of e)))
 
-pub moves_at : (c : Situation) → IsTakenIn c → IsMovedTo c.stack (move_at c) c.machine.processor.sp (acted_at c).processor.sp
+-- where HL is the mark's address, it lies so many bytes below the base
+back_at : (c : Situation) → IsTakenIn c → (n : ℕ) → (around_at c).back ≡ Some n → IsMovedTo c.stack c.base (move.Set n) (advanced c.machine.processor c.row).sp (Effects.hl (advanced c.machine.processor c.row))
+unfolding pair_value
+back_at c k n e =
+    let back = back_of c.stack c.state c.product.core n e in
+    let high = own_value MarkHigh c.product.core.registers.h c.entry _ back.high (k.means.registers H) in
+    let low = own_value MarkLow c.product.core.registers.l c.entry _ back.low (k.means.registers L) in
+    let mark = k.marked in
+    let count = back.count in
+    let at : 256 * (begun_at c).processor.registers.h + (begun_at c).processor.registers.l ≡ address_below c.base n = omega arith in
+    back_below c.stack.region c.base n _ at back.few
+
+pub moves_at : (c : Situation) → IsTakenIn c → IsMovedTo c.stack c.base (move_at c) c.machine.processor.sp (acted_at c).processor.sp
 unfolding pointer_of
 moves_at c k =
-    subst (λ m. IsMovedTo c.stack m c.machine.processor.sp (acted_at c).processor.sp) (sym (move_is c))
-    (subst (λ sp. IsMovedTo c.stack (stack_move c.stack (around_at c) c.row.op (effect_at c).write (pointer_at c)) sp (acted_at c).processor.sp) (begun_sp c.row c.machine)
-    (sp_moves c.stack (around_at c) c.row.op (effect_at c).write (pointer_at c) (advanced c.machine.processor c.row) (given_at c).low (given_at c).high k.extended k.operands
+    subst (λ m. IsMovedTo c.stack c.base m c.machine.processor.sp (acted_at c).processor.sp) (sym (move_is c))
+    (subst (λ sp. IsMovedTo c.stack c.base (stack_move c.stack (around_at c) c.row.op (effect_at c).write (pointer_at c)) sp (acted_at c).processor.sp) (begun_sp c.row c.machine)
+    (sp_moves c.stack c.base (around_at c) c.row.op (effect_at c).write (pointer_at c) (advanced c.machine.processor c.row) (given_at c).low (given_at c).high k.extended k.operands
     (subst (λ n. n < 65536) (sym (begun_sp c.row c.machine)) k.stands.means.parts.sp)
-    (subst (IsSpWithin (around_at c).aside) (sym (begun_sp c.row c.machine)) (subst (λ a. IsSpWithin a c.machine.processor.sp) (sym (aside_at c)) (sp_within c k))) k.taken (λ e. hl_within c k (ap pointer_of e))))
+    (subst (IsSpWithin (around_at c).aside) (sym (begun_sp c.row c.machine)) (subst (λ a. IsSpWithin a c.machine.processor.sp) (sym (aside_at c)) (sp_within c k))) k.stands.based k.taken (λ e. hl_within c k (ap pointer_of e)) (back_at c k)))
 
 -- ---- what its reads give
 

@@ -63,6 +63,8 @@ use Rattle.gb_successors.proofs.Situations.{Situation, next_at, pointer_at, word
 use Rattle.gb_successors.proofs.SituationLaws.{AreWordsIf, follows, sp_small, write_is, pointer_below}
 use Rattle.gb_successors.proofs.LandingLaws.{LoadsAt, given_by, part_read, part_write, part_next, keeps_effect, Landed, Leaves, Leaves-quiet, acting, stores_still, Landed-still, Leaves-stored, IsPut, puts, put_state, Landed-put, Leaves-put}
 use Rattle.gb_successors.proofs.LeadingLaws.{around_at, target_is, move_is, goes_at, moves_at, loads_at, holds_taken, Landed-moved, LandedAnew, Landed-anew}
+use Rattle.gb_successors.specs.StackMark.{marked_write}
+use Rattle.gb_successors.proofs.Situations.{marks_at}
 
 no_such : false ≡ true → ⊥
 no_such h = cc
@@ -80,11 +82,19 @@ IsPlainWrite-cut b bits write.Nothing h k = k
 IsPlainWrite-cut b bits (write.Word a low high) h k = k
 IsPlainWrite-cut b bits (write.Push high low) h k = k
 
+IsPlainWrite-marked : (w : AbsWrite) (b : Bool) → IsPlainWrite w → IsPlainWrite (marked_write w b)
+IsPlainWrite-marked (write.Word a low high) true k = k
+IsPlainWrite-marked (write.Word a low high) false k = k
+IsPlainWrite-marked (write.Byte span v) b k = k
+IsPlainWrite-marked (write.Push high low) b k = k
+IsPlainWrite-marked write.Nothing b k = k
+
 plain_at : (c : Situation) → IsTakenIn c → moves_sp c.row.op ≡ false → IsPlainWrite (effect_at c).write
 plain_at c k still =
     subst IsPlainWrite (sym (write_is c))
+    (IsPlainWrite-marked _ (marks_at c)
     (IsPlainWrite-cut (pointer_at c) (known_at c) (transferred c).write (pointer_below c.stack.setting.rules c.row.op c.product.core.registers c.product.relations.pairs k.pairs)
-    (IsPlainWrite-transfer c.stack.setting.is_whole c.row.op (next_at c) (sp_halves c.stack.setting c.state) c.product.core (word_at c).low (word_at c).high still k.operands k.core))
+    (IsPlainWrite-transfer c.stack.setting.is_whole c.row.op (next_at c) (sp_halves c.stack.setting c.state) c.product.core (word_at c).low (word_at c).high still k.operands k.core)))
 
 -- ---- by what it does to the stack
 
@@ -125,8 +135,8 @@ off_where c k (inr some) = by c.state.summary.aside some (begun_aside c k)
 aside_left : (c : Situation) (b : Bounds) → IsTakenIn c → move_at c ≡ move.Aside b → IsAside (Some b) (acted_at c).processor
 aside_left c b k e =
     let moved = sym (move_is c) ∙ e in
-    let to : IsMovedTo c.stack (move.Aside b) c.machine.processor.sp (acted_at c).processor.sp =
-    subst (λ m. IsMovedTo c.stack m c.machine.processor.sp (acted_at c).processor.sp) e (moves_at c k) in
+    let to : IsMovedTo c.stack c.base (move.Aside b) c.machine.processor.sp (acted_at c).processor.sp =
+    subst (λ m. IsMovedTo c.stack c.base m c.machine.processor.sp (acted_at c).processor.sp) e (moves_at c k) in
     record {
       first = to.0;
       last = to.1;
@@ -161,7 +171,7 @@ pub record PutsAt (c : Situation) (i : Halves) : Type 0 where
 
 puts_at : (c : Situation) (i : Halves) → IsTakenIn c → (transferred c).write ≡ write.Push i.high i.low → ((b : Option Bounds) → stack_move c.stack (around_at c) c.row.op (write.Push i.high i.low) b ≡ move.Push i) → PutsAt c i
 puts_at c i k is moves =
-    let written : (effect_at c).write ≡ write.Push i.high i.low = write_is c ∙ ap (cut_write (pointer_at c) (known_at c)) is in
+    let written : (effect_at c).write ≡ write.Push i.high i.low = write_is c ∙ ap (λ w. marked_write (cut_write (pointer_at c) (known_at c) w) (marks_at c)) is in
     let moved : move_at c ≡ move.Push i = move_is c ∙ (ap (λ w. stack_move c.stack (around_at c) c.row.op w (pointer_at c)) written ∙ moves (pointer_at c)) in
     record { write_is = written; move_is = moved; has = subst (λ m. IsReady c.stack c.row.op m c.state c.base) moved (ready_at c k) }
 
@@ -219,7 +229,7 @@ lands_moved c (move.Take n) k found l moves quiet e none =
     inl (record {
       landed = Landed-moved c (move.Take n) e quiet s
           (taken_off c.stack.setting c.stack.region n c.state (effect_at c).core c.entry c.base c.machine (acted_at c).processor k.stands.means.parts (acting_core c k l) (keeps_effect c k).stack
-          (holds_taken c n k found e) k.stands.room k.stands.is_region (subst (λ m. IsMovedTo c.stack m c.machine.processor.sp (acted_at c).processor.sp) e (moves_at c k)));
+          (holds_taken c n k found e) k.stands.room k.stands.is_region (subst (λ m. IsMovedTo c.stack c.base m c.machine.processor.sp (acted_at c).processor.sp) e (moves_at c k)));
       leaves = Leaves-quiet c k l s;
       keeps = subst IsNoRestart (sym e) tt;
       aside = aside_by c (move.Take n) e (not_aside c (located_none c (holds_taken c n k found e).located));
@@ -229,7 +239,7 @@ lands_moved c (move.Append n) k found l moves quiet e none =
     inl (record {
       landed = Landed-moved c (move.Append n) e quiet s
           (put_on c.stack.setting c.stack.region n c.state (effect_at c).core c.entry c.base c.machine (acted_at c).processor k.stands.means.parts (acting_core c k l)
-          (subst (λ m. IsReady c.stack c.row.op m c.state c.base) e (ready_at c k)) k.stands.is_region (subst (λ m. IsMovedTo c.stack m c.machine.processor.sp (acted_at c).processor.sp) e (moves_at c k)));
+          (subst (λ m. IsReady c.stack c.row.op m c.state c.base) e (ready_at c k)) k.stands.is_region (subst (λ m. IsMovedTo c.stack c.base m c.machine.processor.sp (acted_at c).processor.sp) e (moves_at c k)));
       leaves = Leaves-quiet c k l s;
       keeps = subst IsNoRestart (sym e) tt;
       aside = aside_by c (move.Append n) e (not_aside c (located_none c (append_ready c n k e).located));
@@ -238,8 +248,8 @@ lands_moved c (move.Set n) k found l moves quiet e none =
     let s = silent c k l quiet in
     inl (record {
       landed = Landed-moved c (move.Set n) e quiet s
-          (set_own c.stack n c.state (effect_at c).core c.entry c.base c.machine (acted_at c).processor k.extended k.stands.based k.stands.means.parts (acting_core c k l)
-          (subst (λ m. IsReady c.stack c.row.op m c.state c.base) e (ready_at c k)) k.stands.is_region (subst (λ m. IsMovedTo c.stack m c.machine.processor.sp (acted_at c).processor.sp) e (moves_at c k)));
+          (set_own c.stack n c.state (effect_at c).core c.entry c.base c.machine (acted_at c).processor k.extended k.stands.means.parts (acting_core c k l)
+          (subst (λ m. IsReady c.stack c.row.op m c.state c.base) e (ready_at c k)) k.stands.is_region (subst (λ m. IsMovedTo c.stack c.base m c.machine.processor.sp (acted_at c).processor.sp) e (moves_at c k)));
       leaves = Leaves-quiet c k l s;
       keeps = subst IsNoRestart (sym e) tt;
       aside = aside_by c (move.Set n) e tt;
@@ -252,7 +262,7 @@ lands_moved c (move.Restart n) k found l moves quiet e none =
       landed = Landed-anew c n e quiet s
           (λ other same.
           set_anew c.stack n c.state (effect_at c).core c.entry other c.base c.machine (acted_at c).processor same k.extended k.stands.means.parts (acting_core c k l)
-          (subst (λ m. IsReady c.stack c.row.op m c.state c.base) e (ready_at c k)) k.stands.is_region (subst (λ m. IsMovedTo c.stack m c.machine.processor.sp (acted_at c).processor.sp) e (moves_at c k)));
+          (subst (λ m. IsReady c.stack c.row.op m c.state c.base) e (ready_at c k)) k.stands.is_region (subst (λ m. IsMovedTo c.stack c.base m c.machine.processor.sp (acted_at c).processor.sp) e (moves_at c k)));
       leaves = Leaves-quiet c k l s;
       aside = aside_by c (move.Restart n) e tt;
     })
@@ -284,7 +294,7 @@ lands c k allowed l = by_sp (moves_sp c.row.op) refl
         → LandsHere c ⊎ LandsAnew c
     by_write moves (inl p) = inl (lands_put c p.value k allowed l (puts_at c p.value k p.write_is p.move_is))
     by_write moves (inr nothing) =
-        let quiet : (effect_at c).write ≡ write.Nothing = write_is c ∙ ap (cut_write (pointer_at c) (known_at c)) nothing in
+        let quiet : (effect_at c).write ≡ write.Nothing = write_is c ∙ ap (λ w. marked_write (cut_write (pointer_at c) (known_at c) w) (marks_at c)) nothing in
         lands_moved c (move_at c) k (found_at c k allowed) l moves quiet refl
         (subst (λ m. IsNoPush m × IsNoStay m) (sym (move_is c ∙ ap (λ w. stack_move c.stack (around_at c) c.row.op w (pointer_at c)) quiet)) (
           no_push c.stack (around_at c) c.row.op (pointer_at c),

@@ -27,6 +27,7 @@ pub mod SimpleLaws
 pub mod SituationLaws
 pub mod Situations
 pub mod SpMoveLaws
+pub mod StackMarkLaws
 pub mod StackMovedLaws
 pub mod StackWayLaws
 pub mod StoredLaws

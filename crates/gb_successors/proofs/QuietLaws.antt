@@ -21,6 +21,7 @@ use Rattle.gb_successors.specs.Stacks.{around_of}
 use Rattle.gb_successors.specs.Summaries.{puts_aside}
 use Rattle.gb_successors.proofs.AsideLaws.{left_where}
 use Rattle.gb_successors.specs.declared.stacks.Stack.{Stack}
+use Rattle.gb_domain.specs.declared.types.Core.{Core}
 use Rattle.gb_successors.specs.Behind.{ended, with_cell_if}
 use Rattle.gb_successors.specs.Sound.{IsOneOf}
 use Rattle.gb_successors.specs.Successors.{summary_behind, taken_successor, untaken_successor, with_product, reduced_successor, staying_successor, may_stay, stays, product_before, taken_from, not_taken_from, successors_of, taken_move}
@@ -64,14 +65,14 @@ not_put (move.Aside b) h = absurd (h b refl)
 not_put m h = refl
 
 -- by the rules of versions 1 to 3 SP isn't put aside
-nowhere : (z : Setting) (s : AbsState) → z.is_whole ≡ false → s.summary ≡ no_summary → ((around_of z s).may_leave ≡ true) ⊎ (is_some (around_of z s).aside ≡ true) → ⊥
+nowhere : (k : Stack) (s : AbsState) (core : Core) → k.setting.is_whole ≡ false → s.summary ≡ no_summary → ((around_of k s core).may_leave ≡ true) ⊎ (is_some (around_of k s core).aside ≡ true) → ⊥
 unfolding around_of
-nowhere z s older q (inl may) = by z.is_whole _ older may
+nowhere k s core older q (inl may) = by k.setting.is_whole _ older may
   where
     by : (b c : Bool) → b ≡ false → (b && c) ≡ true → ⊥
     by true c e h = cc
     by false c e h = cc
-nowhere z s older q (inr some) = absurd (let bad : false ≡ true = sym (ap (λ (m : SummaryParts). is_some m.aside) q) ∙ some in cc)
+nowhere k s core older q (inr some) = absurd (let bad : false ≡ true = sym (ap (λ (m : SummaryParts). is_some m.aside) q) ∙ some in cc)
 
 quiet_taken :
     (k : Stack) (program : Program) (rom : List ℕ) (row : Row) (next : ℕ) (s : AbsState) (b : Branch)
@@ -79,7 +80,7 @@ quiet_taken :
 unfolding taken_successor summary_behind taken_move
 quiet_taken k program rom row next s b older unknown q =
     silent_by k.setting.rules k program row.op s (product_of b.core b.relations) _ _ _ unknown
-    (not_put _ (λ bounds e. nowhere k.setting s older q (left_where k (around_of k.setting s) row.op _ _ bounds e))) q
+    (not_put _ (λ bounds e. nowhere k s b.core older q (left_where k (around_of k s b.core) row.op _ _ bounds e))) q
 
 told_quietly : (z : Setting) (cell : Option Cell) (s : AbsState) → s.summary ≡ no_summary → (with_cell_if z cell s).summary ≡ no_summary
 unfolding with_cell_if

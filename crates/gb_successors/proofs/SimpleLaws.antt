@@ -46,11 +46,13 @@ use Rattle.gb_successors.specs.Loads.{read_word, word_by}
 use Rattle.gb_ops.specs.Pointers.{pointer_of}
 use Rattle.gb_successors.specs.Summaries.{pointed_bits}
 use Rattle.gb_successors.specs.Refined.{cut_read, cut_write, refined, refined_target}
-use Rattle.gb_successors.specs.Stacks.{around_of, aside_if, popped_by, set_to, extended, stack_move, pushed_if_room, set_if_room, with_aside, with_stack_moved, moved_core}
+use Rattle.gb_successors.specs.Stacks.{around_of, aside_if, back_or, popped_by, set_to, extended, stack_move, pushed_if_room, set_if_room, with_aside, with_stack_moved, moved_core}
 use Rattle.gb_successors.specs.Successors.{pointer_in, read_in, word_in, effect_in, taken_parts, bits_in}
 use Rattle.gb_successors.specs.Way.{Successor}
 use Rattle.gb_successors.proofs.AroundLaws.{around_simply}
 use Rattle.gb_successors.proofs.MovedLaws.{written_by}
+use Rattle.gb_successors.specs.StackMark.{marked, marked_write}
+use Rattle.gb_successors.proofs.StackMarkLaws.{marks_simply, marked_core_not, marked_write_not}
 
 -- ---- what these rules make of an instruction
 
@@ -204,6 +206,7 @@ moved_simply k g (op.Restart a) w s c h = moved_still k.setting _ s c (no_extend
 moved_simply k g (op.ReturnIf condition) w s c h = moved_still k.setting _ s c (no_extended k.setting.rules _ h)
 moved_simply k g op.Return w s c h = moved_still k.setting _ s c (no_extended k.setting.rules _ h)
 moved_simply k g op.ReturnFromInterrupt w s c h = moved_still k.setting _ s c (no_extended k.setting.rules _ h)
+moved_simply k g op.LoadSpHl w s c h = ap (λ r. moved_with k.setting (back_or r g.back move.Stay) s c) h
 moved_simply k g o w s c h = refl
 
 -- ---- a condition's cell
@@ -244,6 +247,11 @@ word_simply k program rom row s p cell h told =
     ap (λ r. word_by r k.setting k.region program rom (values_of p.core.registers p.relations.pairs) (pointed_bits (pointer_of row.op) p.core.registers) (with_core s p.core) (read_in k row.op s p)) h
     ∙ (ap (read_word k.setting rom (with_core s p.core)) (read_simply k row.op s p h) ∙ same_word k.setting rom cell s p.core (read_of row.op p.core) told)
 
+-- what takes no mark's address does as before
+marked_not : (o : Op) (e : AbsEffect) → marked false o e ≡ e
+unfolding marked
+marked_not o e = ap (λ c. record { core = c; write = marked_write e.write false }) (marked_core_not o e.core) ∙ ap (λ w. record { core = e.core; write = w }) (marked_write_not e.write)
+
 effect_simply :
     (k : Stack) (program : Program) (rom : List ℕ) (row : Row) (next : ℕ) (s : AbsState) (p : Product) (cell : Option Cell) → k.setting.rules ≡ Simple → IsTold cell (read_of row.op p.core)
     → effect_in k program rom row.op next s p ≡ effect_at k.setting rom row next (with_cell_if k.setting cell s) p.core
@@ -251,7 +259,10 @@ unfolding effect_in
 effect_simply k program rom row next s p cell h told =
     let z = k.setting in
     let word = word_in k program rom row.op s p in
-    ap (λ b. refined b (bits_in k row.op p) (known_carry z.rules row.op (sp_bounds z s) p.core.registers p.relations.pairs) (transfer z.is_whole row.op next (sp_halves z s) p.core word.low word.high))
+    ap (λ t. marked t row.op (refined (pointer_in k row.op p) (bits_in k row.op p) (known_carry z.rules row.op (sp_bounds z s) p.core.registers p.relations.pairs) (transfer z.is_whole row.op next (sp_halves z s) p.core word.low word.high)))
+    (marks_simply k row.op s p.core h)
+    ∙ (marked_not row.op _
+    ∙ (ap (λ b. refined b (bits_in k row.op p) (known_carry z.rules row.op (sp_bounds z s) p.core.registers p.relations.pairs) (transfer z.is_whole row.op next (sp_halves z s) p.core word.low word.high))
     (pointer_none z.rules row.op p.core.registers p.relations.pairs h)
     ∙ (ap (λ i. refined None i (known_carry z.rules row.op (sp_bounds z s) p.core.registers p.relations.pairs) (transfer z.is_whole row.op next (sp_halves z s) p.core word.low word.high))
     (bits_none z.rules z.is_whole row.op p.core.registers h)
@@ -259,20 +270,20 @@ effect_simply k program rom row next s p cell h told =
     (carry_none z.rules row.op (sp_bounds z s) p.core.registers p.relations.pairs h)
     ∙ (refined_whole (transfer z.is_whole row.op next (sp_halves z s) p.core word.low word.high)
     ∙ (ap (λ (w : Halves). transfer z.is_whole row.op next (sp_halves z s) p.core w.low w.high) (word_simply k program rom row s p cell h told)
-    ∙ ap (λ sp. transfer z.is_whole row.op next sp p.core (low_of z rom row (with_cell_if z cell s) p.core) (high_of z rom row (with_cell_if z cell s) p.core)) (same_sp z cell s)))))
+    ∙ ap (λ sp. transfer z.is_whole row.op next sp p.core (low_of z rom row (with_cell_if z cell s) p.core) (high_of z rom row (with_cell_if z cell s) p.core)) (same_sp z cell s)))))))
 
 -- the states behind it, by its effect
 state_simply :
-    (k : Stack) (rom : List ℕ) (row : Row) (s : AbsState) (cell : Option Cell) (e : AbsEffect) → k.setting.rules ≡ Simple
-    → with_core (moved_state k (kind_of rom) cell (stack_move k (around_of k.setting s) row.op e.write None) e.write s) (core_behind k.setting.is_whole (kind_of rom) (stack_move k (around_of k.setting s) row.op e.write None) row.cycles e.write e.core)
+    (k : Stack) (rom : List ℕ) (row : Row) (s : AbsState) (core : Core) (cell : Option Cell) (e : AbsEffect) → k.setting.rules ≡ Simple
+    → with_core (moved_state k (kind_of rom) cell (stack_move k (around_of k s core) row.op e.write None) e.write s) (core_behind k.setting.is_whole (kind_of rom) (stack_move k (around_of k s core) row.op e.write None) row.cycles e.write e.core)
     ≡ ended (starts e.write) row.cycles (written k.setting k.region (kind_of rom) e.write (with_stack_of k.setting row.op e.write (with_core (with_cell_if k.setting cell s) e.core)))
 unfolding moved_state core_behind ended
-state_simply k rom row s cell e h =
+state_simply k rom row s core cell e h =
     let z = k.setting in
-    let m = stack_move k (around_of k.setting s) row.op e.write None in
+    let m = stack_move k (around_of k s core) row.op e.write None in
     let told = with_cell_if z cell s in
     sym (ap (λ t. ended (starts e.write) row.cycles t)
-    (ap (written z k.region (kind_of rom) e.write) (sym (moved_simply k (around_of k.setting s) row.op e.write told e.core h))
+    (ap (written z k.region (kind_of rom) e.write) (sym (moved_simply k (around_of k s core) row.op e.write told e.core h))
     ∙ written_by z k.region (kind_of rom) e.write (with_stack_moved z m told) (moved_core m e.core) (inl h)))
 
 same_parts : (t u : Successor) → t.read ≡ u.read → t.write ≡ u.write → t.target ≡ u.target → t.next ≡ u.next → t.state ≡ u.state → t ≡ u
@@ -296,8 +307,8 @@ taken_simply k program rom row next s p cell h told =
     (ap (λ (e : AbsEffect). e.write) effect)
     (target_whole z.rules z row.op next (word_in k program rom row.op s p) p.core (pointer_in k row.op p) _ _ h)
     refl
-    (ap (λ b. with_core (moved_state k kind cell (stack_move k (around_of k.setting s) row.op (effect_in k program rom row.op next s p).write b) (effect_in k program rom row.op next s p).write s)
-    (core_behind k.setting.is_whole kind (stack_move k (around_of k.setting s) row.op (effect_in k program rom row.op next s p).write b) row.cycles (effect_in k program rom row.op next s p).write (effect_in k program rom row.op next s p).core))
+    (ap (λ b. with_core (moved_state k kind cell (stack_move k (around_of k s p.core) row.op (effect_in k program rom row.op next s p).write b) (effect_in k program rom row.op next s p).write s)
+    (core_behind k.setting.is_whole kind (stack_move k (around_of k s p.core) row.op (effect_in k program rom row.op next s p).write b) row.cycles (effect_in k program rom row.op next s p).write (effect_in k program rom row.op next s p).core))
     (pointer_none z.rules row.op p.core.registers p.relations.pairs h)
-    ∙ (ap (λ (e : AbsEffect). with_core (moved_state k kind cell (stack_move k (around_of k.setting s) row.op e.write None) e.write s) (core_behind k.setting.is_whole kind (stack_move k (around_of k.setting s) row.op e.write None) row.cycles e.write e.core)) effect
-    ∙ state_simply k rom row s cell (effect_at z rom row next (with_cell_if z cell s) p.core) h))
+    ∙ (ap (λ (e : AbsEffect). with_core (moved_state k kind cell (stack_move k (around_of k s p.core) row.op e.write None) e.write s) (core_behind k.setting.is_whole kind (stack_move k (around_of k s p.core) row.op e.write None) row.cycles e.write e.core)) effect
+    ∙ state_simply k rom row s p.core cell (effect_at z rom row next (with_cell_if z cell s) p.core) h))

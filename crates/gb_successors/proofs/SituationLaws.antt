@@ -1,6 +1,6 @@
 -- What an instruction does is followed by the rules of version 3: what is known of what it reads, what its registers and pairs
 -- say of its effect, and what is known together behind it.
-use Rattle.std.proofs.Common.{◌≡◌, ℕ, ◌/◌, ◌%◌, ◌≤◌, ◌<◌, Bool, true, false, length, Option, Some, None, refl, sym, ◌∙◌, ap, subst, arith}
+use Rattle.std.proofs.Common.{◌≡◌, ℕ, ◌+◌, ◌/◌, ◌%◌, ◌≤◌, ◌<◌, Bool, true, false, length, Option, Some, None, refl, sym, ◌∙◌, ap, subst, arith}
 use Rattle.std.specs.Prelude.{IfSome}
 use Rattle.gb_ops.specs.declared.machine.Read.{Read}
 use Rattle.gb_ops.specs.declared.machine.Read.TheVariants as machine_read
@@ -71,6 +71,12 @@ use Rattle.gb_successors.proofs.SettledLaws.{HoldSummary-begun}
 use Rattle.gb_successors.proofs.RelatedLaws.{has_operands}
 use Rattle.gb_successors.proofs.SuccessorLaws.{begun_pc, begun_sp, IsWord-sp}
 use Rattle.gb_successors.proofs.Situations.{Situation, next_at, pointer_at, read_at, bits_at, known_at, word_at, transferred, effect_at, carry_at, begun_at, given_at, effect_by, IsTakenIn, next_small, related_at}
+use Rattle.std.proofs.lemmas.Bool.{and_parts}
+use Rattle.gb_ops.specs.declared.op.Register.TheVariants.{H, L}
+use Rattle.gb_product.specs.Below.gb_abs.Meaning.{is_located}
+use Rattle.gb_successors.specs.StackMark.{takes_mark, is_whole_by, is_known, marks, marked_write, marked_core, marked}
+use Rattle.gb_successors.proofs.StackMarkLaws.{Takes, takes, few_held, MeansCore-marked, HoldsWrite-marked}
+use Rattle.gb_successors.proofs.Situations.{marks_at}
 
 -- ---- addresses within a pair's bounds
 
@@ -179,9 +185,13 @@ transferred_is c k =
 
 -- ---- the effect, by pairs too
 
-pub effect_is : (c : Situation) → effect_at c ≡ refined (pointer_at c) (known_at c) (carry_at c) (transferred c)
+pub effect_is : (c : Situation) → effect_at c ≡ marked (marks_at c) c.row.op (refined (pointer_at c) (known_at c) (carry_at c) (transferred c))
 unfolding effect_in
 effect_is c = refl
+
+marked_parts : (b : Bool) (o : Op) (t : AbsEffect) → ((marked b o t).core ≡ marked_core o b t.core) × ((marked b o t).write ≡ marked_write t.write b)
+unfolding marked
+marked_parts b o t = (refl, refl)
 
 pub refined_core : (b : Option Bounds) (k : Option LowBits) (carry : Option Bool) (t : AbsEffect) → (refined b k carry t).core ≡ with_carry carry t.core
 unfolding refined
@@ -191,11 +201,13 @@ pub refined_write : (b : Option Bounds) (k : Option LowBits) (carry : Option Boo
 unfolding refined
 refined_write b k carry t = refl
 
-pub write_is : (c : Situation) → (effect_at c).write ≡ cut_write (pointer_at c) (known_at c) (transferred c).write
-write_is c = ap (λ (t : AbsEffect). t.write) (effect_is c) ∙ refined_write (pointer_at c) (known_at c) (carry_at c) (transferred c)
+pub write_is : (c : Situation) → (effect_at c).write ≡ marked_write (cut_write (pointer_at c) (known_at c) (transferred c).write) (marks_at c)
+write_is c =
+    ap (λ (t : AbsEffect). t.write) (effect_is c) ∙ ((marked_parts (marks_at c) c.row.op _).1 ∙ ap (λ w. marked_write w (marks_at c)) (refined_write (pointer_at c) (known_at c) (carry_at c) (transferred c)))
 
-pub core_is : (c : Situation) → (effect_at c).core ≡ with_carry (carry_at c) (transferred c).core
-core_is c = ap (λ (t : AbsEffect). t.core) (effect_is c) ∙ refined_core (pointer_at c) (known_at c) (carry_at c) (transferred c)
+pub core_is : (c : Situation) → (effect_at c).core ≡ marked_core c.row.op (marks_at c) (with_carry (carry_at c) (transferred c).core)
+core_is c =
+    ap (λ (t : AbsEffect). t.core) (effect_is c) ∙ ((marked_parts (marks_at c) c.row.op _).0 ∙ ap (marked_core c.row.op (marks_at c)) (refined_core (pointer_at c) (known_at c) (carry_at c) (transferred c)))
 
 carry_known : (b : Bool) → may_be (known b) b ≡ true
 carry_known true = refl
@@ -279,17 +291,29 @@ carry_given c l h k =
 registers_in : (c : Situation) → IsTakenIn c → (r : Register) → In (get r c.product.core.registers) (get r (advanced c.machine.processor c.row).registers)
 registers_in c k r = In-from (get r c.product.core.registers) c.entry (get r (begun_at c).processor.registers) (k.means.registers r)
 
+-- it gives the address of the mark, where it takes that
+takes_at : (c : Situation) (l h : ℕ) → IsTakenIn c → marks_at c ≡ true → Takes c.row.op (effect_by c l h) c.entry.mark
+unfolding marks
+takes_at c l h k e =
+    let parts = and_parts (takes_mark c.row.op c.product.core.registers (length c.state.items) c.stack.mark) (is_known c.stack c.state) e in
+    let located = (and_parts (is_whole_by c.stack.setting.rules c.stack.setting.is_whole) (is_located c.state) parts.1).1 in
+    takes c.row.op (advanced c.machine.processor c.row) l h c.product.core.registers (length c.state.items) c.stack.mark c.base c.entry.mark parts.0 k.operands
+    (subst (λ n. n < 65536) (sym (begun_sp c.row c.machine)) k.stands.means.parts.sp) (ap (λ n. n + length c.state.items) (begun_sp c.row c.machine) ∙ k.stands.means.parts.stack located)
+    (few_held c.stack.region c.base (length c.state.items) k.stands.is_region k.stands.room) k.marked (k.means.registers H).most (k.means.registers L).most
+
 -- its effect is followed, whatever of that its reads give
 pub follows : (c : Situation) (l h : ℕ) → IsTakenIn c → AreGiven c l h → Follows (effect_at c) c.entry (begun_at c) (effect_by c l h)
 follows c l h k g =
     let f = (sound_at c k).gives c.entry (begun_at c) l h k.runs (begins c l h k g) in
     record {
       core = subst (λ (s : Core). MeansCore s c.entry (record (begun_at c) { processor = (effect_by c l h).processor })) (sym (core_is c))
-          (MeansCore-carry (carry_at c) (transferred c).core c.entry (record (begun_at c) { processor = (effect_by c l h).processor }) (carry_given c l h k) f.core);
+          (MeansCore-marked c.row.op (marks_at c) _ c.entry (record (begun_at c) { processor = (effect_by c l h).processor }) (effect_by c l h) refl (λ e. (takes_at c l h k e).held)
+          (MeansCore-carry (carry_at c) (transferred c).core c.entry (record (begun_at c) { processor = (effect_by c l h).processor }) (carry_given c l h k) f.core));
       write = subst (λ w. HoldsWrite w c.entry (begun_at c).processor.sp (effect_by c l h).write) (sym (write_is c))
+          (HoldsWrite-marked _ (marks_at c) c.entry (begun_at c).processor.sp (effect_by c l h).write (λ e. (takes_at c l h k e).stored)
           (HoldsWrite-cut (pointer_at c) (known_at c) (transferred c).write c.entry (begun_at c).processor.sp (effect_by c l h).write f.write
           ((pointer_bounds_sound c.stack.setting.rules c.row.op c.product.core.registers c.product.relations.pairs _ refl).writes (advanced c.machine.processor c.row) l h (values_hold c k))
-          ((known_bits_sound c.stack.setting.rules c.stack.setting.is_whole c.row.op c.product.core.registers _ refl).writes (advanced c.machine.processor c.row) l h (bytes_begun c k) (registers_in c k)));
+          ((known_bits_sound c.stack.setting.rules c.stack.setting.is_whole c.row.op c.product.core.registers _ refl).writes (advanced c.machine.processor c.row) l h (bytes_begun c k) (registers_in c k))));
     }
 
 -- what is known together holds behind it, as far as memory is RAM

@@ -36,6 +36,8 @@ use Rattle.gb_domain.specs.declared.low_bits.LowBits.{LowBits}
 use Rattle.gb_ops.specs.Pointers.{pointer_of}
 use Rattle.gb_successors.specs.Summaries.{pointed_bits}
 use Rattle.gb_successors.specs.Sound.{Stands, IsReady}
+use Rattle.gb_successors.specs.StackMark.{marks}
+use Rattle.gb_successors.specs.Stacks.{address_below}
 use Rattle.gb_successors.specs.Way.{Successor}
 use Rattle.gb_successors.proofs.PlainLaws.{Keeps}
 use Rattle.gb_successors.proofs.SimpleLaws.{behind_row}
@@ -87,6 +89,10 @@ effect_at c = effect_in c.stack c.entry.program c.rom c.row.op (next_at c) c.sta
 abbrev pub carry_at : Situation → Option Bool
 carry_at c = known_carry c.stack.setting.rules c.row.op (sp_bounds c.stack.setting c.state) c.product.core.registers c.product.relations.pairs
 
+-- whether it takes the address of its procedure's mark
+abbrev pub marks_at : Situation → Bool
+marks_at c = marks c.stack c.row.op c.state c.product.core
+
 abbrev pub move_at : Situation → StackMove
 move_at c = taken_move c.stack c.entry.program c.rom c.row (next_at c) c.state c.product
 
@@ -127,6 +133,7 @@ pub record IsTakenIn (c : Situation) : Type 0 where
   pub extended : c.stack.setting.rules ≡ Extended
   pub operands : HasBytes c.row.op
   pub runs : c.row.op ≡ op.Stop → ⊥
+  pub marked : c.entry.mark ≡ address_below c.base c.stack.mark
   pub ready : is_meant c ≡ true → IsReady c.stack c.row.op (move_at c) c.state c.base
   pub mark : c.machine.processor.halt_mark ≡ false
   pub byte : slice_index c.reads 0 ≤ 255

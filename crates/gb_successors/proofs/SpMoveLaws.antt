@@ -17,7 +17,9 @@ use Rattle.gb_domain.specs.declared.rules.Rules.TheVariants.{Simple, Extended}
 use Rattle.gb_domain.specs.declared.types.Val.{Val}
 use Rattle.gb_domain.specs.declared.types.Core.{Core}
 use Rattle.gb_domain.specs.declared.types.Halves.{Halves}
-use Rattle.gb_domain.specs.Settings.{known_base}
+use Rattle.gb_domain.specs.Settings.{known_base, IsBase}
+use Rattle.gb_domain.specs.Areas.{IsRegion}
+use Rattle.gb_product.specs.Below.gb_abs.Stack.{AreInRegion}
 use Rattle.gb_product.specs.Below.gb_abs_effects.declared.reads.AbsRead.TheVariants as read
 use Rattle.gb_product.specs.Below.gb_abs_effects.declared.writes.AbsWrite.{AbsWrite}
 use Rattle.gb_product.specs.Below.gb_abs_effects.declared.writes.AbsWrite.TheVariants as write
@@ -31,8 +33,8 @@ use Rattle.gb_successors.specs.declared.stacks.Around.{Around}
 use Rattle.gb_successors.specs.declared.stacks.Stack.{Stack}
 use Rattle.gb_successors.specs.declared.stacks.StackMove.{StackMove}
 use Rattle.gb_successors.specs.declared.stacks.StackMove.TheVariants as move
-use Rattle.gb_successors.specs.Stacks.{bytes_to, bytes_to_if, own_bytes, main_bytes, restart_by, set_by, set_to, set_within, extended, displaced_by, push_of, behind_word, stack_move}
-use Rattle.gb_successors.proofs.AroundLaws.{either_aside, either_within, either_popped}
+use Rattle.gb_successors.specs.Stacks.{address_below, bytes_to, bytes_to_if, own_bytes, main_bytes, restart_by, set_by, set_to, set_within, extended, displaced_by, push_of, behind_word, stack_move}
+use Rattle.gb_successors.proofs.AroundLaws.{either_aside, either_within, either_back, either_popped}
 
 -- ---- what is written where SP moves
 
@@ -94,7 +96,7 @@ any_some (Some c) = tt
 pub no_push : (k : Stack) (g : Around) (o : Op) (b : Option Bounds) → IsNoPush (stack_move k g o write.Nothing b)
 unfolding stack_move
 no_push k g (op.LoadPair pair.Sp a) b = either_aside IsNoPush (set_to k.setting.rules k a) g.may_leave _ (no_push_to k.setting.rules k a) tt
-no_push k g op.LoadSpHl b = either_within IsNoPush (set_within k b) g.may_leave b (no_push_within k b) (any_some b)
+no_push k g op.LoadSpHl b = either_back IsNoPush k.setting.rules g.back _ (either_within IsNoPush (set_within k b) g.may_leave b (no_push_within k b) (any_some b)) (λ n e. tt)
 no_push k g (op.IncrementPair pair.Sp) b = no_push_extended k.setting.rules (move.Take 1) tt
 no_push k g (op.DecrementPair pair.Sp) b = no_push_extended k.setting.rules (move.Append 1) tt
 no_push k g (op.AddSp e8) b = no_push_extended k.setting.rules (displaced_by e8) (no_push_displaced e8)
@@ -169,7 +171,8 @@ no_stay k g (op.LoadPair pair.Sp a) next sp c low high b r moves quiet hl = eith
 no_stay k g (op.IncrementPair pair.Sp) next sp c low high b r moves quiet hl = no_stay_extended k.setting.rules (move.Take 1) r tt
 no_stay k g (op.DecrementPair pair.Sp) next sp c low high b r moves quiet hl = no_stay_extended k.setting.rules (move.Append 1) r tt
 no_stay k g (op.AddSp e8) next sp c low high b r moves quiet hl = no_stay_extended k.setting.rules (displaced_by e8) r (no_stay_displaced e8)
-no_stay k g op.LoadSpHl next sp c low high b r moves quiet hl = either_within IsNoStay (set_within k b) g.may_leave b (no_stay_within k b (hl refl)) (any_some b)
+no_stay k g op.LoadSpHl next sp c low high b r moves quiet hl =
+    either_back IsNoStay k.setting.rules g.back _ (either_within IsNoStay (set_within k b) g.may_leave b (no_stay_within k b (hl refl)) (any_some b)) (λ n e. tt)
 no_stay k g (op.Pop to) next sp c low high b r moves quiet hl = either_popped IsNoStay k.setting.rules g.aside tt (any_some g.aside)
 no_stay k g (op.ReturnIf condition) next sp c low high b r moves quiet hl = no_stay_extended k.setting.rules (move.Take 2) r tt
 no_stay k g op.Return next sp c low high b r moves quiet hl = no_stay_extended k.setting.rules (move.Take 2) r tt
@@ -228,79 +231,79 @@ below_by base need a n h = choose (nat_le a base && nat_le (base - a) need && na
         record { at = omega arith; few = omega arith }
     choose false e h = absurd (let bad : None ≡ Some n = h in cc)
 
--- how SP moves
-abbrev pub IsMovedTo : Stack → StackMove → ℕ → ℕ → Type 0
-IsMovedTo k (move.Push w) sp after = after ≡ (sp + 65534) % 65536
-IsMovedTo k (move.Take n) sp after = after ≡ (sp + n) % 65536
-IsMovedTo k (move.Append n) sp after = after ≡ (sp + (65536 - n)) % 65536
-IsMovedTo k (move.Set n) sp after = (b : ℕ) × (known_base k.setting ≡ Some b) × IsBelow b n after
-IsMovedTo k (move.Restart n) sp after = IsBelow (k.region.last + 1) n after
-IsMovedTo k (move.Aside b) sp after = (b.first ≤ after) × (after ≤ b.last)
-IsMovedTo k _ sp after = Unit {0}
+-- how SP moves in a procedure with this base
+abbrev pub IsMovedTo : Stack → ℕ → StackMove → ℕ → ℕ → Type 0
+IsMovedTo k base (move.Push w) sp after = after ≡ (sp + 65534) % 65536
+IsMovedTo k base (move.Take n) sp after = after ≡ (sp + n) % 65536
+IsMovedTo k base (move.Append n) sp after = after ≡ (sp + (65536 - n)) % 65536
+IsMovedTo k base (move.Set n) sp after = AreInRegion k.region base n → IsRegion k.region → IsBelow base n after
+IsMovedTo k base (move.Restart n) sp after = IsBelow (k.region.last + 1) n after
+IsMovedTo k base (move.Aside b) sp after = (b.first ≤ after) × (after ≤ b.last)
+IsMovedTo k base _ sp after = Unit {0}
 
-set_moves : (k : Stack) (a sp : ℕ) → IsMovedTo k (set_by (own_bytes k a) (main_bytes k a)) sp a
-set_moves k a sp = by (known_base k.setting) refl
+set_moves : (k : Stack) (base : ℕ) (a sp : ℕ) → IsBase k.setting base → IsMovedTo k base (set_by (own_bytes k a) (main_bytes k a)) sp a
+set_moves k base a sp right = by (known_base k.setting) refl
   where
-    by_main : (t : Bool) → (o : Option ℕ) → cond t None (bytes_to (k.region.last + 1) k.main_need a) ≡ o → IsMovedTo k (restart_by o) sp a
+    by_main : (t : Bool) → (o : Option ℕ) → cond t None (bytes_to (k.region.last + 1) k.main_need a) ≡ o → IsMovedTo k base (restart_by o) sp a
     by_main true None e = tt
     by_main true (Some n) e = absurd (let bad : None ≡ Some n = e in cc)
     by_main false None e = tt
     by_main false (Some n) e = below_by (k.region.last + 1) k.main_need a n e
 
-    by_own : (b : ℕ) → known_base k.setting ≡ Some b → (o : Option ℕ) → bytes_to b k.need a ≡ o → IsMovedTo k (set_by o (main_bytes k a)) sp a
+    by_own : (b : ℕ) → known_base k.setting ≡ Some b → (o : Option ℕ) → bytes_to b k.need a ≡ o → IsMovedTo k base (set_by o (main_bytes k a)) sp a
     by_own b e None own = by_main k.setting.is_main (main_bytes k a) refl
-    by_own b e (Some n) own = (b, e, below_by b k.need a n own)
+    by_own b e (Some n) own = λ room is. subst (λ c. IsBelow c n a) (right b e) (below_by b k.need a n own)
 
-    by : (base : Option ℕ) → known_base k.setting ≡ base → IsMovedTo k (set_by (bytes_to_if base k.need a) (main_bytes k a)) sp a
+    by : (known : Option ℕ) → known_base k.setting ≡ known → IsMovedTo k base (set_by (bytes_to_if known k.need a) (main_bytes k a)) sp a
     by None e = by_main k.setting.is_main (main_bytes k a) refl
     by (Some b) e = by_own b e (bytes_to b k.need a) refl
 
-set_to_moves : (k : Stack) (a sp : ℕ) → k.setting.rules ≡ Extended → IsMovedTo k (set_to k.setting.rules k a) sp a
-set_to_moves k a sp h = subst (λ r. IsMovedTo k (set_to r k a) sp a) (sym h) (set_moves k a sp)
+set_to_moves : (k : Stack) (base : ℕ) (a sp : ℕ) → IsBase k.setting base → k.setting.rules ≡ Extended → IsMovedTo k base (set_to k.setting.rules k a) sp a
+set_to_moves k base a sp right h = subst (λ r. IsMovedTo k base (set_to r k a) sp a) (sym h) (set_moves k base a sp right)
 
-set_within_moves : (k : Stack) (b : Option Bounds) (sp a : ℕ) → k.setting.rules ≡ Extended → WithinIf b a → IsMovedTo k (set_within k b) sp a
-set_within_moves k None sp a h w = tt
-set_within_moves k (Some b) sp a h w = choose (nat_lt b.first b.last) refl
+set_within_moves : (k : Stack) (base : ℕ) (b : Option Bounds) (sp a : ℕ) → IsBase k.setting base → k.setting.rules ≡ Extended → WithinIf b a → IsMovedTo k base (set_within k b) sp a
+set_within_moves k base None sp a right h w = tt
+set_within_moves k base (Some b) sp a right h w = choose (nat_lt b.first b.last) refl
   where
-    choose : (t : Bool) → nat_lt b.first b.last ≡ t → IsMovedTo k (cond t move.Lost (set_to k.setting.rules k b.first)) sp a
+    choose : (t : Bool) → nat_lt b.first b.last ≡ t → IsMovedTo k base (cond t move.Lost (set_to k.setting.rules k b.first)) sp a
     choose true e = tt
     choose false e =
         let least = w.least in
         let most = w.most in
         let is : b.first ≡ a = grind (arith, nat_tests) in
-        subst (λ n. IsMovedTo k (set_to k.setting.rules k n) sp a) (sym is) (set_to_moves k a sp h)
+        subst (λ n. IsMovedTo k base (set_to k.setting.rules k n) sp a) (sym is) (set_to_moves k base a sp right h)
 
-extended_moves : (k : Stack) (m : StackMove) (sp a : ℕ) → k.setting.rules ≡ Extended → IsMovedTo k m sp a → IsMovedTo k (extended k.setting.rules m) sp a
-extended_moves k m sp a h is = subst (λ n. IsMovedTo k n sp a) (sym (extended_is k.setting.rules m h)) is
+extended_moves : (k : Stack) (base : ℕ) (m : StackMove) (sp a : ℕ) → k.setting.rules ≡ Extended → IsMovedTo k base m sp a → IsMovedTo k base (extended k.setting.rules m) sp a
+extended_moves k base m sp a h is = subst (λ n. IsMovedTo k base n sp a) (sym (extended_is k.setting.rules m h)) is
 
-displaced_moves : (k : Stack) (e8 sp : ℕ) → e8 < 256 → IsMovedTo k (displaced_by e8) sp (displaced sp e8)
+displaced_moves : (k : Stack) (base : ℕ) (e8 sp : ℕ) → e8 < 256 → IsMovedTo k base (displaced_by e8) sp (displaced sp e8)
 unfolding displaced
-displaced_moves k e8 sp small = choose (nat_lt e8 128) refl
+displaced_moves k base e8 sp small = choose (nat_lt e8 128) refl
   where
-    choose : (t : Bool) → nat_lt e8 128 ≡ t → IsMovedTo k (cond t (move.Take e8) (move.Append (256 - e8))) sp ((sp + cond t e8 (e8 + 65280)) % 65536)
+    choose : (t : Bool) → nat_lt e8 128 ≡ t → IsMovedTo k base (cond t (move.Take e8) (move.Append (256 - e8))) sp ((sp + cond t e8 (e8 + 65280)) % 65536)
     choose true e = refl
     choose false e = let same : e8 + 65280 ≡ 65536 - (256 - e8) = omega arith in ap (λ n. (sp + n) % 65536) same
 
-only_if-moves : (k : Stack) (m : StackMove) (sp : ℕ) (t : Bool) (e : Effect) (p : Processor) → (Effects.only_if t e p).is_taken ≡ true → IsMovedTo k m sp e.processor.sp → IsMovedTo k m sp (Effects.only_if t e p).processor.sp
+only_if-moves : (k : Stack) (base : ℕ) (m : StackMove) (sp : ℕ) (t : Bool) (e : Effect) (p : Processor) → (Effects.only_if t e p).is_taken ≡ true → IsMovedTo k base m sp e.processor.sp → IsMovedTo k base m sp (Effects.only_if t e p).processor.sp
 unfolding Effects.only_if
-only_if-moves k m sp true e p taken h = h
-only_if-moves k m sp false e p taken h = cc
+only_if-moves k base m sp true e p taken h = h
+only_if-moves k base m sp false e p taken h = cc
 
-pushes_move : (k : Stack) (w : AbsWrite) (sp : ℕ) → IsMovedTo k (push_of w) sp ((sp + 65534) % 65536)
-pushes_move k (write.Push high low) sp = refl
-pushes_move k write.Nothing sp = tt
-pushes_move k (write.Byte span v) sp = tt
-pushes_move k (write.Word a low high) sp = tt
+pushes_move : (k : Stack) (base : ℕ) (w : AbsWrite) (sp : ℕ) → IsMovedTo k base (push_of w) sp ((sp + 65534) % 65536)
+pushes_move k base (write.Push high low) sp = refl
+pushes_move k base write.Nothing sp = tt
+pushes_move k base (write.Byte span v) sp = tt
+pushes_move k base (write.Word a low high) sp = tt
 
 -- SP is put aside where HL is
-within_moves : (k : Stack) (b : Option Bounds) (sp a : ℕ) → WithinIf b a → IfSome b (λ c. IsMovedTo k (move.Aside c) sp a)
-within_moves k None sp a h = tt
-within_moves k (Some b) sp a h = (h.least, h.most)
+within_moves : (k : Stack) (base : ℕ) (b : Option Bounds) (sp a : ℕ) → WithinIf b a → IfSome b (λ c. IsMovedTo k base (move.Aside c) sp a)
+within_moves k base None sp a h = tt
+within_moves k base (Some b) sp a h = (h.least, h.most)
 
 -- put aside, it passes a word
-popped_within : (k : Stack) (o : Option Bounds) (sp : ℕ) → sp < 65536 → IsSpWithin o sp → IfSome o (λ c. IsMovedTo k (move.Aside (behind_word c)) sp ((sp + 2) % 65536))
-popped_within k None sp small h = tt
-popped_within k (Some b) sp small h = by (nat_lt b.first 0xFFFE && nat_lt b.last 0xFFFE) refl
+popped_within : (k : Stack) (base : ℕ) (o : Option Bounds) (sp : ℕ) → sp < 65536 → IsSpWithin o sp → IfSome o (λ c. IsMovedTo k base (move.Aside (behind_word c)) sp ((sp + 2) % 65536))
+popped_within k base None sp small h = tt
+popped_within k base (Some b) sp small h = by (nat_lt b.first 0xFFFE && nat_lt b.last 0xFFFE) refl
   where
     by :
         (t : Bool) → (nat_lt b.first 0xFFFE && nat_lt b.last 0xFFFE) ≡ t
@@ -316,26 +319,30 @@ popped_within k (Some b) sp small h = by (nat_lt b.first 0xFFFE && nat_lt b.last
 
 -- the machine's SP moves as it is said, where HL lies within the bounds
 pub sp_moves :
-    (k : Stack) (g : Around) (o : Op) (w : AbsWrite) (b : Option Bounds) (p : Processor) (l h : ℕ) → k.setting.rules ≡ Extended → HasBytes o
-    → p.sp < 65536 → IsSpWithin g.aside p.sp
+    (k : Stack) (base : ℕ) (g : Around) (o : Op) (w : AbsWrite) (b : Option Bounds) (p : Processor) (l h : ℕ) → k.setting.rules ≡ Extended → HasBytes o
+    → p.sp < 65536 → IsSpWithin g.aside p.sp → IsBase k.setting base
     → (Effects.effect_of o p l h).is_taken ≡ true → (o ≡ op.LoadSpHl → WithinIf b (Effects.hl p))
-    → IsMovedTo k (stack_move k g o w b) p.sp (Effects.effect_of o p l h).processor.sp
+    → ((n : ℕ) → g.back ≡ Some n → IsMovedTo k base (move.Set n) p.sp (Effects.hl p))
+    → IsMovedTo k base (stack_move k g o w b) p.sp (Effects.effect_of o p l h).processor.sp
 unfolding stack_move Effects.effect_of Effects.push Effects.call Effects.return_to with_pair pair_value
-sp_moves k g (op.LoadPair pair.Sp a) w b p l h r bytes small aside taken hl = either_aside (λ m. IsMovedTo k m p.sp a) (set_to k.setting.rules k a) g.may_leave _ (set_to_moves k a p.sp r) (omega arith, omega arith)
-sp_moves k g op.LoadSpHl w b p l h r bytes small aside taken hl = either_within (λ m. IsMovedTo k m p.sp (Effects.hl p)) (set_within k b) g.may_leave b (set_within_moves k b p.sp _ r (hl refl)) (within_moves k b p.sp (Effects.hl p) (hl refl))
-sp_moves k g (op.Push from) (write.Push high low) b p l h r bytes small aside taken hl = refl
-sp_moves k g (op.Push from) write.Nothing b p l h r bytes small aside taken hl = tt
-sp_moves k g (op.Push from) (write.Byte span v) b p l h r bytes small aside taken hl = tt
-sp_moves k g (op.Push from) (write.Word a low high) b p l h r bytes small aside taken hl = tt
-sp_moves k g (op.Pop to) w b p l h r bytes small aside taken hl =
-    either_popped (λ m. IsMovedTo k m p.sp ((p.sp + 2) % 65536)) k.setting.rules g.aside refl (popped_within k g.aside p.sp small aside)
-sp_moves k g (op.IncrementPair pair.Sp) w b p l h r bytes small aside taken hl = extended_moves k (move.Take 1) p.sp _ r refl
-sp_moves k g (op.DecrementPair pair.Sp) w b p l h r bytes small aside taken hl = extended_moves k (move.Append 1) p.sp _ r refl
-sp_moves k g (op.AddSp e8) w b p l h r bytes small aside taken hl = extended_moves k (displaced_by e8) p.sp _ r (displaced_moves k e8 p.sp bytes)
-sp_moves k g (op.CallIf condition a) w b p l h r bytes small aside taken hl = extended_moves k (push_of w) p.sp _ r (only_if-moves k (push_of w) p.sp _ (Effects.call p a) p taken (pushes_move k w p.sp))
-sp_moves k g (op.Call a) w b p l h r bytes small aside taken hl = extended_moves k (push_of w) p.sp _ r (pushes_move k w p.sp)
-sp_moves k g (op.Restart a) w b p l h r bytes small aside taken hl = extended_moves k (push_of w) p.sp _ r (pushes_move k w p.sp)
-sp_moves k g (op.ReturnIf condition) w b p l h r bytes small aside taken hl = extended_moves k (move.Take 2) p.sp _ r (only_if-moves k (move.Take 2) p.sp _ (Effects.return_to p l h) p taken refl)
-sp_moves k g op.Return w b p l h r bytes small aside taken hl = extended_moves k (move.Take 2) p.sp _ r refl
-sp_moves k g op.ReturnFromInterrupt w b p l h r bytes small aside taken hl = extended_moves k (move.Take 2) p.sp _ r refl
-sp_moves k g o w b p l h r bytes small aside taken hl = tt
+sp_moves k base g (op.LoadPair pair.Sp a) w b p l h r bytes small aside right taken hl back = either_aside (λ m. IsMovedTo k base m p.sp a) (set_to k.setting.rules k a) g.may_leave _ (set_to_moves k base a p.sp right r) (omega arith, omega arith)
+sp_moves k base g op.LoadSpHl w b p l h r bytes small aside right taken hl back =
+    either_back (λ m. IsMovedTo k base m p.sp (Effects.hl p)) k.setting.rules g.back _
+    (either_within (λ m. IsMovedTo k base m p.sp (Effects.hl p)) (set_within k b) g.may_leave b (set_within_moves k base b p.sp _ right r (hl refl)) (within_moves k base b p.sp (Effects.hl p) (hl refl)))
+    back
+sp_moves k base g (op.Push from) (write.Push high low) b p l h r bytes small aside right taken hl back = refl
+sp_moves k base g (op.Push from) write.Nothing b p l h r bytes small aside right taken hl back = tt
+sp_moves k base g (op.Push from) (write.Byte span v) b p l h r bytes small aside right taken hl back = tt
+sp_moves k base g (op.Push from) (write.Word a low high) b p l h r bytes small aside right taken hl back = tt
+sp_moves k base g (op.Pop to) w b p l h r bytes small aside right taken hl back =
+    either_popped (λ m. IsMovedTo k base m p.sp ((p.sp + 2) % 65536)) k.setting.rules g.aside refl (popped_within k base g.aside p.sp small aside)
+sp_moves k base g (op.IncrementPair pair.Sp) w b p l h r bytes small aside right taken hl back = extended_moves k base (move.Take 1) p.sp _ r refl
+sp_moves k base g (op.DecrementPair pair.Sp) w b p l h r bytes small aside right taken hl back = extended_moves k base (move.Append 1) p.sp _ r refl
+sp_moves k base g (op.AddSp e8) w b p l h r bytes small aside right taken hl back = extended_moves k base (displaced_by e8) p.sp _ r (displaced_moves k base e8 p.sp bytes)
+sp_moves k base g (op.CallIf condition a) w b p l h r bytes small aside right taken hl back = extended_moves k base (push_of w) p.sp _ r (only_if-moves k base (push_of w) p.sp _ (Effects.call p a) p taken (pushes_move k base w p.sp))
+sp_moves k base g (op.Call a) w b p l h r bytes small aside right taken hl back = extended_moves k base (push_of w) p.sp _ r (pushes_move k base w p.sp)
+sp_moves k base g (op.Restart a) w b p l h r bytes small aside right taken hl back = extended_moves k base (push_of w) p.sp _ r (pushes_move k base w p.sp)
+sp_moves k base g (op.ReturnIf condition) w b p l h r bytes small aside right taken hl back = extended_moves k base (move.Take 2) p.sp _ r (only_if-moves k base (move.Take 2) p.sp _ (Effects.return_to p l h) p taken refl)
+sp_moves k base g op.Return w b p l h r bytes small aside right taken hl back = extended_moves k base (move.Take 2) p.sp _ r refl
+sp_moves k base g op.ReturnFromInterrupt w b p l h r bytes small aside right taken hl back = extended_moves k base (move.Take 2) p.sp _ r refl
+sp_moves k base g o w b p l h r bytes small aside right taken hl back = tt

@@ -148,13 +148,14 @@ unfolding resized
 same_resized n s = refl
 
 pub set_own :
-    (k : Stack) (n : ℕ) (s : AbsState) (core : Core) (entry : Activation) (base : ℕ) (x : MState) (p : Processor) → k.setting.rules ≡ Extended → IsBase k.setting base
-    → MeansParts s entry base x → MeansCore core entry (record x { processor = p }) → AreInRegion k.region base n → IsRegion k.region → IsMovedTo k (move.Set n) x.processor.sp p.sp
+    (k : Stack) (n : ℕ) (s : AbsState) (core : Core) (entry : Activation) (base : ℕ) (x : MState) (p : Processor) → k.setting.rules ≡ Extended
+    → MeansParts s entry base x → MeansCore core entry (record x { processor = p }) → AreInRegion k.region base n → IsRegion k.region → IsMovedTo k base (move.Set n) x.processor.sp p.sp
     → IsMoved k.region (move.Set n) s (with_core (with_stack_moved k.setting (move.Set n) s) (moved_core (move.Set n) core)) entry base (record x { processor = p })
 unfolding with_stack_moved moved_core
-set_own k n s core entry base x p extended right m c room is to =
-    subst (λ (t : AbsState). IsMoved k.region (move.Set n) s (with_core t (core_set core)) entry base (record x { processor = p })) (sym (set-if_room k.setting n (with_aside None s) extended to.2.few ∙ same_resized n s))
-    (set_below k.region n s core entry base x p m c room is (to.2.at ∙ ap (λ b. b - n) (right to.0 to.1)))
+set_own k n s core entry base x p extended m c room is to =
+    let below = to room is in
+    subst (λ (t : AbsState). IsMoved k.region (move.Set n) s (with_core t (core_set core)) entry base (record x { processor = p })) (sym (set-if_room k.setting n (with_aside None s) extended below.few ∙ same_resized n s))
+    (set_below k.region n s core entry base x p m c room is below.at)
 
 -- ---- SP is put aside
 
@@ -210,7 +211,7 @@ same_forgotten n s core = refl
 pub set_anew :
     (k : Stack) (n : ℕ) (s : AbsState) (core : Core) (entry other : Activation) (base : ℕ) (x : MState) (p : Processor) → other.program ≡ entry.program → k.setting.rules ≡ Extended
     → MeansParts s entry base x → MeansCore core entry (record x { processor = p }) → AreInRegion k.region (k.region.last + 1) n → IsRegion k.region
-    → IsMovedTo k (move.Restart n) x.processor.sp p.sp
+    → IsMovedTo k base (move.Restart n) x.processor.sp p.sp
     → IsMoved k.region (move.Restart n) s (with_core (with_stack_moved k.setting (move.Restart n) s) (moved_core (move.Restart n) core)) other (k.region.last + 1) (record x { processor = p })
 unfolding with_stack_moved moved_core
 set_anew k n s core entry other base x p same extended m c room is to =

@@ -84,6 +84,7 @@ use Rattle.gb_successors.proofs.UntakenLaws.{ended_room, bytes_ended, leads_at, 
 use Rattle.gb_successors.proofs.StackWayLaws.{taken_executes}
 use Rattle.gb_product.proofs.ReducedLaws.{Holds-values}
 use Rattle.gb_product.specs.Below.gb_relations.Transfer.{values_of}
+use Rattle.gb_successors.specs.Stacks.{address_below}
 
 -- ---- executed
 
@@ -422,29 +423,29 @@ halt_repeats_simply k program rom row a s ranges entry base x simple stands halt
 
 executes :
     (k : Stack) (program : Program) (rom : List ℕ) (row : Row) (a : ℕ) (s : AbsState) (ranges : List Range) (entry : Activation) (base : ℕ) (x : MState) (reads : List ℕ)
-    → entry.program ≡ program → Stands k.setting rom k.region row a s entry base x → IsRuled k program rom row a s base → x.processor.halt_mark ≡ false → slice_index reads 0 ≤ 255 → slice_index reads 1 ≤ 255
+    → entry.program ≡ program → entry.mark ≡ address_below base k.mark → Stands k.setting rom k.region row a s entry base x → IsRuled k program rom row a s base → x.processor.halt_mark ≡ false → slice_index reads 0 ≤ 255 → slice_index reads 1 ≤ 255
     → Executes k program rom ranges row a s (successors_of k program rom row a s) entry base x reads
-executes k program rom row a s ranges entry base x reads of stands ruled mark byte second = by k.setting.rules refl
+executes k program rom row a s ranges entry base x reads of marked stands ruled mark byte second = by k.setting.rules refl
   where
     by : (r : Rules) → k.setting.rules ≡ r → Executes k program rom ranges row a s (successors_of k program rom row a s) entry base x reads
     by Simple e = executes_simply k program rom row a s ranges entry base x reads e of stands ruled mark byte
-    by Extended e = executes_widely k program rom row a s ranges entry base x reads e of stands ruled mark byte second
+    by Extended e = executes_widely k program rom row a s ranges entry base x reads e of marked stands ruled mark byte second
 
 halt_repeats :
     (k : Stack) (program : Program) (rom : List ℕ) (row : Row) (a : ℕ) (s : AbsState) (ranges : List Range) (entry : Activation) (base : ℕ) (x : MState)
-    → entry.program ≡ program → Stands k.setting rom k.region row a s entry base x → IsHalt row → x.processor.ime ≡ ime.Off → x.processor.halt_mark ≡ false
+    → entry.program ≡ program → entry.mark ≡ address_below base k.mark → Stands k.setting rom k.region row a s entry base x → IsHalt row → x.processor.ime ≡ ime.Off → x.processor.halt_mark ≡ false
     → LeadsBy k.setting k.region ranges (length s.items) (successors_of k program rom row a s).taken entry base x (outside (halt_bug (within rom x)))
-halt_repeats k program rom row a s ranges entry base x of stands halt off mark = by k.setting.rules refl
+halt_repeats k program rom row a s ranges entry base x of marked stands halt off mark = by k.setting.rules refl
   where
     by : (r : Rules) → k.setting.rules ≡ r → LeadsBy k.setting k.region ranges (length s.items) (successors_of k program rom row a s).taken entry base x (outside (halt_bug (within rom x)))
     by Simple e = halt_repeats_simply k program rom row a s ranges entry base x e stands halt off mark
-    by Extended e = halt_repeats_widely k program rom row a s ranges entry base x e of stands halt off mark
+    by Extended e = halt_repeats_widely k program rom row a s ranges entry base x e of marked stands halt off mark
 
 pub successors_of_sound : (k : Stack) (program : Program) (rom : List ℕ) (row : Row) (a : ℕ) (s : AbsState) (ss : Successors) → ss ≡ successors_of k program rom row a s → AreSoundSuccessors k program rom row a s ss
 successors_of_sound k program rom row a s ss e =
     subst (AreSoundSuccessors k program rom row a s) (sym e)
     (record {
-      executes = λ ranges entry base x reads of stands ruled mark byte second. executes k program rom row a s ranges entry base x reads of stands ruled mark byte second;
+      executes = λ ranges entry base x reads of marked stands ruled mark byte second. executes k program rom row a s ranges entry base x reads of marked stands ruled mark byte second;
       stays = λ ranges entry base x of stands halt pending enabled. halt_stays k program rom row a s ranges entry base x stands halt pending enabled;
-      repeats = λ ranges entry base x of stands halt off mark. halt_repeats k program rom row a s ranges entry base x of stands halt off mark;
+      repeats = λ ranges entry base x of marked stands halt off mark. halt_repeats k program rom row a s ranges entry base x of marked stands halt off mark;
     })

@@ -3,6 +3,7 @@ pub mod Code
 pub mod Fetched
 pub mod Places
 pub mod Programs
+pub mod StackMark
 pub mod Refined
 pub mod Loads
 pub mod Behind

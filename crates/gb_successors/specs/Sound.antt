@@ -44,6 +44,7 @@ use Rattle.gb_successors.specs.declared.stacks.Stack.{Stack}
 use Rattle.gb_successors.specs.declared.stacks.StackMove.{StackMove}
 use Rattle.gb_successors.specs.declared.stacks.StackMove.TheVariants as move
 use Rattle.gb_successors.specs.Successors.{taken_move, product_before, successors_of}
+use Rattle.gb_successors.specs.Stacks.{address_below}
 use Rattle.gb_successors.specs.Summaries.{enables_interrupts}
 use Rattle.gb_successors.specs.Way.{Successor}
 use Rattle.gb_successors.specs.declared.successors.Successors.{Successors}
@@ -313,7 +314,7 @@ pub record IsHalt (row : Row) : Type 0 where
 pub record AreSoundSuccessors (k : Stack) (program : Program) (rom : List ℕ) (row : Row) (a : ℕ) (s : AbsState) (ss : Successors) : Type 0 where
   pub executes :
       (ranges : List Range) (entry : Activation) (base : ℕ) (x : MState) (reads : List ℕ)
-      → entry.program ≡ program → Stands k.setting rom k.region row a s entry base x → IsRuled k program rom row a s base → x.processor.halt_mark ≡ false → slice_index reads 0 ≤ 255 → slice_index reads 1 ≤ 255
+      → entry.program ≡ program → entry.mark ≡ address_below base k.mark → Stands k.setting rom k.region row a s entry base x → IsRuled k program rom row a s base → x.processor.halt_mark ≡ false → slice_index reads 0 ≤ 255 → slice_index reads 1 ≤ 255
       → Executes k program rom ranges row a s ss entry base x reads
   pub stays :
       (ranges : List Range) (entry : Activation) (base : ℕ) (x : MState)
@@ -321,5 +322,5 @@ pub record AreSoundSuccessors (k : Stack) (program : Program) (rom : List ℕ) (
       → LeadsBy k.setting k.region ranges (length s.items) ss.stays entry base x (outside (halt_stay (within rom x)))
   pub repeats :
       (ranges : List Range) (entry : Activation) (base : ℕ) (x : MState)
-      → entry.program ≡ program → Stands k.setting rom k.region row a s entry base x → IsHalt row → x.processor.ime ≡ ime.Off → x.processor.halt_mark ≡ false
+      → entry.program ≡ program → entry.mark ≡ address_below base k.mark → Stands k.setting rom k.region row a s entry base x → IsHalt row → x.processor.ime ≡ ime.Off → x.processor.halt_mark ≡ false
       → LeadsBy k.setting k.region ranges (length s.items) ss.taken entry base x (outside (halt_bug (within rom x)))

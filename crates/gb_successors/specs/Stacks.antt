@@ -1,19 +1,22 @@
 -- What an instruction does to the stack (CPU instruction set: stack manipulation instructions; own rules: SP, version 3).
-use Rattle.std.specs.Prelude.{ℕ, ◌+◌, ◌-◌, Bool, true, not, ◌&&◌, if◌then◌else◌, nat_lt, nat_le, [], map, length, Option, Some, None}
+use Rattle.std.specs.Prelude.{ℕ, ◌+◌, ◌-◌, ◌%◌, Bool, true, not, ◌&&◌, if◌then◌else◌, nat_lt, nat_le, [], map, length, Option, Some, None}
 use Rattle.gb_ops.specs.declared.op.Pair.TheVariants as pair
 use Rattle.gb_ops.specs.declared.op.Op.{Op}
 use Rattle.gb_ops.specs.declared.op.Op.TheVariants as op
+use Rattle.gb_ops.specs.declared.registers.Registers.{Registers}
 use Rattle.gb_domain.specs.declared.pairs.Bounds.{Bounds}
 use Rattle.gb_domain.specs.declared.rules.Rules.{Rules}
 use Rattle.gb_domain.specs.declared.rules.Rules.TheVariants.{Simple, Extended}
 use Rattle.gb_domain.specs.declared.setting.Setting.{Setting}
 use Rattle.gb_domain.specs.declared.types.Core.{Core}
 use Rattle.gb_domain.specs.declared.types.Halves.{Halves}
+use Rattle.gb_domain.specs.declared.types.Origin.TheVariants.{MarkHigh, MarkLow}
+use Rattle.gb_domain.specs.declared.types.Val.{Val}
 use Rattle.gb_domain.specs.Types.{AbsState}
 use Rattle.gb_domain.specs.Limits.{item_room}
 use Rattle.gb_domain.specs.Settings.{known_base}
 use Rattle.gb_product.specs.Below.gb_abs.Bytes.{without_newest, with_any_bytes, resized}
-use Rattle.gb_product.specs.Below.gb_abs.Origins.{core_without_origins, cell_without_origin}
+use Rattle.gb_product.specs.Below.gb_abs.Origins.{is_own, core_without_origins, cell_without_origin}
 use Rattle.gb_product.specs.Below.gb_abs.Stack.{pushed}
 use Rattle.gb_product.specs.Below.gb_abs_effects.declared.writes.AbsWrite.{AbsWrite}
 use Rattle.gb_product.specs.Below.gb_abs_effects.declared.writes.AbsWrite.TheVariants as write
@@ -61,9 +64,28 @@ set_to Extended k a = set_by (own_bytes k a) (main_bytes k a)
 abbrev pub is_off_alone : ImeSet → Bool
 is_off_alone i = i.off && (not i.pending && not i.on)
 
--- where SP is put aside before an instruction, and whether it may be behind it: the stack is set, and interrupts are off
-unfoldable pub around_of : Setting → AbsState → Around
-around_of z s = record { aside = s.summary.aside; may_leave = z.is_whole && (s.core.stack_set && is_off_alone s.core.ime) }
+-- the address so many bytes below a base
+abbrev pub address_below : ℕ → ℕ → ℕ
+address_below base n = (base + (65536 - n)) % 65536
+
+-- HL is the address of the mark
+abbrev pub is_mark : Registers Val → Bool
+is_mark r = is_own MarkHigh r.h && is_own MarkLow r.l
+
+-- how many bytes are held where SP comes back to the mark, by HL: the stack is set, and the procedure may hold them
+abbrev pub held_at_mark : Stack → Core → Option ℕ
+held_at_mark k core =
+    if core.stack_set && (is_mark core.registers && (nat_le k.mark k.need && nat_le k.mark 255)) then Some k.mark else None
+
+-- where SP is put aside before an instruction, whether it may be behind it: the stack is set, and interrupts are off; and whether
+-- HL, with what is known before it, is where SP comes back to
+unfoldable pub around_of : Stack → AbsState → Core → Around
+around_of k s core =
+    record {
+      aside = s.summary.aside;
+      may_leave = k.setting.is_whole && (s.core.stack_set && is_off_alone s.core.ime);
+      back = if k.setting.is_whole then held_at_mark k core else None;
+    }
 
 -- where SP would be lost within bounds, it is put aside there
 abbrev pub aside_if : StackMove → Bool → Bounds → StackMove
@@ -73,6 +95,11 @@ aside_if m may b = m
 abbrev pub aside_within : StackMove → Bool → Option Bounds → StackMove
 aside_within m may None = m
 aside_within m may (Some b) = aside_if m may b
+
+-- by the rules of version 4 SP comes back to where so many bytes are held
+abbrev pub back_or : Rules → Option ℕ → StackMove → StackMove
+back_or Extended (Some n) m = move.Set n
+back_or rules back m = m
 
 -- behind a word at an address within bounds
 abbrev pub behind_word : Bounds → Bounds
@@ -108,7 +135,7 @@ push_of _ = move.Stay
 -- versions 1 and 2 a return address belongs to the callee, and SP is what PUSH, POP and LD SP,n16 make of it.
 unfoldable pub stack_move : Stack → Around → Op → AbsWrite → Option Bounds → StackMove
 stack_move k g (op.LoadPair pair.Sp w) what hl = aside_if (set_to k.setting.rules k w) g.may_leave (record { first = w; last = w })
-stack_move k g op.LoadSpHl what hl = aside_within (set_within k hl) g.may_leave hl
+stack_move k g op.LoadSpHl what hl = back_or k.setting.rules g.back (aside_within (set_within k hl) g.may_leave hl)
 stack_move k g (op.Push from) what hl = push_of what
 stack_move k g (op.Pop to) what hl = popped_by k.setting.rules g.aside
 stack_move k g (op.IncrementPair pair.Sp) what hl = extended k.setting.rules (move.Take 1)

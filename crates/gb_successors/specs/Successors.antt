@@ -37,6 +37,7 @@ use Rattle.gb_product.specs.Below.gb_relations.PointedBits.{known_bits}
 use Rattle.gb_product.specs.Below.gb_relations.Pointers.{pointer_bounds, known_carry}
 use Rattle.gb_product.specs.Below.gb_relations.Transfer.{relations_after, values_of}
 use Rattle.gb_successors.specs.Behind.{ended, with_relations, with_summary, with_cell_if, moved_state, core_behind}
+use Rattle.gb_successors.specs.StackMark.{marks, marked}
 use Rattle.gb_successors.specs.Refined.{cut_read, read_around, refined, refined_target}
 use Rattle.gb_successors.specs.Stacks.{around_of, stack_move}
 use Rattle.gb_successors.specs.Loads.{word_by}
@@ -67,19 +68,20 @@ word_in k program rom o s p =
 unfoldable pub effect_in : Stack → Program → List ℕ → Op → ℕ → AbsState → Product → AbsEffect
 effect_in k program rom o next s p =
     let word = word_in k program rom o s p in
-    refined (pointer_in k o p) (bits_in k o p) (known_carry k.setting.rules o (sp_bounds k.setting s) p.core.registers p.relations.pairs)
-    (transfer k.setting.is_whole o next (sp_halves k.setting s) p.core word.low word.high)
+    marked (marks k o s p.core) o
+    (refined (pointer_in k o p) (bits_in k o p) (known_carry k.setting.rules o (sp_bounds k.setting s) p.core.registers p.relations.pairs)
+    (transfer k.setting.is_whole o next (sp_halves k.setting s) p.core word.low word.high))
 
 -- what that does to the stack
 unfoldable pub taken_move : Stack → Program → List ℕ → Row → ℕ → AbsState → Product → StackMove
-taken_move k program rom row next s p = stack_move k (around_of k.setting s) row.op (effect_in k program rom row.op next s p).write (pointer_in k row.op p)
+taken_move k program rom row next s p = stack_move k (around_of k s p.core) row.op (effect_in k program rom row.op next s p).write (pointer_in k row.op p)
 
 -- The instruction is taken, with the core and what is known together p, which are settled, and a cell that its condition
 -- tells; next is the address behind it; each part by itself.
 unfoldable pub taken_parts : Stack → Program → List ℕ → Row → ℕ → AbsState → Product → Option Cell → Successor
 taken_parts k program rom row next s p cell =
     let effect = effect_in k program rom row.op next s p in
-    let m = stack_move k (around_of k.setting s) row.op effect.write (pointer_in k row.op p) in
+    let m = stack_move k (around_of k s p.core) row.op effect.write (pointer_in k row.op p) in
     record {
       read = read_in k row.op s p;
       write = effect.write;

@@ -14,6 +14,7 @@ mod loads;
 mod refined;
 pub mod refused;
 mod said;
+mod stack_mark;
 pub mod stacks;
 pub mod successor;
 pub mod successors;

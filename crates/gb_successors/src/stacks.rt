@@ -3,16 +3,20 @@
 ghost use Rattle.std.specs.Prelude.{◌≡◌, Some, None};
 ghost use Rattle.gb_domain.specs.declared.rules.Rules.TheVariants.{Extended};
 ghost use Rattle.gb_product.specs.Below.gb_abs.Bytes as Bytes;
+ghost use Rattle.gb_product.specs.Below.gb_abs.Meaning as Located;
 ghost use Rattle.gb_product.specs.Below.gb_abs.Origins as Origins;
 ghost use Rattle.gb_successors.specs.Stacks as Stacks;
 
 use arrayvec::ArrayVec;
 use gb_domain::pairs::{ANY_BOUNDS, Bounds};
 use gb_domain::summary::Summary;
-use gb_domain::types::{Abs, Core, Halves, ImeSet, Rules, Setting};
+use gb_domain::types::{Abs, Core, Halves, ImeSet, Origin, Rules, Setting, Val};
 use gb_ops::machine::Region;
 use gb_ops::op::{Op, Pair};
-use gb_product::{AbsWrite, append_bytes, cells_without_origins, core_without_origins, resize};
+use gb_ops::registers::Registers;
+use gb_product::{
+    AbsWrite, append_bytes, cells_without_origins, core_without_origins, is_own, resize,
+};
 
 /// Where the states of a procedure stand, and how much it may have on the stack.
 #[derive(Clone, Copy)]
@@ -24,6 +28,8 @@ pub struct Stack {
     pub need: u16,
     /// The bytes that main may have there.
     pub main_need: u16,
+    /// How many bytes below its base the procedure puts its stack aside (version 4).
+    pub mark: u8,
 }
 
 /// What an instruction does to the stack.
@@ -54,6 +60,8 @@ pub struct Around {
     pub aside: Option<Bounds>,
     /// Whether SP may be put aside: the stack is set, and interrupts are off (version 4).
     pub may_leave: bool,
+    /// How many bytes are held where SP comes back, if HL is the mark's address (version 4).
+    pub back: Option<u8>,
 }
 
 fn is_off_alone(ime: ImeSet) -> bool
@@ -62,15 +70,50 @@ fn is_off_alone(ime: ImeSet) -> bool
     ime.off && !ime.pending && !ime.on
 }
 
-/// Where the stack is put aside, and may be.
-#[tactic(auto, unfolding(crate::specs::Stacks::around_of))]
-pub fn around_of(setting: Setting, state: &Abs) -> Around
-    ensures { result ≡ Stacks.around_of setting state.now }
+/// Whether SP stands where the items end.
+pub fn is_located(state: &Abs) -> bool
+    ensures { result ≡ Located.is_located state.now }
 {
-    let core = state.core();
+    match state.summary().aside() {
+        None => state.core().stack_set,
+        Some(_) => false,
+    }
+}
+
+/// Whether HL is the address of the mark.
+fn is_mark(registers: &Registers<Val>) -> bool
+    ensures { result ≡ Stacks.is_mark registers.now }
+{
+    is_own(Origin::MarkHigh, registers.h) && is_own(Origin::MarkLow, registers.l)
+}
+
+/// How many bytes are held where SP comes back to the mark, by HL: the stack is set, and the procedure may hold them.
+fn held_at_mark(stack: Stack, core: &Core) -> Option<u8>
+    ensures { result ≡ Stacks.held_at_mark stack core.now }
+{
+    if core.stack_set && is_mark(&core.registers) && u16::from(stack.mark) <= stack.need {
+        Some(stack.mark)
+    } else {
+        None
+    }
+}
+
+/// Where the stack is put aside in the states, whether it may be, and whether HL is where SP comes back to: the core is what is
+/// known before the instruction.
+#[tactic(auto, unfolding(crate::specs::Stacks::around_of))]
+pub fn around_of(stack: Stack, state: &Abs, core: &Core) -> Around
+    ensures { result ≡ Stacks.around_of stack state.now core.now }
+{
+    let before = state.core();
+    let is_whole = stack.setting.is_whole;
     Around {
         aside: state.summary().aside(),
-        may_leave: setting.is_whole && core.stack_set && is_off_alone(core.ime),
+        may_leave: is_whole && before.stack_set && is_off_alone(before.ime),
+        back: if is_whole {
+            held_at_mark(stack, core)
+        } else {
+            None
+        },
     }
 }
 
@@ -102,6 +145,16 @@ fn aside_within(stack_move: StackMove, may_leave: bool, bounds: Option<Bounds>) 
     match bounds {
         None => stack_move,
         Some(bounds) => aside_if(stack_move, may_leave, bounds),
+    }
+}
+
+/// By the rules of version 4 SP comes back to where so many bytes are held.
+fn back_or(rules: Rules, back: Option<u8>, stack_move: StackMove) -> StackMove
+    ensures { result ≡ Stacks.back_or rules back stack_move }
+{
+    match (rules, back) {
+        (Rules::Extended, Some(count)) => StackMove::Set(count),
+        _ => stack_move,
     }
 }
 
@@ -259,7 +312,10 @@ pub fn stack_move(
             };
             aside_if(set_to(stack, address), around.may_leave, bounds)
         }
-        Op::LoadSpHl => aside_within(set_within(stack, hl), around.may_leave, hl),
+        Op::LoadSpHl => {
+            let forward = aside_within(set_within(stack, hl), around.may_leave, hl);
+            back_or(rules, around.back, forward)
+        }
         Op::Push(_) => push_of(write),
         Op::Pop(_) => popped_by(rules, around.aside),
         Op::IncrementPair(Pair::Sp) => extended(rules, StackMove::Take(1)),

@@ -14,6 +14,7 @@ ghost use Rattle.gb_successors.specs.Successors as Succession;
 use crate::loads::{TakenSide, read_word};
 use crate::refined::{cut_read, read_around, refine, refined_target};
 use crate::said::summary_behind;
+use crate::stack_mark::{mark, marks};
 use crate::stacks::{Stack, StackMove, around_of, move_core, stack_move};
 pub use crate::way::{Moved, Successor};
 use gb_abs_memory::Rom;
@@ -166,7 +167,7 @@ fn successor_by<'a>(
     };
     let pointer = pointer_bounds(rules, op, &core.registers, &relations.pairs);
     let sp = sp_bounds(setting, state);
-    let around = around_of(setting, state);
+    let around = around_of(Stack { setting, ..*stack }, state, core);
     let read = read_around(
         rules,
         around.aside,
@@ -183,6 +184,8 @@ fn successor_by<'a>(
     let carry = known_carry(rules, op, sp, &core.registers, &relations.pairs);
     let bits = known_bits(rules, setting.is_whole, op, &core.registers);
     refine(pointer, bits, carry, effect);
+    let is_marked = marks(Stack { setting, ..*stack }, op, state, core);
+    mark(is_marked, op, effect);
     let stack_move = stack_move(
         Stack { setting, ..*stack },
         around,

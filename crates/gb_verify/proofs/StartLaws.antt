@@ -40,12 +40,16 @@ use Rattle.gb_rules.proofs.Below.gb_product_laws.MeaningLaws.{HoldRelations-noth
 use Rattle.gb_rules.specs.Below.gb_domain.Limits.{rules_of}
 use Rattle.gb_rules.specs.Below.gb_domain.Settings.{IsBase}
 use Rattle.gb_rules.specs.Procedures.{kept_of, need_of, setting_of, program_of}
-use Rattle.gb_rules.specs.Safety.{begun, IsMeant}
+use Rattle.gb_rules.specs.Safety.{Declares, begun, IsMeant}
 use Rattle.gb_rules.proofs.SearchLaws.{Contains-slice_get}
 use Rattle.gb_rules.proofs.CoveringLaws.{covered_items}
 use Rattle.gb_rules.proofs.ProcedureLaws.{HasReturnWord-main, main_based, main_room}
 use Rattle.gb_verify.specs.PowerUp.{core_at_power_up, state_at_power_up}
 use Rattle.gb_verify.specs.Verdict.{is_bad_entry, is_bad_node, main_entry, entry_of}
+
+-- main's base: the address behind the region
+abbrev pub main_base : Certificate → ℕ
+main_base cert = cert.region.last + 1
 
 not_so : {X : Type 0} → true ≡ false → X
 not_so h = cc
@@ -61,7 +65,7 @@ Holds-own v entry x o l h e s none =
     record { least = omega arith; most = omega arith; low = subst (λ n. have_same n x v.lo ≡ true) (sym none) refl; origin = λ q i. let j : o ≡ q = same_Some _ _ (sym e ∙ i) in s ∙ ap (λ p. origin_value p entry) j }
 
 Holds-start : (rom : List ℕ) (cert : Certificate) (s : MState) (r : Register) → s.processor ≡ processor_at_power_up rom
-    → Holds (get r (core_at_power_up rom cert.region).registers) (begun rom cert 0 s) (get r s.processor.registers)
+    → Holds (get r (core_at_power_up rom cert.region).registers) (begun rom cert 0 (main_base cert) s) (get r s.processor.registers)
 unfolding core_at_power_up processor_at_power_up
 Holds-start rom cert s A h = let e = sym (ap (λ p. p.registers.a) h) in Holds-own _ _ _ origin.A e e refl refl refl
 Holds-start rom cert s B h = let e = sym (ap (λ p. p.registers.b) h) in Holds-own _ _ _ origin.B e e refl refl refl
@@ -72,7 +76,7 @@ Holds-start rom cert s H h = let e = sym (ap (λ p. p.registers.h) h) in Holds-o
 Holds-start rom cert s L h = let e = sym (ap (λ p. p.registers.l) h) in Holds-own _ _ _ origin.L e e refl refl refl
 
 HoldsFlags-start : (rom : List ℕ) (cert : Certificate) (s : MState) → s.processor ≡ processor_at_power_up rom
-    → HoldsFlags (core_at_power_up rom cert.region).flags (begun rom cert 0 s) s.processor.flags
+    → HoldsFlags (core_at_power_up rom cert.region).flags (begun rom cert 0 (main_base cert) s) s.processor.flags
 unfolding core_at_power_up processor_at_power_up
 HoldsFlags-start rom cert s h =
     let others : Bool = not (slice_index rom 0x14D == 0) in
@@ -98,7 +102,7 @@ kept_at_start kind.Mbc1 kept b = record { bank = λ e. refl; second = λ e. refl
 kept_at_start kind.Mbc3 kept b = record { bank = λ e. refl; second = λ e. refl; gate = λ e. refl; mode = λ e. refl; high_bank = λ e. tt }
 kept_at_start kind.Mbc5 kept b = record { bank = λ e. refl; second = λ e. refl; gate = λ e. refl; mode = λ e. refl; high_bank = λ e. refl }
 
-MeansCore-at_start : (rom : List ℕ) (cert : Certificate) (s : MState) → IsStart rom s → MeansCore (core_at_power_up rom cert.region) (begun rom cert 0 s) s
+MeansCore-at_start : (rom : List ℕ) (cert : Certificate) (s : MState) → IsStart rom s → MeansCore (core_at_power_up rom cert.region) (begun rom cert 0 (main_base cert) s) s
 unfolding core_at_power_up processor_at_power_up
 MeansCore-at_start rom cert s h =
     record {
@@ -109,12 +113,12 @@ MeansCore-at_start rom cert s h =
       controller = record {
         bank_least = least s.storage.banks.bank 1 (ap (λ c. c.bank) h.banks);
         bank_most = most s.storage.banks.bank 1 (ap (λ c. c.bank) h.banks);
-        low_bank = low_at_start (begun rom cert 0 s).program.kind (core_at_power_up rom cert.region).ctl s.storage.banks.bank refl refl (ap (λ c. c.bank) h.banks);
+        low_bank = low_at_start (begun rom cert 0 (main_base cert) s).program.kind (core_at_power_up rom cert.region).ctl s.storage.banks.bank refl refl (ap (λ c. c.bank) h.banks);
         second_least = least s.storage.banks.second 0 (ap (λ c. c.second) h.banks);
         second_most = most s.storage.banks.second 0 (ap (λ c. c.second) h.banks);
         gate = ap (λ c. may_be (known false) c.gate) h.banks;
         mode = ap (λ c. may_be (known false) c.mode) h.banks;
-        kept = kept_at_start (begun rom cert 0 s).program.kind _ s.storage.banks;
+        kept = kept_at_start (begun rom cert 0 (main_base cert) s).program.kind _ s.storage.banks;
       };
       count = most s.storage.count 0 h.count;
       locked = ap (λ p. p.locked) h.processor;
@@ -144,17 +148,13 @@ IsMemory-start rom s h = record { work = h.work_size; high = h.high_size; bytes 
     by mapped.Transfer = omega arith
     by mapped.Hardware = omega arith
 
--- main's base: the address behind the region
-abbrev pub main_base : Certificate → ℕ
-main_base cert = cert.region.last + 1
-
 stack_start : (last : ℕ) → (last == 0xFFFD) ≡ true → 0xFFFE + 0 ≡ last + 1
 stack_start last h = let e : last ≡ 0xFFFD = eqb-true last 0xFFFD h in omega arith
 
 small_start : (sp : ℕ) → sp ≡ 0xFFFE → sp < 65536
 small_start sp h = omega arith
 
-MeansParts-start : (rom : List ℕ) (cert : Certificate) (s : MState) → IsStart rom s → MeansParts (state_at_power_up rom cert.region) (begun rom cert 0 s) (main_base cert) s
+MeansParts-start : (rom : List ℕ) (cert : Certificate) (s : MState) → IsStart rom s → MeansParts (state_at_power_up rom cert.region) (begun rom cert 0 (main_base cert) s) (main_base cert) s
 unfolding core_at_power_up processor_at_power_up
 MeansParts-start rom cert s h =
     record {
@@ -179,7 +179,7 @@ register_start rom s E h = byte_start _ 0xD8 (ap (λ p. p.registers.e) h) (omega
 register_start rom s H h = byte_start _ 0x01 (ap (λ p. p.registers.h) h) (omega arith)
 register_start rom s L h = byte_start _ 0x4D (ap (λ p. p.registers.l) h) (omega arith)
 
-Means-start : (rom : List ℕ) (cert : Certificate) (s : MState) → IsStart rom s → Means (state_at_power_up rom cert.region) (begun rom cert 0 s) (main_base cert) s
+Means-start : (rom : List ℕ) (cert : Certificate) (s : MState) → IsStart rom s → Means (state_at_power_up rom cert.region) (begun rom cert 0 (main_base cert) s) (main_base cert) s
 Means-start rom cert s h =
     record {
       parts = MeansParts-start rom cert s h;
@@ -222,7 +222,7 @@ main_entry_node cert n c at = by cert.procedures c.some_procedure c.entries at
     by (p ∷ ps) lt h e = is_of_main (slice_get cert.nodes p.entry) n e (and_parts _ _ h).0
 
 IsMeant-entry : (rom : List ℕ) (cert : Certificate) (o : Option Node) (s : MState) → IsCertificate cert → ((n : Node) → o ≡ Some n → Contains cert.nodes n) → ((n : Node) → o ≡ Some n → n.procedure ≡ 0)
-    → is_bad_node rom cert o ≡ false → IsStart rom s → IsMeant rom cert 0 (begun rom cert 0 s) (main_base cert) s
+    → is_bad_node rom cert o ≡ false → IsStart rom s → IsMeant rom cert 0 (begun rom cert 0 (main_base cert) s) (main_base cert) s
 IsMeant-entry rom cert None s c f g h i = not_so h
 IsMeant-entry rom cert (Some n) s c f g h i =
     let p = or_parts _ _ h in
@@ -235,7 +235,7 @@ IsMeant-entry rom cert (Some n) s c f g h i =
       at = record {
         address = pc_start rom s i ∙ sym (eqb-true _ _ (not-false _ q.0));
         program = refl;
-        names = ap (kept_of cert) (sym (g n refl));
+        names = subst (λ p. Declares cert p (main_base cert) (begun rom cert 0 (main_base cert) s)) (sym (g n refl)) (record { kept = refl; mark = refl });
         means = Means-covered _ _ _ _ _ covered (Means-start rom cert s i);
         mark = inl (mark_start rom s i);
         main = λ is. refl;
@@ -247,7 +247,7 @@ IsMeant-entry rom cert (Some n) s c f g h i =
     }
 
 -- a start is meant by main's entry
-pub IsMeant-start : (rom : List ℕ) (cert : Certificate) (s : MState) → IsCertificate cert → is_bad_entry rom cert ≡ false → IsStart rom s → IsMeant rom cert 0 (begun rom cert 0 s) (main_base cert) s
+pub IsMeant-start : (rom : List ℕ) (cert : Certificate) (s : MState) → IsCertificate cert → is_bad_entry rom cert ≡ false → IsStart rom s → IsMeant rom cert 0 (begun rom cert 0 (main_base cert) s) (main_base cert) s
 unfolding is_bad_entry
 IsMeant-start rom cert s c good start =
     IsMeant-entry rom cert (slice_get cert.nodes (main_entry cert)) s c (Contains-slice_get cert.nodes (main_entry cert)) (λ n at. main_entry_node cert n c at) good start

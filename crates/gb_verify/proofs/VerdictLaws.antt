@@ -28,7 +28,7 @@ use Rattle.gb_rules.specs.Below.gb_successors.Successors.{product_before, has, a
 use Rattle.gb_rules.specs.Below.gb_abs_memory.Windows.{known_kind}
 use Rattle.gb_rules.specs.Below.gb_calls.Resuming.{resumed}
 use Rattle.gb_rules.specs.Covered.{covered_at, is_covered_by_bytes, is_covered_by_one, is_covered_by_register, registers}
-use Rattle.gb_rules.specs.Procedures.{kept_of, ranges_of, need_of, exit_of, base_in, setting_of, stack_of, program_of, taken_by}
+use Rattle.gb_rules.specs.Procedures.{kept_of, mark_of, ranges_of, need_of, exit_of, base_in, setting_of, stack_of, program_of, taken_by}
 use Rattle.gb_rules.specs.Below.gb_successors.Refused.{is_unstorable, meets_oam_transfer}
 use Rattle.gb_rules.specs.Below.gb_successors.Code.{area_end, leaves_area, known_byte}
 use Rattle.gb_rules.specs.Rules.{may_read_twice, is_undefined, breaks_stack, is_code_limited, moves_too_deep, callee_by, callee_at, is_over, is_overfull, calls_too_deep, is_uncovered_if, is_resumed_uncovered, is_back_uncovered, is_inlined_uncovered, is_call_uncovered, is_uncovered_at, is_uncovered, is_outside_of, is_uncallable_at, is_uncallable, is_unreturnable_at, is_unreturnable, interrupts, is_dispatch_deep, handles_too_deep, is_unhandled, lacks_handler, test_row, test_instruction, node_bytes, ways_of, any_of, is_possible, grows_too_deep, stores_outside, meets_ram, meets_transfer, leads_anywhere, leads_uncovered, calls_wrongly, returns_wrongly, applies_to_row, applies, reasons, reason_of}
@@ -249,9 +249,9 @@ same_return program cert version rules procedure t = by t.target
     by target.Lost = refl
 
 same_stack : (cert : Certificate) (version procedure : ℕ) → AreRuledAlike cert version → stack_of (other cert version) procedure ≡ stack_of cert procedure
-unfolding stack_of need_of
+unfolding stack_of need_of mark_of
 same_stack cert version procedure e =
-    let with : Setting → Stack = λ z. record { setting = z; region = cert.region; need = need_of cert procedure; main_need = need_of cert 0 } in
+    let with : Setting → Stack = λ z. record { setting = z; region = cert.region; need = need_of cert procedure; main_need = need_of cert 0; mark = mark_of cert procedure } in
     ap with (same_setting cert version procedure e)
 
 -- what states may speak of is the same where neither version is 4, or both are
