@@ -146,7 +146,7 @@ pub const STACK_SET_IN_CALLEE: Advice = Advice {
 
 pub const STACK_SET_AGAIN: Advice = Advice {
     problem: "SP may point at the stack only, at most 255 bytes below its end. Elsewhere, the next push or interrupt overwrites other memory.",
-    remedy: "Load the same address in every `ld sp`. Copy with `ld a, [hl+]` instead of `pop` or `push`.",
+    remedy: "Load the same address in every `ld sp`. To copy by `pop`, write `di`, save SP with `ld [n], sp`, and load it again before `ei`, `call` or `ret`.",
     remedy_in_c: None,
     anchor: "sp-set-twice",
 };
