@@ -5,7 +5,7 @@ use crate::stacks::is_settable;
 use crate::types::{CellRead, Run};
 use gb_joining::cause::{Cause, StackMisuse, Wish};
 use gb_joining::gb_ops::op::{AluOp, Op, Operand, Pair, Register, Row};
-use gb_joining::gb_verify::{Abs, Rules, Span, around_of, known_byte, length_of, reduced};
+use gb_joining::gb_verify::{Abs, Rules, Span, known_byte, length_of, reduced};
 use gb_joining::instruction::{decoded, refused};
 use gb_joining::limits::CODE_AHEAD;
 use gb_joining::register_set::RegisterSet;
@@ -140,21 +140,11 @@ impl<'a> Run<'a> {
         if u32::from(word) > above && is_near && !self.configuration.is_stack_given {
             return Err(RunStop::Wanted(Wish::Top(word)));
         }
-        if is_settable(self.stack_of(procedure), word) || self.may_leave(number) {
+        if is_settable(self.stack_of(procedure), word) || self.may_leave_at(number) {
             return Ok(());
         }
         let cause = Cause::Stack(StackMisuse::SetAgain(word));
         Err(Run::failure(number, cause, RegisterSet::empty()))
-    }
-
-    /// Whether LD SP,n16 at a node may put the stack aside: it is set, and interrupts are off (version 4).
-    fn may_leave(&self, number: usize) -> bool {
-        let Some(node) = self.nodes.get(number) else {
-            return false;
-        };
-        let stack = self.stack_of(node.key.procedure);
-        let state = &node.state;
-        around_of(stack, state, state.core()).may_leave
     }
 
     /// LD SP,HL: HL is known, and an address of the procedure's stack or of main's. Where nothing is meant, nothing is asked.
@@ -168,10 +158,9 @@ impl<'a> Run<'a> {
         };
         let mut meant = state.with_core(product.core);
         meant.set_relations(product.relations);
-        let around = around_of(self.stack_of(procedure), &meant, meant.core());
         match known_hl(&meant) {
             Some(word) if is_settable(self.stack_of(procedure), word) => Ok(()),
-            _ if around.may_leave || around.back.is_some() => Ok(()),
+            _ if self.may_leave(&meant) || self.may_come_back(procedure, meant.core()) => Ok(()),
             _ => {
                 let registers = RegisterSet::of(&[Register::H, Register::L]);
                 let cause = Cause::Stack(StackMisuse::SetByHl);

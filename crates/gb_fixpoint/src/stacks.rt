@@ -2,7 +2,7 @@
 
 use crate::types::Run;
 use gb_joining::gb_ops::machine::Region;
-use gb_joining::gb_verify::{Abs, Rules, Setting, Stack, is_located};
+use gb_joining::gb_verify::{Abs, Core, Origin, Rules, Setting, Stack};
 
 /// The most bytes that SP may be set below a base.
 const ROOM: u32 = 255;
@@ -34,6 +34,29 @@ impl<'a> Run<'a> {
             Some(procedure) => procedure.mark.unwrap_or(NO_MARK),
             None => NO_MARK,
         }
+    }
+
+    /// Whether SP may be put aside in a state: the stack is set, and interrupts are off for sure (version 4).
+    pub(crate) fn may_leave(&self, state: &Abs) -> bool {
+        let core = state.core();
+        self.is_fourth() && core.stack_set && core.ime.off && !core.ime.pending && !core.ime.on
+    }
+
+    /// The same for the state of a node.
+    pub(crate) fn may_leave_at(&self, number: usize) -> bool {
+        match self.nodes.get(number) {
+            Some(node) => self.may_leave(&node.state),
+            None => false,
+        }
+    }
+
+    /// Whether SP comes back by HL: it is the address of the procedure's mark.
+    pub(crate) fn may_come_back(&self, procedure: usize, core: &Core) -> bool {
+        let registers = &core.registers;
+        self.has_mark(procedure)
+            && core.stack_set
+            && registers.h.origin == Some(Origin::MarkHigh)
+            && registers.l.origin == Some(Origin::MarkLow)
     }
 
     /// Whether a procedure has saved SP.
@@ -89,6 +112,11 @@ impl<'a> Run<'a> {
             mark: self.mark_of(procedure),
         }
     }
+}
+
+/// Whether SP stands where the items end.
+fn is_located(state: &Abs) -> bool {
+    state.core().stack_set && state.summary().aside().is_none()
 }
 
 /// The base of main's stack: by the rules of versions 1 and 2 none is said.

@@ -34,7 +34,7 @@ pub use gb_calls::{
     byte_of, covers_relations, covers_said, test_alone,
 };
 pub use gb_successors::refused::is_stack_limited;
-pub use gb_successors::stacks::{Stack, around_of, is_located};
+pub use gb_successors::stacks::Stack;
 pub use gb_successors::successor::Successor;
 pub use gb_successors::successors::{Successors, successors_of};
 pub use gb_successors::{

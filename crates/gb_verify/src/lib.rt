@@ -25,7 +25,6 @@ pub use gb_rules::procedures::{
     callee_at, exit_of, kept_of, need_of, program_of, ranges_of, setting_of, stack_of, taken_by,
 };
 pub use gb_rules::rules::{check_node, is_nop_behind};
-pub use gb_rules::{around_of, is_located};
 pub use gb_rules::{
     ANY_BOUNDS, Abs, AbsRead, AbsWrite, BankShadows, Bounds, Cell, Cert, CertFault, Core, Ctl, Flg,
     Halves, ImeSet, KeptBanks, Link, May, NO_REGISTER, NOTHING_KNOWN, NodeRef, OneByte, Origin,
