@@ -531,12 +531,19 @@ impl<'a> Refinement<'a> {
         Ok(())
     }
 
+    /// A finished run. That more cells were read than are tracked doesn't matter where the checker accepts its certificate.
     fn learn_finished(&self, run: &mut Run<'_>) -> Result<Lesson, AllocError> {
         let news = self.news(run)?;
-        if news.cells.is_empty() && !news.has_facts {
-            self.learn_end(run)
-        } else {
-            Ok(Lesson::Change(Change::Track(news)))
+        if news.has_facts {
+            return Ok(Lesson::Change(Change::Track(news)));
+        }
+        match self.learn_end(run)? {
+            lesson if news.cells.is_empty() => Ok(lesson),
+            Lesson::Certificate(bytes) if is_accepted(self.alloc, self.rom(), &bytes) => {
+                Ok(Lesson::Certificate(bytes))
+            }
+            Lesson::Deeper(region, bytes) => Ok(Lesson::Deeper(region, bytes)),
+            _ => Ok(Lesson::Change(Change::Track(news))),
         }
     }
 }
