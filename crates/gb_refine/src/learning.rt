@@ -531,19 +531,27 @@ impl<'a> Refinement<'a> {
         Ok(())
     }
 
+    /// Whether what a finished run leads to stays, though more cells were read than are tracked: the checker accepts its certificate,
+    /// or another stack region comes first.
+    fn is_enough(&self, lesson: &Lesson) -> bool {
+        match lesson {
+            Lesson::Certificate(bytes) => is_accepted(self.alloc, self.rom(), bytes),
+            Lesson::Deeper(_, _) => true,
+            _ => false,
+        }
+    }
+
     /// A finished run. That more cells were read than are tracked doesn't matter where the checker accepts its certificate.
     fn learn_finished(&self, run: &mut Run<'_>) -> Result<Lesson, AllocError> {
         let news = self.news(run)?;
         if news.has_facts {
             return Ok(Lesson::Change(Change::Track(news)));
         }
-        match self.learn_end(run)? {
-            lesson if news.cells.is_empty() => Ok(lesson),
-            Lesson::Certificate(bytes) if is_accepted(self.alloc, self.rom(), &bytes) => {
-                Ok(Lesson::Certificate(bytes))
-            }
-            Lesson::Deeper(region, bytes) => Ok(Lesson::Deeper(region, bytes)),
-            _ => Ok(Lesson::Change(Change::Track(news))),
+        let lesson = self.learn_end(run)?;
+        if news.cells.is_empty() || self.is_enough(&lesson) {
+            Ok(lesson)
+        } else {
+            Ok(Lesson::Change(Change::Track(news)))
         }
     }
 }
