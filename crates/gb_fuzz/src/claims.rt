@@ -2,12 +2,12 @@
 
 use crate::values::is_known;
 use gb_domain::types::{Abs, Setting};
-use gb_domain::{Core, Ctl, PairFacts, Shadows};
+use gb_domain::{Core, Ctl, Origin, PairFacts, Shadows, Val};
 use gb_mbc::Controller;
 use gb_ops::registers::Registers;
 
 /// How many kinds there are.
-pub const KINDS: usize = 13;
+pub const KINDS: usize = 14;
 
 /// How many claims of each kind the nodes made that meant a reached state.
 #[derive(Clone, Copy)]
@@ -34,6 +34,8 @@ pub struct Claims {
     bank_parts: u64,
     /// Registers that hold what main was entered with.
     origins: u64,
+    /// Registers that hold a byte of the mark's address.
+    marks: u64,
 }
 
 /// How many of these are so.
@@ -80,6 +82,19 @@ fn origins_in(core: &Core) -> u64 {
     ])
 }
 
+fn is_of_mark(val: Val) -> bool {
+    matches!(val.origin, Some(Origin::MarkHigh) | Some(Origin::MarkLow))
+}
+
+fn marks_in(core: &Core) -> u64 {
+    let registers = &core.registers;
+    count(&[
+        is_of_mark(registers.a),
+        is_of_mark(registers.h),
+        is_of_mark(registers.l),
+    ])
+}
+
 impl Claims {
     pub fn new() -> Claims {
         Claims {
@@ -96,6 +111,7 @@ impl Claims {
             seconds: 0,
             bank_parts: 0,
             origins: 0,
+            marks: 0,
         }
     }
 
@@ -124,6 +140,7 @@ impl Claims {
             } else {
                 0
             },
+            marks: marks_in(state.core()),
             ..Claims::new()
         }
     }
@@ -161,6 +178,7 @@ impl Claims {
             seconds: self.seconds.wrapping_add(other.seconds),
             bank_parts: self.bank_parts.wrapping_add(other.bank_parts),
             origins: self.origins.wrapping_add(other.origins),
+            marks: self.marks.wrapping_add(other.marks),
         }
     }
 
@@ -187,6 +205,7 @@ impl Claims {
             ("the second register", self.seconds),
             ("MBC5's bank in two parts", self.bank_parts),
             ("origins in main", self.origins),
+            ("bytes of a mark", self.marks),
         ]
     }
 }

@@ -55,13 +55,15 @@ fn changed_val(random: &mut Random, val: Val) -> Val {
 
 /// None, or what may have been held when the procedure was entered.
 fn any_origin(random: &mut Random) -> Option<Origin> {
-    match random.below(8) {
+    match random.below(10) {
         0 | 1 => None,
         2 => Some(Origin::A),
         3 => Some(Origin::B),
         4 => Some(Origin::L),
         5 => Some(Origin::Kept(0)),
         6 => Some(Origin::Kept(1)),
+        7 => Some(Origin::MarkHigh),
+        8 => Some(Origin::MarkLow),
         _ => Some(Origin::Kept(random.byte() % 16)),
     }
 }

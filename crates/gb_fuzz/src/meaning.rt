@@ -2,16 +2,16 @@
 //! mean what the machine holds, all its parts together. A fact that is overclaimed needs no fault to be seen here.
 //!
 //! Two things aren't seen in one state, and are taken to be so: what was held as a procedure other than main was entered, and where
-//! the items of a stack are that is put aside, above a base that isn't known.
+//! the items of a stack are that is put aside, above a base that isn't known. So is the mark's address then.
 
 use crate::claims::Claims;
 use crate::reached::ReachedState;
-use crate::values::{are_in, is_in, is_value, may_flags_be};
+use crate::values::{Entered, are_in, is_in, is_value, may_flags_be};
 use gb_cpu::{Bus, Cpu};
 use gb_domain::types::{Abs, Rules, Setting};
 use gb_domain::{Cell, Core, Fact, Fill, FillEnd, ImeSet, Reach};
 use gb_ops::op::Pointer;
-use gb_ops::registers::{Ime, Processor, Registers};
+use gb_ops::registers::{Ime, Registers};
 use gb_printed::gb_calls::gb_cert::Cert;
 use std::alloc::Global;
 
@@ -68,21 +68,24 @@ fn setting_of(cert: &Cert<'_>, procedure: u16) -> Setting {
 }
 
 impl ReachedState<'_> {
-    /// The processor as the procedure was entered: main is entered at power-up.
-    fn start_of(&self, setting: Setting) -> Option<Processor> {
-        if setting.is_main {
-            Some(Cpu::at_power_up(self.memory.cartridge()).processor)
-        } else {
-            None
+    /// What is known of how the procedure of a state was entered, if it has this mark: main at power-up.
+    fn entered_by(&self, setting: Setting, state: &Abs, mark: u8) -> Entered {
+        Entered {
+            processor: if setting.is_main {
+                Some(Cpu::at_power_up(self.memory.cartridge()).processor)
+            } else {
+                None
+            },
+            mark: self.address_below(setting, state, mark),
         }
     }
 
     /// Whether registers, flags, IE, IME and the controller are what a core says.
-    fn keeps_core(&mut self, setting: Setting, core: &Core, start: Option<Processor>) -> bool {
+    fn keeps_core(&mut self, setting: Setting, core: &Core, entered: Entered) -> bool {
         let enabled = self.memory.read(0xFFFF);
-        are_in(&self.processor.registers, &core.registers, start)
-            && may_flags_be(&self.processor.flags, &core.flags, start)
-            && is_in(enabled, &core.ie, start)
+        are_in(&self.processor.registers, &core.registers, entered)
+            && may_flags_be(&self.processor.flags, &core.flags, entered)
+            && is_in(enabled, &core.ie, entered)
             && may_ime_be(self.processor.ime, core.ime)
             && self.keeps_controller(setting, &core.ctl)
     }
@@ -117,9 +120,9 @@ impl ReachedState<'_> {
     }
 
     /// Whether the bytes of all cells are in them.
-    fn keeps_cells(&mut self, cells: &[Cell], start: Option<Processor>) -> bool {
+    fn keeps_cells(&mut self, cells: &[Cell], entered: Entered) -> bool {
         for cell in cells {
-            if !is_in(self.memory.read(cell.address), &cell.val, start) {
+            if !is_in(self.memory.read(cell.address), &cell.val, entered) {
                 return false;
             }
         }
@@ -127,9 +130,9 @@ impl ReachedState<'_> {
     }
 
     /// Whether RAM holds what a state says of it: by its cells, by the facts below its level, and by its fills.
-    fn keeps_ram(&mut self, facts: &[Fact], state: &Abs, start: Option<Processor>) -> bool {
+    fn keeps_ram(&mut self, facts: &[Fact], state: &Abs, entered: Entered) -> bool {
         let (cells, summary) = (state.cells(), state.summary());
-        if !self.keeps_cells(cells, start) {
+        if !self.keeps_cells(cells, entered) {
             return false;
         }
         for fact in facts.iter().take(usize::from(summary.level())) {
@@ -146,24 +149,25 @@ impl ReachedState<'_> {
     }
 
     /// Whether a state says nothing of the machine that isn't so.
-    fn is_meant(&mut self, setting: Setting, facts: &[Fact], state: &Abs) -> bool {
-        let start = self.start_of(setting);
-        self.keeps_core(setting, state.core(), start)
-            && self.keeps_stack(setting, state, start)
+    fn is_meant(&mut self, setting: Setting, mark: u8, facts: &[Fact], state: &Abs) -> bool {
+        let entered = self.entered_by(setting, state, mark);
+        self.keeps_core(setting, state.core(), entered)
+            && self.keeps_stack(setting, state, entered)
             && self.keeps_relations(state.relations())
             && self.keeps_shadows(&state.summary().shadows())
-            && self.keeps_ram(facts, state, start)
+            && self.keeps_ram(facts, state, entered)
     }
 
     /// Whether some node of a procedure means it; its claims are counted.
     fn is_meant_in(&mut self, cert: &Cert<'_>, procedure: u16, claims: &mut Claims) -> bool {
         let setting = setting_of(cert, procedure);
+        let mark = cert.procedure(procedure).mark();
         let found = cert.find(procedure, self.processor.pc).found;
         for number in found.first..found.after {
             if number < cert.nodes() {
                 let node = cert.node(number);
                 let state = node.state();
-                if node.bank() == self.bank && self.is_meant(setting, cert.facts(), &state) {
+                if node.bank() == self.bank && self.is_meant(setting, mark, cert.facts(), &state) {
                     claims.add(setting, &state, &self.controller);
                     return true;
                 }

@@ -1,7 +1,7 @@
 //! Where a state says that SP is, and what it says of the bytes on the stack.
 
 use crate::reached::ReachedState;
-use crate::values::is_in;
+use crate::values::{Entered, is_in};
 use gb_cpu::Bus;
 use gb_domain::types::{Abs, Setting};
 use gb_domain::{Bounds, Val};
@@ -25,14 +25,14 @@ impl ReachedState<'_> {
     }
 
     /// Whether the bytes below an address are the items, the oldest first.
-    fn keeps_items(&mut self, base: u32, items: &[Val], start: Option<Processor>) -> bool {
+    fn keeps_items(&mut self, base: u32, items: &[Val], entered: Entered) -> bool {
         let mut above = base;
         for item in items {
             above = above.saturating_sub(1);
             let Ok(address) = u16::try_from(above) else {
                 return false;
             };
-            if !is_in(self.memory.read(address), item, start) {
+            if !is_in(self.memory.read(address), item, entered) {
                 return false;
             }
         }
@@ -40,31 +40,37 @@ impl ReachedState<'_> {
     }
 
     /// Whether the items are on the stack by the base that is known; without one, one state alone doesn't tell where they are.
-    fn keeps_items_by(
-        &mut self,
-        known: Option<u32>,
-        items: &[Val],
-        start: Option<Processor>,
-    ) -> bool {
+    fn keeps_items_by(&mut self, known: Option<u32>, items: &[Val], entered: Entered) -> bool {
         match known {
-            Some(base) => self.keeps_items(base, items, start),
+            Some(base) => self.keeps_items(base, items, entered),
             None => true,
         }
     }
 
+    /// The address so many bytes below the base, where that is known, or where SP stands where the items end.
+    pub fn address_below(&self, setting: Setting, state: &Abs, mark: u8) -> Option<u16> {
+        let is_located = state.core().stack_set && state.summary().aside().is_none();
+        let base = match setting.known_base() {
+            Some(base) => u32::from(base),
+            None if is_located => self.base_by_sp(None, state.items().len())?,
+            None => return None,
+        };
+        u16::try_from(base.checked_sub(u32::from(mark))?).ok()
+    }
+
     /// Whether SP is where a state says, and its items are on the stack. Where the stack is put aside, SP doesn't tell where they are.
-    pub fn keeps_stack(&mut self, setting: Setting, state: &Abs, start: Option<Processor>) -> bool {
+    pub fn keeps_stack(&mut self, setting: Setting, state: &Abs, entered: Entered) -> bool {
         let known = setting.known_base().map(|base| u32::from(base));
         let items = state.items();
         if let Some(within) = state.summary().aside() {
             return stands_aside(&self.processor, within)
-                && self.keeps_items_by(known, items, start);
+                && self.keeps_items_by(known, items, entered);
         }
         if !state.core().stack_set {
-            return self.keeps_items_by(known, items, start);
+            return self.keeps_items_by(known, items, entered);
         }
         match self.base_by_sp(known, items.len()) {
-            Some(base) => self.keeps_items(base, items, start),
+            Some(base) => self.keeps_items(base, items, entered),
             None => false,
         }
     }

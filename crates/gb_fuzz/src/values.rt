@@ -28,6 +28,15 @@ fn byte_of(flags: Flags) -> u8 {
         | u8::from(flags.carry) << 4
 }
 
+/// What is known of how a procedure was entered.
+#[derive(Clone, Copy)]
+pub struct Entered {
+    /// The processor, of main.
+    pub processor: Option<Processor>,
+    /// The address of its mark, where its base is known.
+    pub mark: Option<u16>,
+}
+
 /// What an origin held as main was entered. Main has no return word, and keeps no bytes.
 fn held_at(start: &Processor, origin: Origin) -> Option<u8> {
     let registers = start.registers;
@@ -49,22 +58,31 @@ fn held_at(start: &Processor, origin: Origin) -> Option<u8> {
     }
 }
 
-/// Whether a byte is what its origin held as the procedure was entered; so it is taken to be where that isn't known.
-fn is_copy(byte: u8, origin: Option<Origin>, start: Option<Processor>) -> bool {
-    match (origin, start) {
-        (Some(origin), Some(start)) => held_at(&start, origin).unwrap_or(byte) == byte,
-        _ => true,
+/// What an origin is in a procedure, where that is known.
+fn held_in(entered: Entered, origin: Origin) -> Option<u8> {
+    match origin {
+        Origin::MarkHigh => Some((entered.mark? / 256) as u8),
+        Origin::MarkLow => Some((entered.mark? % 256) as u8),
+        _ => held_at(&entered.processor?, origin),
     }
 }
 
-/// Whether a value stands for a byte, in a procedure that this processor entered, where that is known.
-pub fn is_in(byte: u8, val: &Val, start: Option<Processor>) -> bool {
-    is_value(byte, (val.lo, val.hi), val.low_bits) && is_copy(byte, val.origin, start)
+/// Whether a byte is what its origin is in the procedure; so it is taken to be where that isn't known.
+fn is_copy(byte: u8, origin: Option<Origin>, entered: Entered) -> bool {
+    match origin {
+        Some(origin) => held_in(entered, origin).unwrap_or(byte) == byte,
+        None => true,
+    }
 }
 
-pub fn are_in(registers: &Registers<u8>, vals: &Registers<Val>, start: Option<Processor>) -> bool {
+/// Whether a value stands for a byte, in a procedure that was entered so.
+pub fn is_in(byte: u8, val: &Val, entered: Entered) -> bool {
+    is_value(byte, (val.lo, val.hi), val.low_bits) && is_copy(byte, val.origin, entered)
+}
+
+pub fn are_in(registers: &Registers<u8>, vals: &Registers<Val>, entered: Entered) -> bool {
     for register in REGISTERS {
-        if !is_in(registers.get(register), &vals.get(register), start) {
+        if !is_in(registers.get(register), &vals.get(register), entered) {
             return false;
         }
     }
@@ -76,8 +94,8 @@ pub fn may_be(bit: bool, may: May) -> bool {
     if bit { may.set } else { may.clear }
 }
 
-pub fn may_flags_be(flags: &Flags, claimed: &Flg, start: Option<Processor>) -> bool {
-    let is_own = match start {
+pub fn may_flags_be(flags: &Flags, claimed: &Flg, entered: Entered) -> bool {
+    let is_own = match entered.processor {
         Some(start) => start.flags == *flags,
         None => true,
     };
