@@ -231,8 +231,7 @@ fn slice_to(
     slice(alloc, run, ways, spot, &sought)
 }
 
-/// A slice to a pointer's page alone, with which its low byte may be any. A pointer that is kept in RAM would go on from page to
-/// page.
+/// A slice to a pointer's page alone: its low byte may be any. One that is kept in RAM would go on from page to page.
 fn slice_to_page(
     alloc: Global,
     run: &Run<'_>,
@@ -383,8 +382,7 @@ fn plan_jump(
     }
 }
 
-/// In a run with facts: a register that these bound is taken value by value on the way from where it is loaded. The byte that it is
-/// loaded from needn't be known anywhere else.
+/// In a run with facts: a register that these bound is taken value by value from where it is loaded. Elsewhere its byte may be any.
 fn plan_bounded(
     alloc: Global,
     run: &Run<'_>,
@@ -524,8 +522,7 @@ pub(crate) fn plan_loops(
     Ok(None)
 }
 
-/// Code in RAM isn't known: loops that drop its cells, or one copy of everything for each value that is patched in, or the loops
-/// that copied it.
+/// Code in RAM isn't known: loops that drop its cells, one copy for each value that is patched in, or the loops that copied it.
 fn plan_code(alloc: Global, run: &Run<'_>, byte: u16) -> Result<Option<Plan>, AllocError> {
     if let Some(plan) = plan_loops(alloc, run, &run.killers)? {
         return Ok(Some(plan));
