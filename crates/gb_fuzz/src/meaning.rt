@@ -161,7 +161,7 @@ impl ReachedState<'_> {
     /// Whether some node of a procedure means it; its claims are counted.
     fn is_meant_in(&mut self, cert: &Cert<'_>, procedure: u16, claims: &mut Claims) -> bool {
         let setting = setting_of(cert, procedure);
-        let mark = cert.procedure(procedure).mark();
+        let mark = mark_of(cert, procedure);
         let found = cert.find(procedure, self.processor.pc).found;
         for number in found.first..found.after {
             if number < cert.nodes() {
@@ -184,6 +184,15 @@ impl ReachedState<'_> {
             }
         }
         false
+    }
+}
+
+/// How many bytes below its base a procedure puts its stack aside.
+fn mark_of(cert: &Cert<'_>, procedure: u16) -> u8 {
+    if procedure < cert.procedures() {
+        cert.procedure(procedure).mark()
+    } else {
+        0
     }
 }
 
