@@ -1,17 +1,12 @@
 -- Items that are appended, and covered, from the front on.
-use Rattle.std.proofs.Common.{◌≡◌, ℕ, suc, ◌-◌, ◌≤◌, ◌<◌, ◌==◌, Bool, true, false, ◌&&◌, List, [], ◌∷◌, length, take, drop, slice_index, slice_index_or, refl, sym, ap, ◌∙◌, arith, None}
-use Rattle.std.proofs.lemmas.Bool.{eqb-true}
+use Rattle.std.proofs.Common.{◌≡◌, ℕ, ◌-◌, ◌≤◌, ◌<◌, Bool, true, false, ◌&&◌, List, [], ◌∷◌, length, take, drop, slice_index, slice_index_or, refl, sym, ap, ◌∙◌, arith, None}
 use Rattle.std.proofs.lemmas.List.{take_all}
-use Rattle.gb_domain.specs.declared.types.Cell.{Cell}
 use Rattle.gb_domain.specs.declared.types.Val.{Val}
 use Rattle.gb_cert.specs.Below.gb_states.WholeReading.{to_val}
-use Rattle.gb_cert.specs.Below.gb_states.Checked.{listed_items, listed_cells}
+use Rattle.gb_cert.specs.Below.gb_states.Checked.{listed_items}
 use Rattle.gb_cert.proofs.Below.gb_states_laws.ListedLaws.{no_items, items_front}
-use Rattle.gb_domain.specs.Summaries.{SummaryParts, Program}
 use Rattle.gb_product.specs.Below.gb_abs.Covering.{covers_val, covers_items}
 use Rattle.gb_product.specs.Below.gb_abs.Origins.{without_origin}
-use Rattle.gb_product.specs.Below.gb_pairs.declared.values.Values.{Values}
-use Rattle.gb_product.specs.Covering.{covers_cells}
 use Rattle.gb_calls.specs.TakenOver.{returning}
 
 -- of three items and more the first is no copy
@@ -64,20 +59,3 @@ else_covered s bytes b h k is fails =
 pub some_uncovered : (s : List Val) → 1 ≤ length s → false ≡ covers_items s []
 some_uncovered [] h = absurd (omega arith)
 some_uncovered (v ∷ vs) h = refl
-
-and_true : (b : Bool) → b ≡ (b && true)
-and_true true = refl
-and_true false = refl
-
--- where no cells are claimed, items alone are asked for
-pub listed_alone :
-    (program : Program) (v : Values) (said : SummaryParts) (us vs ws : List Val) (cs ds : List Cell) (items cells : List ℕ) (r : Bool)
-    → us ≡ vs → listed_items items ≡ ws → listed_cells cells ≡ ds
-    → (length cells == 0) ≡ true → r ≡ covers_items us (listed_items items) → r ≡ (covers_items vs ws && covers_cells program v cs said ds)
-unfolding covers_cells listed_cells
-listed_alone program v said us vs ws cs ds items [] r same is are none e =
-    e ∙ (ap (λ (xs : List Val). covers_items xs (listed_items items)) same ∙ (ap (covers_items vs) is ∙ (and_true (covers_items vs ws)
-    ∙ ap (λ (kept : List Cell). covers_items vs ws && covers_cells program v cs said kept) are)))
-listed_alone program v said us vs ws cs ds items (n ∷ rest) r same is are none e =
-    let zero : suc (length rest) ≡ 0 = eqb-true (suc (length rest)) 0 none in
-    absurd (omega arith)

@@ -12,48 +12,42 @@ ghost use Rattle.gb_calls.specs.Parts.{with_parts};
 use crate::in_bytes::{are_none, covers_core_in, covers_items_in};
 use gb_cert::{StateRef, test_alone};
 use gb_domain::pairs::Pairs;
+use gb_domain::relations::Relations;
 use gb_domain::summary::Summary;
 use gb_product::covering::{covers_relations, covers_said};
 use gb_product::{Program, States, covers_lists};
 
-/// Whether the items and the cells of a state stand for those of others, where it has cells: kept out of line, so that a
-/// state is decoded only then.
-#[inline(never)]
-fn covers_decoded(program: &Program<'_>, states: &States<'_>, claimed: &StateRef<'_>) -> bool
-    ensures { result ≡ (covers_items states.now.lists.now.items claimed.now.items && covers_cells program.now (values_of states.now.core.now.registers states.now.relations.now.pairs) states.now.lists.now.cells states.now.summary.now claimed.now.cells) }
-{
-    covers_lists(program, states, &claimed.state())
-}
-
-/// Whether the items and the cells of a state stand for what these do; the bytes of its cells are given.
-fn covers_listed(
-    program: &Program<'_>,
-    states: &States<'_>,
-    claimed: &StateRef<'_>,
-    cells: &[u8],
-) -> bool
-    requires { listed_cells cells.now ≡ claimed.now.cells }
-    ensures { result ≡ (covers_items states.now.lists.now.items claimed.now.items && covers_cells program.now (values_of states.now.core.now.registers states.now.relations.now.pairs) states.now.lists.now.cells states.now.summary.now claimed.now.cells) }
-{
-    if cells.is_empty() {
-        covers_items_in(states.lists.items(), claimed.items())
-    } else {
-        covers_decoded(program, states, claimed)
-    }
-}
-
-/// Whether what a state says of the whole program, which isn't nothing, holds of others: kept out of line, so that its cells are
+/// Whether all of a state but the core stands for that of others, where it has cells: kept out of line, so that a state is
 /// decoded only then.
 #[inline(never)]
-fn covers_some(
+fn covers_decoded(program: &Program<'_>, states: &States<'_>, claimed: &StateRef<'_>) -> bool
+    ensures { result ≡ (((covers_items states.now.lists.now.items claimed.now.items && covers_cells program.now (values_of states.now.core.now.registers states.now.relations.now.pairs) states.now.lists.now.cells states.now.summary.now claimed.now.cells) && covers_relations states.now.core.now.registers states.now.relations.now claimed.now.relations) && covers_summary program.now (values_of states.now.core.now.registers states.now.relations.now.pairs) states.now.core.now.ctl states.now.lists.now.cells states.now.summary.now claimed.now.cells claimed.now.summary) }
+{
+    let claimed = claimed.state();
+    covers_lists(program, states, &claimed)
+        && covers_relations(
+            &states.core.registers,
+            states.relations,
+            claimed.relations(),
+        )
+        && covers_said(program, states, claimed.cells(), claimed.summary())
+}
+
+/// Whether all of a state but the core stands for that of others, where it has no cells; what it tells after its items is given.
+fn covers_uncelled(
     program: &Program<'_>,
     states: &States<'_>,
     claimed: &StateRef<'_>,
+    relations: &Relations,
     summary: &Summary,
 ) -> bool
-    ensures { result ≡ covers_summary program.now (values_of states.now.core.now.registers states.now.relations.now.pairs) states.now.core.now.ctl states.now.lists.now.cells states.now.summary.now claimed.now.cells summary.now }
+    requires relations { relations.now ≡ claimed.now.relations }
+    requires summary { summary.now ≡ claimed.now.summary }
+    ensures { result ≡ ((covers_items states.now.lists.now.items claimed.now.items && covers_relations states.now.core.now.registers states.now.relations.now claimed.now.relations) && covers_summary program.now (values_of states.now.core.now.registers states.now.relations.now.pairs) states.now.core.now.ctl states.now.lists.now.cells states.now.summary.now [] claimed.now.summary) }
 {
-    covers_said(program, states, claimed.state().cells(), summary)
+    covers_items_in(states.lists.items(), claimed.items())
+        && covers_relations(&states.core.registers, states.relations, relations)
+        && covers_said(program, states, &[], summary)
 }
 
 /// Whether nothing is asked that is about the whole program: the stack isn't put aside.
@@ -63,32 +57,17 @@ fn covers_nothing(states: &States<'_>) -> bool
     states.summary.aside().is_none()
 }
 
-/// Whether what a state says of the whole program holds of others.
-#[tactic(auto, using(crate::proofs::CoveringLaws::covers_silence))]
-fn covers_summary_read(
-    program: &Program<'_>,
-    states: &States<'_>,
-    claimed: &StateRef<'_>,
-    summary: &Summary,
-) -> bool
-    requires { summary.now ≡ claimed.now.summary }
-    ensures { result ≡ covers_summary program.now (values_of states.now.core.now.registers states.now.relations.now.pairs) states.now.core.now.ctl states.now.lists.now.cells states.now.summary.now claimed.now.cells claimed.now.summary }
-{
-    if summary.is_silent() {
-        covers_nothing(states)
-    } else {
-        covers_some(program, states, claimed, summary)
-    }
-}
-
 /// Whether all of a state but the core stands for that of others, where it may hold some.
+#[tactic(auto, using(crate::proofs::CoveringLaws::covers_uncelled))]
 fn covers_read(program: &Program<'_>, states: &States<'_>, claimed: &StateRef<'_>) -> bool
     ensures { result ≡ (((covers_items states.now.lists.now.items claimed.now.items && covers_cells program.now (values_of states.now.core.now.registers states.now.relations.now.pairs) states.now.lists.now.cells states.now.summary.now claimed.now.cells) && covers_relations states.now.core.now.registers states.now.relations.now claimed.now.relations) && covers_summary program.now (values_of states.now.core.now.registers states.now.relations.now.pairs) states.now.core.now.ctl states.now.lists.now.cells states.now.summary.now claimed.now.cells claimed.now.summary) }
 {
     let told = claimed.told();
-    covers_listed(program, states, claimed, told.cells)
-        && covers_relations(&states.core.registers, states.relations, &told.relations)
-        && covers_summary_read(program, states, claimed, &told.summary)
+    if told.cells.is_empty() {
+        covers_uncelled(program, states, claimed, &told.relations, &told.summary)
+    } else {
+        covers_decoded(program, states, claimed)
+    }
 }
 
 /// The bounds of pairs are words.

@@ -6,12 +6,24 @@ use crate::words::CertifyTask;
 use gb_command_line::messages::{tell_output, verify};
 use gb_command_line::status::Status;
 use gb_command_line::{Cert, Rom, Trouble, read_certificate, shown_name};
-use gb_page::{Listing, Symbols, explain};
+use gb_page::{Explanation, Listing, Symbols, explain, named};
 use gb_refine::Made;
+use std::alloc::{AllocError, Global};
 use std::io::Input;
 use std::rt::{Clock, Files};
 
-/// Says why a certificate is refused, with the node's label before what gulmyrek says.
+/// What there is to say of a refusal, with symbols after the addresses of RAM.
+fn named_refusal(
+    alloc: Global,
+    explanation: &Explanation,
+    symbols: &Symbols<'_>,
+) -> Result<String, AllocError> {
+    let text = format!(in alloc; "{explanation}")?;
+    named(alloc, symbols, text.as_str())
+}
+
+/// Says why a certificate is refused, with the node's label before what gulmyrek says, and symbols after the addresses of RAM if
+/// there is memory for them.
 fn tell_refusal<R: Eprint + AllocGlobal>(
     rt: &R,
     name: &str,
@@ -23,12 +35,16 @@ fn tell_refusal<R: Eprint + AllocGlobal>(
         return;
     };
     let name = shown_name(name);
+    let Ok(said) = named_refusal(rt.alloc(), &explanation, symbols) else {
+        let _ = eprintln!(rt; "certify: {name}: {explanation}");
+        return;
+    };
     match symbols.place(explanation.bank, explanation.address) {
         Some(place) => {
-            let _ = eprintln!(rt; "certify: {name}: in {place}, {explanation}");
+            let _ = eprintln!(rt; "certify: {name}: in {place}, {said}");
         }
         None => {
-            let _ = eprintln!(rt; "certify: {name}: {explanation}");
+            let _ = eprintln!(rt; "certify: {name}: {said}");
         }
     }
 }

@@ -1,16 +1,18 @@
 //! How data flows through the procedures of a run, and the plans that follow from it: which states are to be told apart, and where.
 //!
 //! Read `sources` (what instructions make registers from), `spots` (what a run knows at an address) and `ways` (a procedure's graph and
-//! its loops); then `plan`, what may be refined, and over them `slices` (where a value comes from), `loops` and `waiting` (bytes on the
-//! stack). Nothing here is trusted: a plan that doesn't help costs time alone.
+//! its loops); then `plan`, what may be refined, and over them `slices` (where a value comes from), `loops`, `strides` (loops through
+//! arrays), `waiting` (bytes on the stack) and `popped` (return words among them). Nothing here is trusted: a plan that doesn't help costs time alone.
 #![tactic(auto)]
 
 mod carries;
 pub mod loops;
 pub mod plan;
+pub mod popped;
 pub mod slices;
 pub mod sources;
 pub mod spots;
+mod strides;
 pub mod waiting;
 pub mod ways;
 

@@ -432,7 +432,12 @@ fn unwritten(run: &Run<'_>, procedure: usize, around: &Loop) -> RegisterSet {
 }
 
 /// Whether a register isn't known behind the instruction at a point.
-fn is_open(run: &Run<'_>, procedure: usize, point: CodePoint, register: Register) -> bool {
+pub(crate) fn is_open(
+    run: &Run<'_>,
+    procedure: usize,
+    point: CodePoint,
+    register: Register,
+) -> bool {
     let spot = Spot { procedure, point };
     let Some(op) = op_at(run, spot) else {
         return true;

@@ -5,6 +5,7 @@ use crate::loops::read_by;
 use crate::plan::{Edit, Plan, split_at, unless_taken_back};
 use crate::sources::{count, first, loaded_by, meet, sources, written};
 use crate::spots::{has_entry, narrower, op_at, open_at, place_of, points_to_rom, width_at};
+use crate::strides::has_known_rounds;
 use crate::waiting::{Waiting, may_change_stack};
 use crate::ways::{Loop, Ways};
 use gb_fixpoint::code_point::CodePoint;
@@ -218,15 +219,21 @@ impl Walk {
         }
         match self.before_wait(run, ways)? {
             None if by == SliceBy::Loop => self.before_losing_loop(run, ways),
-            None if by == SliceBy::Skip => self.before_skip(run, ways),
+            None if by == SliceBy::Skip || self.is_behind_table => self.before_skip(run, ways, by),
             None if by == SliceBy::Start => self.before_own_loop(run, ways),
             before => Ok(before),
         }
     }
 
-    /// Before a branch past a few instructions that count a wanted register down, as `jr nc` past `dec h`: what these compute from is
-    /// wanted there as well, and their addresses are keyed with the others. A pointer that goes forward is mostly compared with its end.
-    fn before_skip(&mut self, run: &Run<'_>, ways: &Ways) -> Result<Option<CodePoint>, AllocError> {
+    /// Before a branch past a few instructions that change a wanted register: what these compute from is wanted there as well, and
+    /// their addresses are keyed with the others. Where a table lies behind, that is `jr nc` past `inc h`, as its address is computed; else
+    /// the register is counted down, as by `dec h`: a pointer that goes forward is mostly compared with its end.
+    fn before_skip(
+        &mut self,
+        run: &Run<'_>,
+        ways: &Ways,
+        by: SliceBy,
+    ) -> Result<Option<CodePoint>, AllocError> {
         let before = ways.before(self.at)?;
         let [one, other] = before.as_slice() else {
             return Ok(None);
@@ -234,7 +241,7 @@ impl Walk {
         for (branch, last) in [(*one, *other), (*other, *one)] {
             if let Some(skipped) = ways.straight_back(last, branch, SKIPPED)?
                 && let Some(wanted) = self.wanted_before(run, &skipped)
-                && self.counts_down(run, &skipped)
+                && (by != SliceBy::Skip || self.counts_down(run, &skipped))
                 && self.waiting.is_empty()
             {
                 self.wanted = self.wanted.union(&wanted);
@@ -558,7 +565,7 @@ fn called_by(op: Op) -> Option<u16> {
 }
 
 /// What an instruction at a spot calls that isn't followed there yet: of several banks the first that its nodes show.
-fn callee_at(run: &Run<'_>, spot: Spot, op: Op) -> Option<CodePoint> {
+pub(crate) fn callee_at(run: &Run<'_>, spot: Spot, op: Op) -> Option<CodePoint> {
     let address = called_by(op)?;
     let mut callee = None;
     for number in run.nodes_at(spot) {
@@ -710,6 +717,35 @@ pub fn slice_to_start(
         return Ok(None);
     };
     slice(alloc, run, ways, spot, &sought)
+}
+
+/// The rounds of a loop that brings a pointer to a spot are told apart, where it goes through an array from a start that is known up to
+/// an end. By the rules of version 3.
+pub fn slice_to_strides(
+    alloc: Global,
+    run: &Run<'_>,
+    ways: &Ways,
+    spot: Spot,
+    wanted: &RegisterSet,
+) -> Result<Option<Plan>, AllocError> {
+    let Some(sought) = goal_by(run, wanted, SliceBy::Any) else {
+        return Ok(None);
+    };
+    let mut walk = walk_back(alloc, run, ways, spot, &sought)?;
+    let Some((around, before)) = ways.entered_loop(walk.at)? else {
+        return Ok(None);
+    };
+    let is_open = !open_at(run, walk.spot(), &walk.wanted, true).is_empty();
+    if !is_open || !walk.waiting.is_empty() || ways.is_endless(&around) {
+        return Ok(None);
+    }
+    match computed_from(run, walk.procedure, &around, &walk.wanted) {
+        Some(all) if has_known_rounds(run, walk.procedure, &around, before, &all) => {
+            walk.add_loop(&around)?;
+            walk.plan_of_ways(alloc, run, ways)
+        }
+        _ => Ok(None),
+    }
 }
 
 /// What is called before a jump's table is read, where the table's address comes from there, is followed there: a routine that adds A

@@ -3,3 +3,4 @@ pub mod Listing
 pub mod Replaying
 pub mod Judging
 pub mod FileLaws
+pub mod Below

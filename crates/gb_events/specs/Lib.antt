@@ -3,3 +3,4 @@ pub mod Verified
 pub mod Line
 pub mod Files
 pub mod Below
+pub mod Sinks

@@ -41,3 +41,4 @@ pub use gb_hunt::{
     watch_bytes,
 };
 pub use gb_plain;
+pub use gb_text::sink::{OutFault, Sink};

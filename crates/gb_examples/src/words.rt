@@ -35,7 +35,7 @@ const NO_OPTIONS: HuntOptions<'static> = HuntOptions {
 };
 
 /// Words, and the task that they stand for.
-const TASKS: [(&[&str], Task<'static>); 26] = [
+const TASKS: [(&[&str], Task<'static>); 27] = [
     (&[], Task::Stored),
     (&["verify", "A", "B"], VERIFY),
     (&["verify", "--", "-a", "--"], DASHES),
@@ -60,6 +60,13 @@ const TASKS: [(&[&str], Task<'static>); 26] = [
         Task::Upgrade {
             cert: "-",
             to: TargetVersion::Three,
+        },
+    ),
+    (
+        &["upgrade", "--to", "4", "A"],
+        Task::Upgrade {
+            cert: "A",
+            to: TargetVersion::Four,
         },
     ),
     (
@@ -285,7 +292,7 @@ fn reads_each_task(rt: HostRuntime) {
 }
 
 /// Words that stand for no task, and the kind of the error.
-const OTHERS: [(&[&str], ErrorKind); 38] = [
+const OTHERS: [(&[&str], ErrorKind); 39] = [
     (&["verify", "A"], ErrorKind::MissingRequiredArgument),
     (&["turn"], ErrorKind::InvalidSubcommand),
     (&["verify", "A", "B", "C"], ErrorKind::UnknownArgument),
@@ -299,6 +306,7 @@ const OTHERS: [(&[&str], ErrorKind); 38] = [
     (&["show"], ErrorKind::MissingRequiredArgument),
     (&["upgrade", "A", "B"], ErrorKind::UnknownArgument),
     (&["upgrade", "--to", "1", "A"], ErrorKind::UnknownArgument),
+    (&["upgrade", "--to", "5", "A"], ErrorKind::UnknownArgument),
     (&["upgrade", "--to", "3", "-a"], ErrorKind::UnknownArgument),
     (&["upgrade", "--to", "3"], ErrorKind::UnknownArgument),
     (&["upgrade", "A", "--to", "3"], ErrorKind::UnknownArgument),

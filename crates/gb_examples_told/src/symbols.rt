@@ -1,6 +1,6 @@
 //! Lines of each format of symbols and of sources' lines, as their tools write them, and what they give.
 
-use gb_page::{Format, SymbolFault, SymbolFaultKind, SymbolOffset, Symbols};
+use gb_page::{Format, SymbolFault, SymbolFaultKind, SymbolOffset, Symbols, named as with_symbols};
 use std::process::Abort;
 use std::test::Fail;
 
@@ -324,5 +324,18 @@ fn what_tells_of_no_line(rt: HostRuntime) -> Result<(), Fail> {
             .ok_or("no lines")?;
         assert!(rt; fault.kind == *kind);
     }
+    Ok(())
+}
+
+/// Addresses of RAM: one after a label, a range, and one that no label is near. Then one of ROM, a byte, and a `$` alone.
+const ADDRESSES: &str = "fact 1: $C001, $D000-$D0FF; $C800, $0150, $80, $";
+
+#[test]
+fn addresses_of_ram_get_their_symbols(rt: HostRuntime) -> Result<(), Fail> {
+    let bytes = b"00:0150 Main\n00:C000 wCount\n00:D000 wMap\n00:D0FF wLast\n";
+    let symbols = Symbols::parse(rt.alloc(), bytes).ok().ok_or("symbols")?;
+    let shown = with_symbols(rt.alloc(), &symbols, ADDRESSES)?;
+    let wanted = "fact 1: $C001 (wCount+$1), $D000-$D0FF (wMap); $C800, $0150, $80, $";
+    assert!(rt; shown.as_str() == wanted, "{shown}");
     Ok(())
 }

@@ -2,7 +2,7 @@
 
 use crate::spelled::{Changes, Spelled, WholeNode, WholeProcedure, WholeState, whole_certificate};
 use gb_abs::reason::Reason;
-use gb_page::{Cert, Listing, Rom, Symbols, explain};
+use gb_page::{Cert, Extras, Listing, Rom, Symbols, explain, facts_json, page_of};
 use gb_samples::cartridges::{PLAIN, Sizes, small};
 use std::alloc::Global;
 use std::test::Fail;
@@ -533,7 +533,7 @@ const SYMBOLS: &[u8] = b"00:C000 wState\n00:C001 wFirst\n00:C003 wBank\n00:C100 
 
 /// The listing.
 const LINES: &str =
-    "stack FF80-FFFD, procedures 2, nodes 2\nfact 0: $C000 = $00 (wState)\nfact 1: $C100-$C13C step 4 = $00..$08 step 4 (wActors)\n\nprocedure 0: 2 bytes of stack, does not return, writes no RAM\n    00:0100  NOP\n        A=01 B=00 C=13 D=00 E=D8 H=01 L=4D Z=1 C=1; interrupts off, IE=00, bank 01, cartridge RAM disabled, bytes 0\n\nprocedure 1: 2 bytes of stack, does not return, writes no RAM\n    keeps wFirst ($C001), wBank ($C003)\n    00:0156  NOP\n        A=10..18 step 8 B=00 C=13 D=00 E=D8 H=01 L=4D Z=1 C=1; interrupts off, IE=00, bank 01, cartridge RAM disabled, bytes 0\n        facts 1; $C200-$C2FF below HL = $05; A = $C003 = the mapped bank\n        controller kept except second bank register\n";
+    "stack FF80-FFFD, procedures 2, nodes 2\nfact 0: $C000 = $00 (wState)\nfact 1: $C100-$C13C step 4 = $00..$08 step 4 (wActors)\n\nprocedure 0: 2 bytes of stack, does not return, writes any RAM\n    00:0100  NOP\n        A=01 B=00 C=13 D=00 E=D8 H=01 L=4D Z=1 C=1; interrupts off, IE=00, bank 01, cartridge RAM disabled, bytes 0\n\nprocedure 1: 2 bytes of stack, does not return, writes no RAM\n    keeps wFirst ($C001), wBank ($C003)\n    00:0156  NOP\n        A=10..18 step 8 B=00 C=13 D=00 E=D8 H=01 L=4D Z=1 C=1; interrupts off, IE=00, bank 01, cartridge RAM disabled, bytes 0\n        facts 1; $C200-$C2FF below HL = $05; A = $C003 = the mapped bank\n        controller kept except second bank register\n";
 
 /// A certificate with all of that.
 fn listed() -> Spelled {
@@ -568,5 +568,37 @@ fn what_a_certificate_of_version_4_claims_is_listed(rt: HostRuntime) -> Result<(
     };
     let shown = format!(in rt.alloc(); "{listing}")?;
     assert!(rt; shown.as_str() == LINES, "{shown}");
+    Ok(())
+}
+
+/// A callee at 0156 that keeps C000 and gives it back.
+fn keeping() -> Spelled {
+    let keeps = WholeProcedure { entry: 1, ..KEEPS };
+    let last = WholeNode {
+        procedure: 1,
+        address: 0x0156,
+        state: EMPTY,
+    };
+    whole_certificate(&[], &[MAIN, keeps], &[AT_0100, last])
+}
+
+#[test]
+fn bytes_that_are_given_back_are_on_the_page(rt: HostRuntime) -> Result<(), Fail> {
+    let spelled = keeping();
+    let bytes = small(MBC1, &[]);
+    let rom = Rom::parse(&bytes).ok().ok_or("a cartridge")?;
+    let cert = Cert::parse(rt.alloc(), spelled.as_slice())
+        .ok()
+        .ok_or("a certificate")?;
+    let symbols = Symbols::parse(rt.alloc(), SYMBOLS).ok().ok_or("symbols")?;
+    let page = page_of(rt.alloc(), &rom, &cert, &symbols, Extras::none())?;
+    assert!(rt; page.contains("<code>$C000</code> wState</dd>"), "{page}");
+    // Main may write what it likes.
+    assert!(rt;
+        page.contains("<dt>can write</dt><dd>all RAM</dd>"),
+        "{page}"
+    );
+    let json = facts_json(rt.alloc(), &rom, &cert, &symbols, Extras::none())?;
+    assert!(rt; json.contains("\"bytes\":[49152]"), "{json}");
     Ok(())
 }

@@ -37,6 +37,8 @@ pub struct ProcedureFacts {
     pub ranges: ArrayVec<Range, 8>,
     /// What it gives back as it found it, if it returns.
     pub exit: Option<Exit>,
+    /// The addresses whose bytes it then gives back as they were.
+    pub kept: ArrayVec<u16, 16>,
     /// The most bytes that it holds itself.
     pub own: Peak,
     /// The most bytes that it holds with all that it calls and all that interrupts it.
@@ -78,6 +80,32 @@ impl Exit {
     }
 }
 
+/// Whether an exit's state says that the byte at an address is the one that was kept under a number.
+fn is_given_back(state: &Abs, number: u8, address: u16) -> bool {
+    for cell in state.cells() {
+        if cell.address == address {
+            return cell.val.origin == Some(Origin::Kept(number));
+        }
+    }
+    false
+}
+
+/// Of the addresses that a procedure names to be kept those whose bytes its exit gives back.
+fn given_back(kept: &[u16], exit: Option<&Abs>) -> ArrayVec<u16, 16> {
+    let mut addresses = ArrayVec::new();
+    let Some(state) = exit else {
+        return addresses;
+    };
+    let mut number: u8 = 0;
+    for address in kept {
+        if is_given_back(state, number, *address) {
+            let _ = addresses.try_push(*address);
+        }
+        number = number.saturating_add(1);
+    }
+    addresses
+}
+
 /// Where a node lies: its bank and its address.
 pub(crate) fn place_of(cert: &Cert<'_>, number: u32) -> (u16, u16) {
     if number >= cert.nodes() {
@@ -95,10 +123,9 @@ fn declared(cert: &Cert<'_>, number: u16) -> Option<ProcedureFacts> {
     let procedure = cert.procedure(number);
     let entry = procedure.entry();
     let (bank, address) = place_of(cert, entry);
-    let exit = match procedure.exit() {
-        Some(state) => Some(Exit::of(&state)),
-        None => None,
-    };
+    let state = procedure.exit();
+    let kept = given_back(procedure.kept().as_slice(), state.as_ref());
+    let exit = state.as_ref().map(Exit::of);
     Some(ProcedureFacts {
         entry,
         address,
@@ -107,6 +134,7 @@ fn declared(cert: &Cert<'_>, number: u16) -> Option<ProcedureFacts> {
         need: procedure.need(),
         ranges: procedure.ranges(),
         exit,
+        kept,
         own: Peak {
             bytes: 0,
             node: entry,

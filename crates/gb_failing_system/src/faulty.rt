@@ -120,6 +120,15 @@ pub const FAULTY: &[Scenario] = &[
         ..SHOW
     },
     Scenario {
+        about: "upgrade to version 4: a certificate with a byte left over",
+        words: &[b"gulmyrek", b"upgrade", b"--to", b"4", b"game.cert"],
+        cert: Given::Read(Content::Longer, ALL, Pace::Whole, StreamEnding::End),
+        written: ExpectedOutput::Text("CERTIFICATE C8\n"),
+        status: 2,
+        told: "game.cert",
+        ..UPGRADE
+    },
+    Scenario {
         about: "the beginning of a certificate of version 4",
         cert: Given::Read(Content::Fourth, ALL, Pace::Whole, StreamEnding::End),
         written: ExpectedOutput::Text("CERTIFICATE C1\n"),

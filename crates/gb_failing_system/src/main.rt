@@ -20,6 +20,7 @@ mod play;
 mod rows;
 mod said;
 mod stage;
+mod unordered;
 
 use crashes::{CRASHES, HUNTS};
 use cuts::CUTS;

@@ -7,6 +7,7 @@ use crate::rows::{
 };
 use crate::said::OutputBytes;
 use crate::stage::{Entry, Names, Stage};
+use crate::unordered::{ORDERED, UNORDERED};
 use std::alloc::Global;
 use std::io::ErrorKind;
 use std::process::ExitCode;
@@ -67,6 +68,8 @@ impl<'a> Contents<'a> {
             Content::Certificate => &self.longer[..self.longer.len().saturating_sub(1)],
             Content::Longer => self.longer,
             Content::Fourth => b"GBBX\x04",
+            Content::Unordered => UNORDERED,
+            Content::Ordered => ORDERED,
             Content::Markup => self.markup,
             Content::Garbage => &[0xFF, 0xFE, 0x00, 0x80],
             Content::Events => b"# four instructions\nrun x4\n",
@@ -102,6 +105,7 @@ impl<'a> Contents<'a> {
             ExpectedOutput::Text(text) => OutputBytes::Bytes(text.as_bytes()),
             ExpectedOutput::Screen(ending) => OutputBytes::Screen(ending.as_bytes()),
             ExpectedOutput::Upgraded => OutputBytes::Bytes(self.upgraded),
+            ExpectedOutput::Ordered => OutputBytes::Bytes(ORDERED),
         }
     }
 

@@ -30,6 +30,10 @@ pub enum Content {
     Longer,
     /// The first bytes of a certificate of version 4.
     Fourth,
+    /// A certificate of version 3 whose procedures stand out of order.
+    Unordered,
+    /// The same in version 4, where they stand in order.
+    Ordered,
     /// Symbols with markup in their names.
     Markup,
     /// Bytes that are no text.
@@ -57,6 +61,8 @@ pub enum ExpectedOutput {
     Screen(&'static str),
     /// The certificate in version 2.
     Upgraded,
+    /// The certificate with procedures out of order, in version 4.
+    Ordered,
 }
 
 /// An example. `told` is in what standard error tells, where it isn't empty.
@@ -227,6 +233,15 @@ pub(crate) const UPGRADE: Scenario = Scenario {
     game: MISSING,
     written: ExpectedOutput::Upgraded,
     ..VERIFY
+};
+
+/// Procedures and nodes change places.
+const UPGRADE_WHOLE: Scenario = Scenario {
+    about: "upgrade to version 4",
+    words: &[b"gulmyrek", b"upgrade", b"--to", b"4", b"game.cert"],
+    cert: Given::Read(Content::Unordered, ALL, Pace::Whole, StreamEnding::End),
+    written: ExpectedOutput::Ordered,
+    ..UPGRADE
 };
 
 /// Two frames with a script that never ends: no more of it is read.
@@ -433,6 +448,18 @@ pub const READ: &[Scenario] = &[
     HEADER,
     SHOW,
     UPGRADE,
+    UPGRADE_WHOLE,
+    Scenario {
+        about: "upgrade to version 4: a certificate of version 4",
+        cert: Given::Read(Content::Ordered, ALL, Pace::Slow, StreamEnding::End),
+        ..UPGRADE_WHOLE
+    },
+    Scenario {
+        about: "upgrade to version 3: a certificate of version 4",
+        words: &[b"gulmyrek", b"upgrade", b"--to", b"3", b"game.cert"],
+        cert: Given::Read(Content::Ordered, ALL, Pace::Whole, StreamEnding::End),
+        ..UPGRADE_WHOLE
+    },
     RUN,
     WATCH,
     WATCH_CERTIFIED,

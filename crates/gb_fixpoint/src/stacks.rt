@@ -28,7 +28,7 @@ impl<'a> Run<'a> {
         }
     }
 
-    /// How many bytes below its base a procedure saves SP; where it doesn't, what no instruction takes for a mark.
+    /// How many bytes below its base a procedure saves SP; where it doesn't, more than it holds where SP is saved.
     fn mark_of(&self, procedure: usize) -> u8 {
         match self.procedures.get(procedure) {
             Some(procedure) => procedure.mark.unwrap_or(NO_MARK),

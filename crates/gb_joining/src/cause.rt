@@ -21,6 +21,8 @@ pub enum StackMisuse {
     SetInCallee,
     /// LD SP,n16 with another address than the one before.
     SetAgain(u16),
+    /// A push, a call, a return or EI while SP is put aside.
+    UsedAside,
 }
 
 /// What happens while an OAM transfer may run, or how one would start unseen.

@@ -78,25 +78,42 @@ fn bytes_moved(op: Op) -> Option<usize> {
     }
 }
 
-/// What is wrong where the stack is put aside: only POP goes on then, as a load.
+/// What is wrong where the stack is put aside: nothing may be pushed or returned to, and SP moves by POP alone, a load.
 fn aside_misuse(op: Op) -> Option<StackMisuse> {
     match op {
-        Op::Pop(_) => None,
-        _ => Some(StackMisuse::NotSet),
+        Op::Push(_)
+        | Op::CallIf(_, _)
+        | Op::Call(_)
+        | Op::Restart(_)
+        | Op::Return
+        | Op::ReturnIf(_)
+        | Op::ReturnFromInterrupt
+        | Op::IncrementPair(Pair::Sp)
+        | Op::DecrementPair(Pair::Sp)
+        | Op::AddSp(_)
+        | Op::EnableInterrupts => Some(StackMisuse::UsedAside),
+        _ => None,
     }
 }
 
-/// What is wrong with the stack by the rules of versions 3 and 4, except for LD SP,HL.
-fn extended_misuse(state: &Abs, op: Op) -> Option<StackMisuse> {
+/// What is wrong with the stack where SP is on it, by the rules of versions 3 and 4, except for LD SP,HL.
+fn located_misuse(state: &Abs, op: Op) -> Option<StackMisuse> {
     let bytes = bytes_moved(op)?;
-    if state.summary().aside().is_some() {
-        aside_misuse(op)
-    } else if !state.core().stack_set {
+    if !state.core().stack_set {
         Some(StackMisuse::NotSet)
     } else if state.items().len() < bytes {
         Some(StackMisuse::TakesTooMany)
     } else {
         None
+    }
+}
+
+/// The same, wherever SP is.
+fn extended_misuse(state: &Abs, op: Op) -> Option<StackMisuse> {
+    if state.summary().aside().is_some() {
+        aside_misuse(op)
+    } else {
+        located_misuse(state, op)
     }
 }
 

@@ -103,12 +103,13 @@ fn put_kept(object: &mut JsonObject, exit: &Exit) -> Result<(), AllocError> {
 }
 
 /// What a procedure gives back as it was; null where it doesn't return.
-fn exit_json(alloc: Global, exit: Option<Exit>) -> Result<Value, AllocError> {
-    let Some(exit) = exit else {
+fn exit_json(alloc: Global, procedure: &ProcedureFacts) -> Result<Value, AllocError> {
+    let Some(exit) = procedure.exit else {
         return Ok(Value::Null);
     };
     let mut object = JsonObject::new(alloc);
     put_kept(&mut object, &exit)?;
+    object.put_addresses("bytes", procedure.kept.as_slice())?;
     Ok(object.finish())
 }
 
@@ -140,7 +141,7 @@ fn procedure_json(
     symbols: &Symbols<'_>,
 ) -> Result<Value, AllocError> {
     let writes = ranges_json(alloc, procedure.ranges.as_slice())?;
-    let keeps = exit_json(alloc, procedure.exit)?;
+    let keeps = exit_json(alloc, procedure)?;
     let mut object = JsonObject::new(alloc);
     put_place(&mut object, procedure, symbols)?;
     object.put_number("entry", u64::from(procedure.entry))?;

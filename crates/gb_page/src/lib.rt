@@ -38,6 +38,7 @@ pub use findings::{FindingsExtras, findings_page};
 pub use json::facts_json;
 pub use page::{Extras, page_of};
 pub use screen::Screen;
+pub use verdict::named;
 
 // What lies below, for the crates above.
 pub use gb_reports::{

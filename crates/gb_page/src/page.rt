@@ -222,7 +222,7 @@ pub fn page_of(
 ) -> Result<String, AllocError> {
     let facts = Facts::of(alloc, rom, cert)?;
     let texts = PageTexts {
-        refusal: refusal_of(alloc, rom, cert, facts.verdict)?,
+        refusal: refusal_of(alloc, rom, cert, symbols, facts.verdict)?,
         changed: changed_of(alloc, extras)?,
     };
     shown(alloc, rom, cert, symbols, &facts, &texts, extras)

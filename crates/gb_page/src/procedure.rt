@@ -1,7 +1,7 @@
 //! One procedure: who calls it, whom it calls, what it writes and keeps, its deepest way, and its listing.
 
 use crate::listing::fmt_listing;
-use crate::names::{Address, ProcedureLink, ProcedureName};
+use crate::names::{Address, ProcedureLink, ProcedureName, SymbolAt};
 use crate::page::Page;
 use crate::ram::fmt_ranges;
 use crate::stack::{by_text, fmt_way};
@@ -90,8 +90,33 @@ fn word_if(is_so: bool, word: &'static str) -> &'static str {
     if is_so { word } else { "" }
 }
 
-/// The registers that an exit keeps.
-fn fmt_kept<W: fmt::Write>(exit: &Exit, f: &mut fmt::Formatter<W>) -> fmt::Result {
+/// The bytes of RAM that a procedure gives back as they were.
+fn fmt_kept_bytes<W: fmt::Write>(
+    page: &Page<'_, '_, '_, '_>,
+    kept: &[u16],
+    f: &mut fmt::Formatter<W>,
+) -> fmt::Result {
+    for address in kept {
+        let at = Address {
+            bank: 0,
+            address: *address,
+        };
+        let symbol = SymbolAt {
+            symbols: page.symbols,
+            at,
+        };
+        write!(f, " <code>{at}</code> {symbol}")?;
+    }
+    Ok(())
+}
+
+/// The registers and the bytes that an exit keeps.
+fn fmt_kept<W: fmt::Write>(
+    page: &Page<'_, '_, '_, '_>,
+    exit: &Exit,
+    kept: &[u16],
+    f: &mut fmt::Formatter<W>,
+) -> fmt::Result {
     let registers = exit.registers;
     let a = word_if(registers.a, "A ");
     let flags = word_if(exit.flags, "F ");
@@ -105,14 +130,20 @@ fn fmt_kept<W: fmt::Write>(exit: &Exit, f: &mut fmt::Formatter<W>) -> fmt::Resul
     let controller = word_if(exit.controller, "banks and RAM gate");
     write!(
         f,
-        "<dt>preserves</dt><dd>{a}{flags}{b}{c}{d}{e}{h}{l}{ie}{controller}</dd>\n"
-    )
+        "<dt>preserves</dt><dd>{a}{flags}{b}{c}{d}{e}{h}{l}{ie}{controller}"
+    )?;
+    fmt_kept_bytes(page, kept, f)?;
+    write!(f, "</dd>\n")
 }
 
 /// What it gives back.
-fn fmt_exit<W: fmt::Write>(exit: Option<Exit>, f: &mut fmt::Formatter<W>) -> fmt::Result {
-    match exit {
-        Some(exit) => fmt_kept(&exit, f),
+fn fmt_exit<W: fmt::Write>(
+    page: &Page<'_, '_, '_, '_>,
+    procedure: &ProcedureFacts,
+    f: &mut fmt::Formatter<W>,
+) -> fmt::Result {
+    match procedure.exit {
+        Some(exit) => fmt_kept(page, &exit, procedure.kept.as_slice(), f),
         None => write!(f, "<dt>returns</dt><dd>never</dd>\n"),
     }
 }
@@ -126,7 +157,7 @@ fn fmt_writes<W: fmt::Write>(
 ) -> fmt::Result {
     let ranges = procedure.ranges.as_slice();
     write!(f, "<dt>can write</dt><dd>")?;
-    if number == 0 && page.facts.version == 3 {
+    if number == 0 && page.facts.version >= 3 {
         write!(f, "all RAM")?;
     } else if ranges.is_empty() {
         write!(f, "no RAM")?;
@@ -176,7 +207,7 @@ pub fn fmt_procedure<W: fmt::Write>(
     fmt_callers(page, number, f)?;
     fmt_callees(page, number, f)?;
     fmt_writes(page, number, procedure, f)?;
-    fmt_exit(procedure.exit, f)?;
+    fmt_exit(page, procedure, f)?;
     fmt_depth(page, number, procedure, f)?;
     fmt_listing(page, number, procedure, f)?;
     write!(f, "</article>\n")

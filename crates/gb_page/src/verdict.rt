@@ -4,7 +4,7 @@ use crate::escaped::Escaped;
 use crate::names::NodeLink;
 use crate::page::Page;
 use gb_reports::gb_ops::machine::Kind;
-use gb_reports::{Cert, Explanation, Rom, Verdict, color_note};
+use gb_reports::{Cert, Explanation, NamedText, Rom, Symbols, Verdict, color_note};
 use std::alloc::{AllocError, Global};
 use std::fmt;
 
@@ -21,17 +21,28 @@ const PREMISES: &str = "\
 <li>Only the verdict is proved. The rest of this page is informational.</li>
 ";
 
-/// What there is to say of a refusal, if it is one.
+/// A text with symbols after the addresses of RAM.
+pub fn named(alloc: Global, symbols: &Symbols<'_>, text: &str) -> Result<String, AllocError> {
+    let named = NamedText {
+        symbols: &*symbols,
+        text: &*text,
+    };
+    format!(in alloc; "{named}")
+}
+
+/// What there is to say of a refusal, if it is one, with symbols after the addresses of RAM.
 pub fn refusal_of(
     alloc: Global,
     rom: &Rom<'_>,
     cert: &Cert<'_>,
+    symbols: &Symbols<'_>,
     verdict: Verdict,
 ) -> Result<String, AllocError> {
     match verdict {
         Verdict::Refused { node, reason } if node < cert.nodes() => {
             let explanation = Explanation::of(rom, cert, node, reason);
-            format!(in alloc; "{explanation}")
+            let text = format!(in alloc; "{explanation}")?;
+            named(alloc, symbols, text.as_str())
         }
         _ => Ok(String::new(alloc)),
     }

@@ -1,12 +1,13 @@
 //! What certificates' maker refines after a failure: which states are to be told apart, and where.
 //!
 //! Over gb_dataflow `plan_for` answers a plan for a run's failure, if anything may help: read `plans`, then `cells`, `losses`,
-//! `arrays` and `kept`; `inlining` and `saving` save procedures. Nothing here is trusted: a plan that doesn't help costs time alone.
+//! `arrays`, `circles` and `kept`; `inlining` and `saving` save procedures. Nothing here is trusted: a plan that doesn't help costs time alone.
 #![tactic(auto)]
 
 mod arrays;
 mod below;
 mod cells;
+mod circles;
 mod inlining;
 mod kept;
 mod losses;

@@ -2,9 +2,10 @@
 
 use crate::arrays::{plan_array, plan_copied, plan_filled};
 use crate::cells::{key_all_cells, key_cells};
+use crate::circles::plan_recursion;
 use crate::inlining::{inline_plan, may_be_inlined};
 use crate::kept::{part_exits, plan_kept, plan_stored, plan_written};
-use crate::losses::{part_all, part_circle, plan_banked, plan_shown};
+use crate::losses::{part_all, plan_banked, plan_shown};
 use gb_dataflow::Rules;
 use gb_dataflow::cause::{Cause, Failure, StackMisuse};
 use gb_dataflow::gb_ops::op::Register;
@@ -13,10 +14,11 @@ use gb_dataflow::limits::{
 };
 use gb_dataflow::loops::refine_loops;
 use gb_dataflow::plan::{Edit, Plan, parted_by, unless_taken_back};
+use gb_dataflow::popped::follow_taker;
 use gb_dataflow::register_set::{REGISTERS, RegisterSet};
 use gb_dataflow::slices::{
     SliceBy, SliceGoal, slice, slice_past_skip, slice_through_loop, slice_to_adder, slice_to_call,
-    slice_to_start,
+    slice_to_start, slice_to_strides,
 };
 use gb_dataflow::sources::high_registers;
 use gb_dataflow::spots::{is_known, place_of, value_of};
@@ -51,7 +53,7 @@ impl FailurePoint {
 }
 
 /// All registers but A: what is usually passed to a procedure in pairs.
-fn all_but_a() -> RegisterSet {
+pub(crate) fn all_but_a() -> RegisterSet {
     RegisterSet::of(&[
         Register::B,
         Register::C,
@@ -63,7 +65,7 @@ fn all_but_a() -> RegisterSet {
 }
 
 /// All registers.
-fn all_registers() -> RegisterSet {
+pub(crate) fn all_registers() -> RegisterSet {
     RegisterSet::of(&REGISTERS)
 }
 
@@ -260,6 +262,8 @@ enum Near {
     Through,
     /// A slice past a branch that skips a few instructions.
     Skip,
+    /// A loop that goes through an array by a pointer, up to the array's end.
+    Strides,
     /// A slice with few values.
     Slice,
     /// The loop that filled the byte of RAM from which a jump's index comes.
@@ -280,11 +284,12 @@ enum Near {
     Call,
 }
 
-const NEAR: [Near; 13] = [
+const NEAR: [Near; 14] = [
     Near::Calls,
     Near::Array,
     Near::Through,
     Near::Skip,
+    Near::Strides,
     Near::Slice,
     Near::Filled,
     Near::Jump,
@@ -322,8 +327,15 @@ fn try_near(
         Near::Array if trouble.is_array_sought => plan_array(alloc, run, spot, &trouble.wanted),
         Near::Filled if trouble.is_array_sought => plan_filled(alloc, run, spot, &trouble.wanted),
         Near::Jump | Near::Array | Near::Filled => Ok(None),
-        Near::Through | Near::Skip | Near::Start | Near::Call | Near::Page | Near::WideSlice
+        Near::Through
+        | Near::Skip
+        | Near::Strides
+        | Near::Start
+        | Near::Call
+        | Near::Page
+        | Near::WideSlice
             if trouble.is_jump => Ok(None),
+        Near::Strides => slice_to_strides(alloc, run, ways, spot, &trouble.wanted),
         Near::Through => slice_through_loop(alloc, run, ways, spot, &trouble.wanted),
         Near::Skip if trouble.is_bound_wanted => {
             slice_past_skip(alloc, run, ways, spot, &trouble.wanted)
@@ -588,49 +600,15 @@ fn plan_bank(alloc: Global, run: &Run<'_>, node: usize) -> Result<Option<Plan>, 
     Ok(None)
 }
 
-/// The procedures that call a procedure, directly or by others, or that are called by it.
-fn reached(
+/// A jump to a return word that a routine has popped itself: what took that word over before is followed.
+fn plan_return_word(
     alloc: Global,
     run: &Run<'_>,
-    number: usize,
-    are_callers: bool,
-) -> Result<BTreeSet<usize>, AllocError> {
-    let mut seen = BTreeSet::new(alloc);
-    let mut left = Vec::new(alloc);
-    left.push(number)?;
-    for _ in 0..=run.procedures.len() {
-        let Some(at) = left.pop() else { break };
-        for call in run.calls.iter() {
-            let (from, to) = if are_callers {
-                (call.callee, call.caller)
-            } else {
-                (call.caller, call.callee)
-            };
-            if from == at && seen.insert(to)? {
-                left.push(to)?;
-            }
-        }
-    }
-    Ok(seen)
-}
-
-/// A procedure may be running when it is called: the procedures of the cycle are told apart by registers.
-fn plan_recursion(alloc: Global, run: &Run<'_>, number: usize) -> Result<Option<Plan>, AllocError> {
-    let callers = reached(alloc, run, number, true)?;
-    let callees = reached(alloc, run, number, false)?;
-    if let Some(plan) = part_circle(alloc, run, &callers, &callees)? {
-        return Ok(Some(plan));
-    }
-    for registers in [all_but_a(), all_registers()] {
-        for member in callers.iter() {
-            if callees.contains(member) {
-                if let Some(plan) = part(alloc, run, *member, &registers)? {
-                    return Ok(Some(plan));
-                }
-            }
-        }
-    }
-    Ok(None)
+    spot: Spot,
+    wanted: &RegisterSet,
+) -> Result<Option<Plan>, AllocError> {
+    let ways = Ways::of(alloc, run, spot.procedure)?;
+    follow_taker(alloc, run, &ways, spot, wanted)
 }
 
 /// A pointer is too wide, or one that is known ran too far.
@@ -675,6 +653,11 @@ fn plan_pointer(
     }
     if trouble.is_jump
         && let Some(plan) = plan_adder(alloc, run, spot, &wanted)?
+    {
+        return Ok(Some(plan));
+    }
+    if trouble.is_jump
+        && let Some(plan) = plan_return_word(alloc, run, spot, &wanted)?
     {
         return Ok(Some(plan));
     }

@@ -1,3 +1,6 @@
+pub mod Fourth
+pub mod FourthFile
 pub mod Input
+pub mod Opened
 pub mod Status
 pub mod Versions

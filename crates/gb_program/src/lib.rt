@@ -1,10 +1,15 @@
 //! The program: its words, files and statuses, and its messages.
 //!
 //! `run` does what the words ask for; the lines that it prints are gb_verify's and gb_printed's, whose contracts say what they
-//! are. `status` says which status each outcome has. Read `perform` first, then `status`; files are read by gb_files, and what
-//! `certify` does alike is gb_command_line's.
+//! are. `status` says which status each outcome has. `fourth` writes a certificate in version 4 of its format. Read `perform`
+//! first, then `status`, and `fourth` with `Fourth`; files are read by gb_files, and what `certify` does alike is
+//! gb_command_line's.
 #![tactic(auto)]
 
+mod fourth;
+mod fourth_order;
+mod fourth_spelled;
+mod fourth_told;
 mod hunting;
 mod inputs;
 mod messages;
@@ -17,6 +22,7 @@ mod storming;
 mod versions;
 mod watching;
 
+pub use fourth::upgrade_whole;
 use gb_command_line::status::exit_code;
 use perform::start;
 use std::io::Input;

@@ -7,18 +7,16 @@ use crate::progress::FramesShown;
 use crate::replaying::replay;
 use crate::status::{header_status, run_status, show_status, upgrade_status};
 use crate::stored;
-use crate::versions::upgrade_to;
+use crate::versions::upgrade_in;
 use crate::watching::{WatchedFiles, watch};
 use gb_command_line::messages::{
     FileNames, tell_cartridge, tell_fault, tell_memory, tell_output, verify,
 };
 use gb_command_line::status::Status;
 use gb_command_line::words::{explain, tell_words, words_of};
-use gb_command_line::{
-    Plain, Trouble, UpgradeTo, read_cartridge, read_certificate, read_file, upgrade_bytes,
-};
+use gb_command_line::{Plain, Trouble, read_cartridge, read_certificate, read_file};
 use gb_events::{RunOutcome, header_bytes, run_bytes, show_bytes};
-use gb_words::{Task, read_words};
+use gb_words::{TargetVersion, Task, read_words};
 use std::io::{self, Input};
 use std::rt::{Clock, Env, Files};
 
@@ -83,11 +81,11 @@ fn show<R: Print + Eprint + Input + Files + AllocGlobal>(
 fn upgrade<R: Print + Eprint + Input + Files + AllocGlobal>(
     rt: &R,
     cert: &str,
-    to: UpgradeTo,
+    to: TargetVersion,
 ) -> Result<Status, Trouble> {
     let bytes = read_certificate(rt, PROGRAM, cert)?;
     let mut out = Plain::new(io::writer(rt));
-    let status = match upgrade_bytes(rt.alloc(), &bytes, to, &mut out) {
+    let status = match upgrade_in(rt.alloc(), &bytes, to, &mut out) {
         Ok(upgraded) => upgrade_status(upgraded),
         Err(_) => return Ok(tell_output(rt, PROGRAM)),
     };
@@ -152,7 +150,7 @@ fn perform<R: Print + Eprint + Input + Files + Clock + AllocGlobal>(
         Task::Verify { rom, cert } => verify_files(rt, rom, cert),
         Task::Header { rom } => header(rt, rom),
         Task::Show { cert } => show(rt, cert),
-        Task::Upgrade { cert, to } => upgrade(rt, cert, upgrade_to(to)),
+        Task::Upgrade { cert, to } => upgrade(rt, cert, to),
         Task::Run {
             rom,
             script,

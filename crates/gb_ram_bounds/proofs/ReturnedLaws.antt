@@ -17,7 +17,7 @@ use Rattle.gb_ram_bounds.specs.Facts.{has_address}
 use Rattle.gb_ram_bounds.specs.Fills.{at_pointer, is_reached, reaches, is_between, bytes_of, fixed_at}
 use Rattle.gb_ram_bounds.specs.Meaning.{HoldsFact, HoldFacts, HoldsFill, HoldsSome, PointersIn}
 use Rattle.gb_ram_bounds.specs.Returned.{is_in_range, is_in_ranges, lies_in_range, lies_in_one, misses_range, misses_all, claims, stays_at, stays, staying, kept_or_fixed, left_of_caller, IsReturn, IsSoundReturnedLevel, IsSoundExitFill, KeepsPointers, IsSoundCallerFill}
-use Rattle.gb_ram_bounds.proofs.AddressLaws.{each_of-at}
+use Rattle.gb_ram_bounds.proofs.AddressLaws.{each_of-all, each_of-at}
 use Rattle.gb_ram_bounds.proofs.FactLaws.{has_address-between}
 use Rattle.gb_ram_bounds.proofs.FillLaws.{HoldsSome-fixed, HoldsFill-elsewhere, HoldsFill-none, at_most}
 
@@ -73,6 +73,27 @@ HoldsFact-stays ranges exit caller cells before after in_exit in_caller f r x c 
           In-claimed ranges exit caller cells before after in_exit in_caller f a r x c has free
           (claimed (has_address f a) (has_cell cells a) (claims (is_in_ranges ranges a) in_exit in_caller (has_cell exit a)) at has free);
     }
+
+-- what both say stays: inside the ranges the exit says it, and outside the caller
+pub stays_by_both :
+    (ranges : List Range) (exit cells : List Cell) (in_exit in_caller : Bool) (f : Fact)
+    → in_exit ≡ true → in_caller ≡ true → stays ranges exit cells in_exit in_caller f ≡ true
+unfolding stays stays_at
+stays_by_both ranges exit cells in_exit in_caller f x c =
+    rw x (rw c (each_of-all (stays_at ranges exit cells true true f) (f.last + 1 - f.first) f.first (λ a low high. at a)))
+  where
+    claimed-by-both : (inside has : Bool) → claims inside true true has ≡ true
+    claimed-by-both true has = refl
+    claimed-by-both false has = refl
+
+    passes : (has cell claim : Bool) → claim ≡ true → (not has || cell || claim) ≡ true
+    passes false cell claim e = refl
+    passes true true claim e = refl
+    passes true false claim e = e
+
+    at : (a : ℕ) → stays_at ranges exit cells true true f a ≡ true
+    at a = passes (has_address f a) (has_cell cells a) (claims (is_in_ranges ranges a) true true (has_cell exit a))
+        (claimed-by-both (is_in_ranges ranges a) (has_cell exit a))
 
 first-holds : (n : ℕ) (f : Fact) (facts : List Fact) (cells : List Cell) (memory : ℕ → ℕ) → HoldFacts (take n (f ∷ facts)) cells memory → nat_lt 0 n ≡ true → HoldsFact cells memory f
 first-holds zero f facts cells memory h some = cc

@@ -54,7 +54,7 @@ fn stays_at(
 }
 
 #[tactic(auto, using(crate::proofs::AddressLaws::each_of_none, crate::proofs::AddressLaws::each_of_failed, crate::proofs::AddressLaws::each_of_next), unfolding(crate::specs::Returned::stays))]
-fn stays(
+fn stays_by_address(
     ranges: &[Range],
     exit: &[Cell],
     cells: &[Cell],
@@ -73,6 +73,21 @@ fn stays(
         }
     }
     true
+}
+
+/// The same. What both say isn't asked address by address: inside the ranges the exit says it, and outside the caller.
+#[tactic(auto, using(crate::proofs::ReturnedLaws::stays_by_both))]
+fn stays(
+    ranges: &[Range],
+    exit: &[Cell],
+    cells: &[Cell],
+    in_exit: bool,
+    in_caller: bool,
+    fact: &Fact,
+) -> bool
+    ensures { result ≡ Returned.stays ranges.now exit.now cells.now in_exit in_caller fact.now }
+{
+    in_exit && in_caller || stays_by_address(ranges, exit, cells, in_exit, in_caller, fact)
 }
 
 fn staying(

@@ -1,5 +1,6 @@
 //! The attempts at a cartridge: by the rules of version 3, and where these lead to no certificate, by those of version 4 if it
-//! switches banks, and then by those of versions 1 and 2, by which states are told apart otherwise. So nothing is lost that these
+//! switches banks, and then by those of versions 1 and 2, by which states are told apart otherwise. Where a game has more procedures than
+//! a certificate of version 3 holds, those of version 4 come before calls are followed. So nothing is lost that these
 //! rules certify. All are tried with few nodes first, since an edit that leads into very many is mostly one that doesn't help; and
 //! with more while that helps against a failure.
 
@@ -30,7 +31,9 @@ struct Attempts<'a> {
     by_third: Option<Refinement<'a>>,
     by_fourth: Option<Refinement<'a>>,
     by_early: Option<Refinement<'a>>,
-    /// The findings by the rules that are tried first.
+    /// Whether the rules of version 3 have given way to those of version 4, which have room for more procedures.
+    has_given_way: bool,
+    /// The findings by the rules that are tried first, or by those of version 4 where these were given way to.
     findings: Vec<Finding>,
 }
 
@@ -89,6 +92,7 @@ impl<'a> Attempts<'a> {
                     || refinement.is_wild()
                     || refinement.is_multiplied && self.limits.nodes <= NODES;
                 let is_limited = refinement.is_limited && !is_over;
+                self.has_given_way = self.has_given_way || refinement.has_given_way;
                 self.keep_learnt(edition, refinement);
                 Ok(Attempted::Nothing { is_limited })
             }
@@ -152,14 +156,15 @@ impl<'a> Attempts<'a> {
         if edition == Edition::Fourth {
             refinement.budget = self.budget();
         }
+        refinement.may_give_way = edition == Edition::Third && self.are_wanted(Edition::Fourth);
         Ok(refinement)
     }
 
-    /// The steps of an attempt by the rules of version 4. Where nobody asked for these, it takes about as long as the one by the rules
-    /// of version 3, so that a game with a mistake is refused soon.
+    /// The steps of an attempt by the rules of version 4. Where nobody asked for these, it takes no longer than the one by the rules of
+    /// version 3, so that a game with a mistake is refused soon; where that one has given way, as long as it needs.
     fn budget(&self) -> u64 {
         match &self.by_third {
-            Some(third) if self.limits.edition.is_none() => {
+            Some(third) if self.limits.edition.is_none() && !self.has_given_way => {
                 third.spent.max(FEWEST_STEPS).min(MOST_STEPS)
             }
             _ => u64::MAX,
@@ -182,9 +187,14 @@ impl<'a> Attempts<'a> {
         Ok(())
     }
 
-    /// Findings are kept by the first rules alone.
+    /// Findings are kept by the first rules alone; where these have given way to others, by those.
     fn keep(&mut self, edition: Edition, findings: Vec<Finding>) {
-        if edition == Edition::Third || !self.are_wanted(Edition::Third) {
+        let first = if self.has_given_way {
+            Edition::Fourth
+        } else {
+            Edition::Third
+        };
+        if edition == first || !self.are_wanted(Edition::Third) {
             self.findings = findings;
         }
     }
@@ -230,6 +240,30 @@ impl<'a> Attempts<'a> {
         }
     }
 
+    /// An attempt by the rules of version 3 that goes on where it gave way to those of version 4, and these lead to no certificate:
+    /// calls are followed in their callers then.
+    fn attempt_further<P: SearchProgress>(
+        &mut self,
+        nodes: usize,
+        limited: &mut Limited,
+        progress: &mut P,
+    ) -> Result<Option<Vec<u8>>, AllocError> {
+        let has_given_way = match &mut self.by_third {
+            Some(third) => std::mem::take(&mut third.has_given_way),
+            None => false,
+        };
+        if !has_given_way || !progress.goes_on() {
+            return Ok(None);
+        }
+        match self.attempt(Edition::Third, nodes, progress)? {
+            Attempted::Certificate(bytes) => Ok(Some(bytes)),
+            Attempted::Nothing { is_limited } => {
+                limited.set(Edition::Third, is_limited);
+                Ok(None)
+            }
+        }
+    }
+
     /// Certificates by all rules with so many nodes, where they might lead further than before.
     fn attempt_all<P: SearchProgress>(
         &mut self,
@@ -239,6 +273,11 @@ impl<'a> Attempts<'a> {
     ) -> Result<AllAttempted, AllocError> {
         let mut limited = Limited::none();
         for edition in [Edition::Third, Edition::Fourth, Edition::Early] {
+            if edition == Edition::Early
+                && let Some(bytes) = self.attempt_further(nodes, &mut limited, progress)?
+            {
+                return Ok(AllAttempted::Certificate(bytes));
+            }
             if let Some(bytes) = self.made_with_facts(edition, nodes, progress)? {
                 return Ok(AllAttempted::Certificate(bytes));
             }
@@ -339,6 +378,7 @@ pub(crate) fn made_certificate<P: SearchProgress>(
         by_third: None,
         by_fourth: None,
         by_early: None,
+        has_given_way: false,
         findings: Vec::new(alloc),
     };
     attempts.make(progress)

@@ -2,7 +2,7 @@
 
 use crate::failures::{is_from_many, told};
 use crate::rounds::{
-    Change, Lesson, Mending, News, Refinement, Tried, WORD, alone, is_in_ram, region_below,
+    Change, Lesson, Made, Mending, News, Refinement, Tried, WORD, alone, is_in_ram, region_below,
 };
 use crate::written::{is_accepted, written};
 use gb_findings::{Crowd, Finding, InstructionFinding};
@@ -443,9 +443,13 @@ impl<'a> Refinement<'a> {
         Ok(Lesson::Change(Change::Grant(wishes, self.news(run)?)))
     }
 
-    /// There would be too many procedures: some are followed in their callers, where that is cheap. Where the last edit
-    /// was for a pointer that is kept in RAM, they are parted by its values, of which following would only make more.
+    /// There would be too many procedures: other rules come first that have room for more. Else some are followed in their callers,
+    /// where that is cheap. Where the last edit was for a pointer that is kept in RAM, they are parted by its values, of which
+    /// following would only make more.
     fn learn_crowded(&self, run: &Run<'_>) -> Result<Lesson, AllocError> {
+        if self.may_give_way {
+            return Ok(Lesson::GiveWay(Crowd::of(self.alloc, run)?));
+        }
         let is_kept = match &self.before {
             Some(before) => self.is_kept_in_ram(before.place),
             None => false,
@@ -456,6 +460,13 @@ impl<'a> Refinement<'a> {
         } else {
             Ok(Lesson::Change(Change::Follow(targets)))
         }
+    }
+
+    /// Other rules come first: the search ends here for now.
+    pub(crate) fn give_way(&mut self, crowd: Crowd) -> Result<Option<Made>, AllocError> {
+        self.has_given_way = true;
+        let findings = alone(self.alloc, Finding::TooLarge(crowd))?;
+        Ok(Some(Made::Findings(findings)))
     }
 
     /// A failure is looked into only where no more can be known of cells and widening, but in a long run.

@@ -133,6 +133,8 @@ pub(crate) enum Lesson {
     Change(Change),
     /// The run was too large.
     TooLarge(Crowd),
+    /// There would be too many procedures, and other rules have room for more.
+    GiveWay(Crowd),
     /// The search may not go on.
     OutOfTime,
     /// Nothing helps against these findings.
@@ -204,6 +206,9 @@ pub(crate) struct Refinement<'a> {
     rounds: u32,
     /// Whether the limit of nodes was met.
     pub(crate) is_limited: bool,
+    /// Whether the search gives way to other rules where there would be too many procedures, and whether it has.
+    pub(crate) may_give_way: bool,
+    pub(crate) has_given_way: bool,
 }
 
 /// The first configuration.
@@ -275,6 +280,8 @@ impl<'a> Refinement<'a> {
             budget: u64::MAX,
             rounds: 0,
             is_limited: false,
+            may_give_way: false,
+            has_given_way: false,
         })
     }
 
@@ -589,6 +596,7 @@ impl<'a> Refinement<'a> {
                 Ok(None)
             }
             Lesson::TooLarge(crowd) => self.shrink_back(crowd),
+            Lesson::GiveWay(crowd) => self.give_way(crowd),
             Lesson::OutOfTime => Ok(Some(self.out_of_rounds(self.rounds, Spent::Time)?)),
             Lesson::End(findings) => Ok(Some(self.end(findings)?)),
             Lesson::EndAt(place) => Ok(Some(self.end_as_first(place)?)),
@@ -705,6 +713,7 @@ impl<'a> Refinement<'a> {
         self.is_multiplied = false;
         self.is_single = false;
         self.is_limited = false;
+        self.may_give_way = false;
         Ok(())
     }
 

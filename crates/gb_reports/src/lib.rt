@@ -31,6 +31,7 @@ pub use gb_facts::{
     INTERRUPTS, Interrupt, Key, Keyed, Outline, ProcedureFacts, ShownSummary, Side, Sketch,
     StackStep, differences, explain, interrupt_at, is_same_way, length_at, target_of, way_from,
 };
+pub use gb_findings::gb_symbols::NamedText;
 pub use gb_findings::{
     Abs, Cell, Cert, CodePoint, Count, Crowd, Finding, Format, InstructionFinding, Multiplied,
     Multiplier, NodeRef, Program, Range, ReachedLimit, Rom, Segment, Start, SymbolFault,

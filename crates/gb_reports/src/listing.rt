@@ -17,8 +17,20 @@ pub struct Listing<'a, 'r, 'c, 's> {
     pub symbols: &'a Symbols<'s>,
 }
 
+/// Whether a procedure may write any RAM: main, from version 3 on.
+fn is_unlimited(cert: &Cert<'_>, number: u16) -> bool {
+    number == 0 && cert.version() >= 3
+}
+
 /// The RAM that a procedure writes, to the end of the line.
-fn fmt_ranges<W: fmt::Write>(ranges: &[Range], f: &mut fmt::Formatter<W>) -> fmt::Result {
+fn fmt_ranges<W: fmt::Write>(
+    is_unlimited: bool,
+    ranges: &[Range],
+    f: &mut fmt::Formatter<W>,
+) -> fmt::Result {
+    if is_unlimited {
+        return write!(f, " any RAM\n");
+    }
     if ranges.is_empty() {
         return write!(f, " no RAM\n");
     }
@@ -80,7 +92,8 @@ fn fmt_procedure<W: fmt::Write>(
         f,
         "\nprocedure {number}: {need} bytes of stack, {returns}, writes"
     )?;
-    fmt_ranges(procedure.ranges().as_slice(), f)?;
+    let is_unlimited = is_unlimited(listing.cert, number);
+    fmt_ranges(is_unlimited, procedure.ranges().as_slice(), f)?;
     fmt_kept(listing.symbols, procedure.kept().as_slice(), f)?;
     fmt_mark(procedure.mark(), f)
 }

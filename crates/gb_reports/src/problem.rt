@@ -133,6 +133,7 @@ fn stack_text(misuse: StackMisuse) -> Option<&'static str> {
         StackMisuse::TakesTooMany => Some("This takes more from the stack than was pushed."),
         StackMisuse::SetByHl => Some("HL isn't known to be an address of the stack."),
         StackMisuse::SetInCallee => Some("This sets SP outside main."),
+        StackMisuse::UsedAside => Some("SP points at data here, and this needs the stack."),
         StackMisuse::SetAgain(_) => None,
     }
 }

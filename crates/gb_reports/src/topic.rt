@@ -29,7 +29,7 @@ fn stack_advice(finding: &InstructionFinding, misuse: StackMisuse) -> Advice {
         StackMisuse::PopsReturnWord | StackMisuse::TakesTooMany => advice::POPS_TOO_MUCH,
         StackMisuse::Moved | StackMisuse::SetByHl => advice::STACK_MOVED,
         StackMisuse::SetInCallee => set_advice(finding),
-        StackMisuse::SetAgain(_) => advice::STACK_SET_AGAIN,
+        StackMisuse::SetAgain(_) | StackMisuse::UsedAside => advice::STACK_SET_AGAIN,
     }
 }
 

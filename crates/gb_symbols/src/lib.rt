@@ -13,5 +13,5 @@ mod symbols;
 pub use fault::{SymbolFault, SymbolFaultKind};
 pub use format::Format;
 pub use lines::SourceLine;
-pub use named::{BankAddress, ListedAddress, ShownAddress, ShownLabel};
+pub use named::{BankAddress, ListedAddress, NamedText, ShownAddress, ShownLabel};
 pub use symbols::{Symbol, SymbolOffset, Symbols};

@@ -35,6 +35,14 @@ pub struct BankAddress {
     pub address: u16,
 }
 
+/// A text in which each address of RAM from C000 on, `$` and four digits, is followed by its symbol, where it has one:
+/// `$C0A0 (score)`. Of a range it is the first address's, behind the last: `$C0A0-$C0A3 (score)`.
+#[derive(Clone, Copy)]
+pub struct NamedText<'a> {
+    pub symbols: &'a Symbols<'a>,
+    pub text: &'a str,
+}
+
 impl fmt::Display for BankAddress {
     fn fmt<W: fmt::Write>(&self, f: &mut fmt::Formatter<W>) -> fmt::Result {
         let address = self.address;
@@ -111,5 +119,60 @@ impl fmt::Display for ShownLabel<'_> {
                 write!(f, "{at}")
             }
         }
+    }
+}
+
+/// The first address of RAM that symbols of bank 0 name.
+const FIRST_RAM: u16 = 0xC000;
+
+/// An address of RAM, four digits at the start of a text, with its digits and what comes after them.
+fn ram_address(text: &str) -> Option<(u16, &str, &str)> {
+    let (digits, rest) = text.split_at_checked(4)?;
+    let address = u16::from_str_radix(digits, 16).ok()?;
+    if address >= FIRST_RAM {
+        Some((address, digits, rest))
+    } else {
+        None
+    }
+}
+
+impl NamedText<'_> {
+    /// What comes after a `$`, with the symbol of the address there. Where that begins a range, or ends the one that began with this
+    /// first address, it answers the range's first address while the range goes on.
+    fn fmt_after<W: fmt::Write>(
+        &self,
+        first: Option<u16>,
+        text: &str,
+        f: &mut fmt::Formatter<W>,
+    ) -> Result<Option<u16>, fmt::Error> {
+        let Some((address, digits, rest)) = ram_address(text) else {
+            write!(f, "${text}")?;
+            return Ok(None);
+        };
+        let address = first.unwrap_or(address);
+        write!(f, "${digits}")?;
+        if rest == "-" {
+            write!(f, "-")?;
+            return Ok(Some(address));
+        }
+        if let Some(symbol) = self.symbols.place(0, address) {
+            write!(f, " ({symbol})")?;
+        }
+        write!(f, "{rest}")?;
+        Ok(None)
+    }
+}
+
+impl fmt::Display for NamedText<'_> {
+    fn fmt<W: fmt::Write>(&self, f: &mut fmt::Formatter<W>) -> fmt::Result {
+        let mut first = None;
+        for (number, text) in self.text.split('$').enumerate() {
+            if number == 0 {
+                write!(f, "{text}")?;
+            } else {
+                first = self.fmt_after(first, text, f)?;
+            }
+        }
+        Ok(())
     }
 }

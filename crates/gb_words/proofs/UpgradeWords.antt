@@ -21,6 +21,7 @@ same_words a b e f a2 b2 e2 g h i = rw (g, h, i) refl
 by_version : (words : List Text) (to : TargetVersion) (cert : Text) → IsUpgradeTo words to cert → IsUpgrade words to cert
 by_version words version.Two cert h = inr h
 by_version words version.Three cert h = h
+by_version words version.Four cert h = h
 
 pub asked : (ws : List (Bor Text)) (d : Bor Text) (to : TargetVersion) → length ws ≡ 4 → (slice_index_or ws 0 d).now ≡ codes "upgrade" → (slice_index_or ws 1 d).now ≡ codes "--to" → (slice_index_or ws 2 d).now ≡ version_word to
     → is_file (slice_index_or ws 3 d).now ≡ true → IsUpgrade (map (λ w. w.now) ws) to (slice_index_or ws 3 d).now

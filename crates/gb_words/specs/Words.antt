@@ -45,6 +45,7 @@ is_file word = bytes_eq word (codes "-") || not (begins_with_hyphen word)
 abbrev pub version_word : TargetVersion → Text
 version_word version.Two = codes "2"
 version_word version.Three = codes "3"
+version_word version.Four = codes "4"
 
 -- `upgrade --to`, a version, and the name of a file
 pub record IsUpgradeTo (words : List Text) (to : TargetVersion) (cert : Text) : Type 0 where
@@ -55,6 +56,7 @@ pub record IsUpgradeTo (words : List Text) (to : TargetVersion) (cert : Text) : 
 abbrev pub IsUpgrade : List Text → TargetVersion → Text → Type 0
 IsUpgrade words version.Two cert = IsCommand words (codes "upgrade") (cert ∷ []) ⊎ IsUpgradeTo words version.Two cert
 IsUpgrade words version.Three cert = IsUpgradeTo words version.Three cert
+IsUpgrade words version.Four cert = IsUpgradeTo words version.Four cert
 
 -- `run`, the names of two files, and a number of frames
 pub record IsRun (words : List Text) (rom script : Text) (frames : ℕ) : Type 0 where

@@ -54,8 +54,9 @@ It writes a certificate of version 1 in version 2 to standard output (status 0):
   gulmyrek upgrade old.cert > new.cert
 With --to 3 it writes one of version 1 or 2 in version 3. Write these words before CERT:
   gulmyrek upgrade --to 3 old.cert > new.cert
-A certificate of that version or a later one comes out unchanged. In version 2 the verdict stays the same. In version 3
-the rules of version 3 apply.
+With --to 4 it writes one of version 1, 2 or 3 in version 4, by way of version 3. Procedures change their order there.
+A certificate of that version or a later one comes out unchanged. In version 2 the verdict stays the same. In versions 3
+and 4 their rules apply.
 If CERT isn't valid, it prints one line instead:
   CERTIFICATE Cn  what is wrong with it (C1 to C8, status 2), or not enough memory (C9, status 3)
 

@@ -21,6 +21,7 @@ pub(crate) const MOST_FRAMES: i64 = 36_000;
 pub enum TargetVersion {
     Two,
     Three,
+    Four,
 }
 
 /// What the program is asked to do.
@@ -196,11 +197,11 @@ fn upgrade_command<'a>(alloc: Global) -> Result<Command<'a>, AllocError>
     let command = file_command(
         alloc,
         "upgrade",
-        "Writes a certificate in version 2 or 3 of its format",
+        "Writes a certificate in version 2, 3 or 4 of its format",
         help::UPGRADE,
         cert_arg(alloc),
     );
-    with_usage(command, "gulmyrek upgrade [--to 2|3] <CERT>")
+    with_usage(command, "gulmyrek upgrade [--to 2|3|4] <CERT>")
 }
 
 /// A command that plays: its cartridge, its script and its frames.
@@ -333,6 +334,7 @@ fn version_named(word: &str) -> Option<TargetVersion>
     match word {
         "2" => Some(TargetVersion::Two),
         "3" => Some(TargetVersion::Three),
+        "4" => Some(TargetVersion::Four),
         _ => None,
     }
 }

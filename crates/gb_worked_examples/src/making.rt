@@ -10,7 +10,7 @@ use std::io::{self, Write};
 
 /// What the maker may use.
 const LIMITS: SearchLimits = SearchLimits {
-    nodes: 12_000,
+    nodes: 20_000,
     rounds: 400,
     region: None,
     edition: None,

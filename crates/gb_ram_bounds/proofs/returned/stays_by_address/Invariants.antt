@@ -1,7 +1,7 @@
 use Rattle.std.proofs.Common.{◌≡◌, ◌+◌, ◌-◌}
 use Rattle.gb_ram_bounds.specs.Addresses.{each_of}
 use Rattle.gb_ram_bounds.specs.Returned.{stays_at}
-use Rattle.gb_ram_bounds.proofs.returned.stays.Given as goal
+use Rattle.gb_ram_bounds.proofs.returned.stays_by_address.Given as goal
 
 abbrev pub invariant-loop-address : goal.invariant-loop-address
 invariant-loop-address l =

@@ -1,0 +1,3 @@
+pub mod FourthText
+pub mod FourthLaws
+pub mod FourthFileLaws

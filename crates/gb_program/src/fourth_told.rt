@@ -1,0 +1,244 @@
+//! What a state says of several of its parts together, in the bytes of version 4.
+
+ghost use Rattle.std.specs.Prelude.{◌≡◌, ◌≤◌, ◌+◌, ◌∷◌, ◌++◌, List, ℕ, length};
+ghost use Rattle.arrayvec.specs.ArrayVec.{array_vec_len};
+ghost use Rattle.gb_domain.specs.RelationRules.{has_place, bits_of, is_known};
+ghost use Rattle.gb_command_line.specs.Below.gb_verify.Below.gb_states.Numbers as number;
+ghost use Rattle.gb_command_line.specs.Below.gb_verify.Below.gb_states.RelationSpelling as told;
+
+use arrayvec::ArrayVec;
+use gb_domain::pairs::{Link, Other, PairFacts, Pairs, WordPair};
+use gb_domain::places::{OneByte, Test, has_place};
+use gb_domain::relations::Relations;
+use gb_ops::op::Register;
+use gb_ops::registers::Registers;
+
+/// The bytes of a node or a procedure.
+pub type Text = ArrayVec<u8, 1202>;
+
+/// Adds bytes, for which there is room.
+pub fn push(bytes: &[u8], out: &mut Text)
+    requires { array_vec_len out.old + length bytes.now ≤ 1202 }
+    ensures text { out.new.items ≡ out.old.items ++ bytes.now }
+    ensures long { array_vec_len out.new ≡ array_vec_len out.old + length bytes.now }
+{
+    if out.try_extend_from_slice(bytes).is_err() {
+        unreachable!();
+    }
+}
+
+/// A word, its low byte first.
+pub fn word(word: u16) -> [u8; 2]
+    ensures { result ≡ number.word word }
+{
+    [(word % 256) as u8, (word / 256) as u8]
+}
+
+/// 1 for yes, 0 for no.
+pub fn flag(is_set: bool) -> u8
+    ensures value { result ≡ number.flag is_set }
+    ensures bit { result ≤ 1 }
+{
+    u8::from(is_set)
+}
+
+// ---- which parts there are
+
+fn bits_of(test: Option<Test>) -> Option<u8>
+    ensures { result ≡ bits_of test }
+{
+    match test {
+        Some(Test::Bits(bits)) => Some(bits),
+        _ => None,
+    }
+}
+
+fn is_known(facts: &PairFacts) -> bool
+    ensures { result ≡ is_known facts.now }
+{
+    facts.link.is_some() || !(facts.bounds.first == 0 && facts.bounds.last == 0xFFFF)
+}
+
+/// Which parts there are, a bit for each.
+fn present_number(relations: &Relations) -> u8
+    ensures { result ≡ told.present_number (told.present_in relations.now) }
+{
+    64 * flag(is_known(&relations.pairs.hl))
+        + 32 * flag(is_known(&relations.pairs.de))
+        + 16 * flag(is_known(&relations.pairs.bc))
+        + 8 * flag(relations.zero.is_some())
+        + 4 * flag(bits_of(relations.byte.test).is_some())
+        + 2 * flag(relations.byte.address.is_some())
+        + flag(has_place(&relations.byte))
+}
+
+// ---- places that hold one byte
+
+fn registers_number(registers: &Registers<bool>) -> u8
+    ensures { result ≡ told.registers_number registers.now }
+{
+    64 * flag(registers.l)
+        + 32 * flag(registers.h)
+        + 16 * flag(registers.e)
+        + 8 * flag(registers.d)
+        + 4 * flag(registers.c)
+        + 2 * flag(registers.b)
+        + flag(registers.a)
+}
+
+/// Adds an address, where there is one.
+fn push_address(address: Option<u16>, out: &mut Text)
+    requires { array_vec_len out.old ≤ 1200 }
+    ensures text { out.new.items ≡ out.old.items ++ told.optional number.word address }
+    ensures room { array_vec_len out.new ≤ array_vec_len out.old + 2 }
+{
+    if let Some(address) = address {
+        push(&word(address), out);
+    }
+}
+
+/// Adds bits, where there are some.
+fn push_bits(bits: Option<u8>, out: &mut Text)
+    requires { array_vec_len out.old ≤ 1201 }
+    ensures text { out.new.items ≡ out.old.items ++ told.optional told.byte bits }
+    ensures room { array_vec_len out.new ≤ array_vec_len out.old + 1 }
+{
+    if let Some(bits) = bits {
+        push(&[bits], out);
+    }
+}
+
+/// Adds the places that hold one byte.
+#[tactic(auto, unfolding(crate::specs::Opened::places))]
+fn push_places(byte: &OneByte, out: &mut Text)
+    requires { array_vec_len out.old ≤ 1198 }
+    ensures text { out.new.items ≡ out.old.items ++ told.places byte.now }
+    ensures room { array_vec_len out.new ≤ array_vec_len out.old + 4 }
+{
+    push(&[registers_number(&byte.registers)], out);
+    push_address(byte.address, out);
+    push_bits(bits_of(byte.test), out);
+}
+
+/// Adds them where there are some.
+fn push_byte(byte: &OneByte, out: &mut Text)
+    requires { array_vec_len out.old ≤ 1198 }
+    ensures text { out.new.items ≡ out.old.items ++ told.where_there (has_place byte.now) (told.places byte.now) }
+    ensures room { array_vec_len out.new ≤ array_vec_len out.old + 4 }
+{
+    if has_place(byte) {
+        push_places(byte, out);
+    }
+}
+
+// ---- pairs
+
+fn pair_number(pair: WordPair) -> u8
+    ensures exact { result ≡ told.pair_number pair }
+    ensures few { result ≤ 2 }
+{
+    match pair {
+        WordPair::Bc => 0,
+        WordPair::De => 1,
+        WordPair::Hl => 2,
+    }
+}
+
+/// Adds the pair that is 0 where Z is set, where there is one.
+fn push_zero(pair: Option<WordPair>, out: &mut Text)
+    requires { array_vec_len out.old ≤ 1201 }
+    ensures text { out.new.items ≡ out.old.items ++ told.optional told.pair pair }
+    ensures room { array_vec_len out.new ≤ array_vec_len out.old + 1 }
+{
+    if let Some(pair) = pair {
+        push(&[pair_number(pair)], out);
+    }
+}
+
+fn other_number(other: Other) -> u8
+    ensures exact { result ≡ told.other_number other }
+    ensures few { result ≤ 9 }
+{
+    match other {
+        Other::Register(Register::A) => 0,
+        Other::Register(Register::B) => 1,
+        Other::Register(Register::C) => 2,
+        Other::Register(Register::D) => 3,
+        Other::Register(Register::E) => 4,
+        Other::Register(Register::H) => 5,
+        Other::Register(Register::L) => 6,
+        Other::Pair(pair) => 7 + pair_number(pair),
+    }
+}
+
+/// Adds what a link reads, its factor and its sum; 0 where there is none.
+fn push_link(link: Option<Link>, out: &mut Text)
+    requires { array_vec_len out.old ≤ 1198 }
+    ensures text { out.new.items ≡ out.old.items ++ told.link link }
+    ensures room { array_vec_len out.new ≤ array_vec_len out.old + 4 }
+{
+    match link {
+        None => push(&[0], out),
+        Some(link) => {
+            let sum = word(link.sum);
+            let other = 1 + other_number(link.other);
+            push(&[other, (link.factor % 256) as u8, sum[0], sum[1]], out);
+        }
+    }
+}
+
+#[tactic(auto, unfolding(crate::specs::Opened::facts))]
+fn push_facts(facts: &PairFacts, out: &mut Text)
+    requires { array_vec_len out.old ≤ 1194 }
+    ensures text { out.new.items ≡ out.old.items ++ told.facts facts.now }
+    ensures room { array_vec_len out.new ≤ array_vec_len out.old + 8 }
+{
+    push(&word(facts.bounds.first), out);
+    push(&word(facts.bounds.last), out);
+    push_link(facts.link, out);
+}
+
+/// Adds what is known of a pair, where it is something.
+fn push_known(facts: &PairFacts, out: &mut Text)
+    requires { array_vec_len out.old ≤ 1194 }
+    ensures text { out.new.items ≡ out.old.items ++ told.known_facts facts.now }
+    ensures room { array_vec_len out.new ≤ array_vec_len out.old + 8 }
+{
+    if is_known(facts) {
+        push_facts(facts, out);
+    }
+}
+
+#[tactic(auto, unfolding(crate::specs::Opened::pairs))]
+fn push_pairs(pairs: &Pairs, out: &mut Text)
+    requires { array_vec_len out.old ≤ 1178 }
+    ensures text { out.new.items ≡ out.old.items ++ told.pairs pairs.now }
+    ensures room { array_vec_len out.new ≤ array_vec_len out.old + 24 }
+{
+    push_known(&pairs.bc, out);
+    push_known(&pairs.de, out);
+    push_known(&pairs.hl, out);
+}
+
+// ---- all of them
+
+/// Adds the parts that there are.
+fn push_parts(relations: &Relations, out: &mut Text)
+    requires { array_vec_len out.old ≤ 1173 }
+    ensures text { out.new.items ≡ out.old.items ++ told.parts relations.now }
+    ensures room { array_vec_len out.new ≤ array_vec_len out.old + 29 }
+{
+    push_byte(&relations.byte, out);
+    push_zero(relations.zero, out);
+    push_pairs(&relations.pairs, out);
+}
+
+/// Adds which parts there are, a byte that is 0 where nothing is said of the whole program, and then the parts.
+pub fn push_told(relations: &Relations, out: &mut Text)
+    requires { array_vec_len out.old ≤ 1171 }
+    ensures text { out.new.items ≡ out.old.items ++ told.present_number (told.present_in relations.now) ∷ 0 ∷ told.parts relations.now }
+    ensures room { array_vec_len out.new ≤ array_vec_len out.old + 31 }
+{
+    push(&[present_number(relations), 0], out);
+    push_parts(relations, out);
+}
