@@ -1,7 +1,7 @@
 //! What certificates' maker refines after a failure: which states are to be told apart, and where.
 //!
 //! Over gb_dataflow `plan_for` answers a plan for a run's failure, if anything may help: read `plans`, then `cells`, `losses`,
-//! `arrays`, `circles` and `kept`; `inlining` and `saving` save procedures. Nothing here is trusted: a plan that doesn't help costs time alone.
+//! `arrays`, `circles`, `returns` and `kept`; `inlining` and `saving` save procedures. Nothing here is trusted: a plan that doesn't help costs time alone.
 #![tactic(auto)]
 
 mod arrays;
@@ -12,6 +12,7 @@ mod inlining;
 mod kept;
 mod losses;
 mod plans;
+mod returns;
 mod saving;
 
 pub use arrays::array_behind;

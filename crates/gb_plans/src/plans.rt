@@ -6,6 +6,7 @@ use crate::circles::plan_recursion;
 use crate::inlining::{inline_plan, may_be_inlined};
 use crate::kept::{part_exits, plan_kept, plan_stored, plan_written};
 use crate::losses::{part_all, plan_banked, plan_shown};
+use crate::returns::plan_lost_return;
 use gb_dataflow::Rules;
 use gb_dataflow::cause::{Cause, Failure, StackMisuse};
 use gb_dataflow::gb_ops::op::Register;
@@ -768,13 +769,13 @@ pub fn plan_for(
         | Cause::OamTransfer(_)
         | Cause::Stack(StackMisuse::SetByHl)
         | Cause::JumpHl => plan_pointer(alloc, run, spot, failure, is_kept_in_ram),
+        Cause::ReturnToUnknown => plan_lost_return(alloc, run, node),
         Cause::Area
         | Cause::UndefinedOpcode { .. }
         | Cause::Stop
         | Cause::Halt
         | Cause::Stack(_)
         | Cause::PushesTooMany
-        | Cause::ReturnToUnknown
         | Cause::ReturnWithOthers
         | Cause::ReturnInMain
         | Cause::ReturnWithBytes { .. }
