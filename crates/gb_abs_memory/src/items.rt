@@ -2,13 +2,14 @@
 
 ghost use Rattle.std.specs.Prelude.{◌≡◌, ◌≤◌, length, replicate};
 ghost use Rattle.gb_abs.specs.Below.gb_vals.Vals.{any_val};
+ghost use Rattle.gb_abs.specs.Span.{one};
 ghost use Rattle.gb_abs_memory.specs.Items as Items;
 
 use arrayvec::ArrayVec;
 use gb_abs::any;
 use gb_abs::located::stack_base;
 use gb_abs::span::Span;
-use gb_domain::types::{Abs, Rules, Setting, Val};
+use gb_domain::types::{Abs, Core, Rules, Setting, Val};
 use gb_ops::machine::Region;
 
 /// An item of this address, after a store that sets those of a span.
@@ -61,8 +62,17 @@ fn store_to(base: Option<u16>, region: Region, span: Span, val: &Val, state: &mu
     }
 }
 
-/// A store to RAM changes the items.
 #[tactic(auto, unfolding(crate::specs::Items::items_stored))]
+fn store_by(setting: Setting, region: Region, core: &Core, span: Span, val: &Val, state: &mut Abs)
+    ensures { state.new ≡ record state.old { items = Items.items_stored setting region span val.now core.now state.old.items } }
+{
+    match setting.rules {
+        Rules::Simple => {}
+        Rules::Extended => store_to(stack_base(setting, core), region, span, val, state),
+    }
+}
+
+/// A store to RAM changes the items.
 pub(crate) fn store_to_items(
     setting: Setting,
     region: Region,
@@ -72,11 +82,20 @@ pub(crate) fn store_to_items(
 )
     ensures { state.new ≡ record state.old { items = Items.items_stored setting region span val.now state.old.core state.old.items } }
 {
-    match setting.rules {
-        Rules::Simple => {}
-        Rules::Extended => {
-            let base = stack_base(setting, state.core());
-            store_to(base, region, span, val, state);
-        }
-    }
+    let core = *state.core();
+    store_by(setting, region, &core, span, val, state);
+}
+
+/// What is known of the byte at an address of the stack is known of the item there. The core says whether the stack is set.
+pub fn tell_item(
+    setting: Setting,
+    region: Region,
+    core: &Core,
+    address: u16,
+    val: &Val,
+    state: &mut Abs,
+)
+    ensures { state.new ≡ record state.old { items = Items.items_stored setting region (one address) val.now core.now state.old.items } }
+{
+    store_by(setting, region, core, Span::one(address), val, state);
 }

@@ -8,13 +8,14 @@
 //! (bytes of the stack that a store meets) and `store`.
 #![tactic(auto)]
 
-mod items;
+pub mod items;
 pub mod load;
 pub mod refusals;
 pub mod shown;
 pub mod store;
 pub mod windows;
 
+pub use items::tell_item;
 pub use store::{Area, Stored};
 pub use windows::{ControllerRegister, Window};
 

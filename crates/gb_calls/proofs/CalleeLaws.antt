@@ -91,18 +91,18 @@ pub record IsEntryNode (program : Program) (cert : Certificate) (z : Setting) (a
   pub is_node : slice_get cert.nodes p.entry ≡ Some node
   pub address : node.address ≡ a
   pub fitting : fits z p.base (length node.state.items) (length s.items) ≡ true
-  pub covering : covers program (entered_by program z.rules (length node.state.items) p.kept s) node.state ≡ true
+  pub covering : covers program (entered_by program cert.region z.rules (length node.state.items) p.kept s) node.state ≡ true
 
 pub IsEntryNode-entry : (program : Program) (cert : Certificate) (z : Setting) (a : ℕ) (s : AbsState) (p : ProcedureParts) → is_entry program cert z a s p ≡ true → IsEntryNode program cert z a s p
 unfolding is_entry may_begin
 IsEntryNode-entry program cert z a s p h = choose (slice_get cert.nodes p.entry) refl h
   where
-    choose : (o : Option Node) → slice_get cert.nodes p.entry ≡ o → is_entry_node program z a s p.base p.kept o ≡ true → IsEntryNode program cert z a s p
+    choose : (o : Option Node) → slice_get cert.nodes p.entry ≡ o → is_entry_node program cert.region z a s p.base p.kept o ≡ true → IsEntryNode program cert z a s p
     choose None e is = absurd (cc)
     choose (Some n) e is =
         let k = length n.state.items in
-        let parts = and_parts (n.address == a) (fits z p.base k (length s.items) && covers program (entered_by program z.rules k p.kept s) n.state) is in
-        let begins = and_parts (fits z p.base k (length s.items)) (covers program (entered_by program z.rules k p.kept s) n.state) parts.1 in
+        let parts = and_parts (n.address == a) (fits z p.base k (length s.items) && covers program (entered_by program cert.region z.rules k p.kept s) n.state) is in
+        let begins = and_parts (fits z p.base k (length s.items)) (covers program (entered_by program cert.region z.rules k p.kept s) n.state) parts.1 in
         record { node = n; is_node = e; address = eqb-true n.address a parts.0; fitting = begins.0; covering = begins.1 }
 
 -- ---- what a callee takes over

@@ -30,6 +30,8 @@ use Rattle.gb_product.proofs.Below.gb_abs_laws.CoveringLaws.{AreCells}
 use Rattle.gb_product.proofs.Below.gb_abs_laws.OriginLaws.{origin_value-of_register, Holds-own, HoldsLowBank-bounds, AreCells-without_origins}
 use Rattle.gb_product.proofs.Below.gb_summaries_laws.MeaningLaws.{nothing_holds}
 use Rattle.gb_product.specs.Meaning.{Means}
+use Rattle.gb_ops.specs.declared.machine.Region.{Region}
+use Rattle.gb_product.proofs.HeldLaws.{related_outside}
 use Rattle.gb_calls.specs.Calls.{own_registers, entered_core, kept_cell, with_kept, entered_by}
 use Rattle.gb_calls.specs.Parts.{byte_there}
 use Rattle.gb_calls.specs.Sound.{without_word, IsCalled, Begins, callee_base, IsSoundEntering}
@@ -168,11 +170,11 @@ AreCells-entered program rules kept s entry base begun x is names same m =
 
 -- a procedure that is entered, its return word at SP and no item of its caller's, begins with what is said
 pub Means-entered :
-    (program : Program) (k : ℕ) (kept : List ℕ) (s : AbsState) (entry : Activation) (base : ℕ) (begun : Activation)
+    (program : Program) (region : Region) (k : ℕ) (kept : List ℕ) (s : AbsState) (entry : Activation) (base : ℕ) (begun : Activation)
     → entry.program ≡ program → begun.program ≡ program → begun.kept ≡ kept → Means s entry base (without_word begun.entered)
-    → begun.entered.processor.sp < 65536 → Means (entered_by program Simple k kept s) begun begun.entered.processor.sp begun.entered
+    → begun.entered.processor.sp < 65536 → Means (entered_by program region Simple k kept s) begun begun.entered.processor.sp begun.entered
 unfolding entered_by
-Means-entered program k kept s entry base begun is f names m lt =
+Means-entered program region k kept s entry base begun is f names m lt =
     let e : begun.program ≡ entry.program = f ∙ sym is in
     record {
       parts = record {
@@ -183,17 +185,17 @@ Means-entered program k kept s entry base begun is f names m lt =
         items = tt;
         cells = AreCells-entered program Simple kept s entry base begun (without_word begun.entered) is names refl m;
       };
-      related = m.related;
+      related = related_outside region s.relations begun.entered m.related;
       summary = nothing_holds begun.program _ begun.entered.processor (peek begun.entered.storage) begun.entered.storage.banks;
     }
 
 -- a procedure that takes over items of its caller's, its return word among them, begins with what is said
 pub Means-taken_over :
-    (program : Program) (k : ℕ) (kept : List ℕ) (s : AbsState) (entry : Activation) (base : ℕ) (begun : Activation)
+    (program : Program) (region : Region) (k : ℕ) (kept : List ℕ) (s : AbsState) (entry : Activation) (base : ℕ) (begun : Activation)
     → entry.program ≡ program → begun.program ≡ program → begun.kept ≡ kept → IsCalled k s entry base begun.entered
-    → Means (entered_by program Extended k kept s) begun (base_below k s.items base) begun.entered
+    → Means (entered_by program region Extended k kept s) begun (base_below k s.items base) begun.entered
 unfolding entered_by
-Means-taken_over program k kept s entry base begun is f names h =
+Means-taken_over program region k kept s entry base begun is f names h =
     let e : begun.program ≡ entry.program = f ∙ sym is in
     let plain = map cell_without_origin s.cells in
     let more = with_kept program Extended s 0 kept plain in
@@ -209,7 +211,7 @@ Means-taken_over program k kept s entry base begun is f names h =
         items = taken_over-items k s entry base begun h.few h.located h.caller.parts;
         cells = AreCells-entered program Extended kept s entry base begun begun.entered is names refl h.caller;
       };
-      related = h.caller.related;
+      related = related_outside region s.relations begun.entered h.caller.related;
       summary = subst (λ p. HoldSummary p more s.summary begun.entered.processor (peek begun.entered.storage) begun.entered.storage.banks) (sym e)
           (HoldSummary-with_cells entry.program s.cells more s.summary begun.entered.processor (peek begun.entered.storage) begun.entered.storage.banks
           all h.caller.summary);
@@ -217,18 +219,18 @@ Means-taken_over program k kept s entry base begun is f names h =
 
 -- by either rules
 Means-begun :
-    (program : Program) (rules : Rules) (k : ℕ) (kept : List ℕ) (s : AbsState) (entry : Activation) (base : ℕ) (begun : Activation)
+    (program : Program) (region : Region) (rules : Rules) (k : ℕ) (kept : List ℕ) (s : AbsState) (entry : Activation) (base : ℕ) (begun : Activation)
     → entry.program ≡ program → begun.program ≡ program → begun.kept ≡ kept → Begins rules k s entry base begun.entered
-    → Means (entered_by program rules k kept s) begun (callee_base rules k s.items base begun.entered) begun.entered
-Means-begun program Simple k kept s entry base begun is f names h = Means-entered program k kept s entry base begun is f names h.0 h.1
-Means-begun program Extended k kept s entry base begun is f names h = Means-taken_over program k kept s entry base begun is f names h
+    → Means (entered_by program region rules k kept s) begun (callee_base rules k s.items base begun.entered) begun.entered
+Means-begun program region Simple k kept s entry base begun is f names h = Means-entered program region k kept s entry base begun is f names h.0 h.1
+Means-begun program region Extended k kept s entry base begun is f names h = Means-taken_over program region k kept s entry base begun is f names h
 
 pub enter_sound :
-    (program : Program) (rules : Rules) (k : ℕ) (kept : List ℕ) (s o : AbsState) → o ≡ entered_by program rules k kept s
-    → IsSoundEntering program rules k kept s o
-enter_sound program rules k kept s o e =
+    (program : Program) (region : Region) (rules : Rules) (k : ℕ) (kept : List ℕ) (s o : AbsState) → o ≡ entered_by program region rules k kept s
+    → IsSoundEntering program region rules k kept s o
+enter_sound program region rules k kept s o e =
     record {
       gives = λ entry base begun is f names h.
           subst (λ (w : AbsState). Means w begun (callee_base rules k s.items base begun.entered) begun.entered) (sym e)
-          (Means-begun program rules k kept s entry base begun is f names h);
+          (Means-begun program region rules k kept s entry base begun is f names h);
     }

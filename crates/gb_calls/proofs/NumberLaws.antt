@@ -18,9 +18,9 @@ entry-elsewhere : (program : Program) (cert : Certificate) (z : Setting) (a : �
 unfolding is_entry
 entry-elsewhere program cert z a s p other = by (slice_get cert.nodes p.entry) other
   where
-    by : (o : Option Node) → (address_in o ≡ a → ⊥) → is_entry_node program z a s p.base p.kept o ≡ false
+    by : (o : Option Node) → (address_in o ≡ a → ⊥) → is_entry_node program cert.region z a s p.base p.kept o ≡ false
     by None other = refl
-    by (Some n) other = apart (n.address == a) (may_begin program z s p.base p.kept n.state) (λ e. other (eqb-true n.address a e))
+    by (Some n) other = apart (n.address == a) (may_begin program cert.region z s p.base p.kept n.state) (λ e. other (eqb-true n.address a e))
 
 none-from :
     (program : Program) (cert : Certificate) (z : Setting) (a : ℕ) (s : AbsState) (i : ℕ) (ps : List ProcedureParts)

@@ -1,5 +1,5 @@
 -- What a caller goes on with holds of the machine, whatever its callee did.
-use Rattle.std.proofs.Common.{◌≡◌, ℕ, ◌+◌, ◌-◌, ◌*◌, ◌/◌, ◌%◌, ◌≤◌, ◌<◌, Bool, true, false, ◌&&◌, ◌||◌, not, cond, List, [], ◌∷◌, length, map, Option, Some, None, inl, inr, refl, sym, ◌∙◌, ap, subst, arith}
+use Rattle.std.proofs.Common.{◌≡◌, ℕ, ◌+◌, ◌-◌, ◌*◌, ◌/◌, ◌%◌, ◌≤◌, ◌<◌, Bool, true, false, nat_le, ◌&&◌, ◌||◌, not, cond, List, [], ◌∷◌, length, map, Option, Some, None, inl, inr, refl, sym, ◌∙◌, ap, subst, arith}
 use Rattle.std.proofs.lemmas.Bool.{and_parts, or_cases, or_from}
 use Rattle.std.proofs.lemmas.List.{length-map}
 use Rattle.std.proofs.lemmas.Option.{same_Some}
@@ -24,6 +24,11 @@ use Rattle.gb_domain.specs.declared.types.KeptBanks.{KeptBanks}
 use Rattle.gb_domain.specs.declared.types.Cell.{Cell}
 use Rattle.gb_domain.specs.declared.types.Core.{Core}
 use Rattle.gb_domain.specs.declared.setting.Setting.{Setting}
+use Rattle.gb_domain.specs.declared.places.StackBytes.{StackBytes}
+use Rattle.gb_domain.specs.Settings.{IsBase}
+use Rattle.gb_product.specs.Held.{stack_held, held_relations}
+use Rattle.gb_product.proofs.HeldLaws.{item_among, related_held, held_placed}
+use Rattle.gb_product.proofs.Below.gb_relations_laws.AddressLaws.{placed-ram}
 use Rattle.gb_domain.specs.declared.types.Range.{Range}
 use Rattle.gb_domain.specs.declared.rules.Rules.{Rules}
 use Rattle.gb_domain.specs.declared.rules.Rules.TheVariants.{Simple, Extended}
@@ -55,14 +60,14 @@ use Rattle.gb_calls.proofs.SummaryBackLaws.{same_window, HoldSummary-back}
 use Rattle.gb_product.specs.Below.gb_relations.declared.returned.Kept.{Kept}
 use Rattle.gb_product.specs.Below.gb_relations.Returned as Returned
 use Rattle.gb_product.specs.Below.gb_relations.Returned.{is_pair_kept, is_other_kept, link_if_kept, link_returned, facts_returned, returned}
-use Rattle.gb_product.specs.Below.gb_relations.Sound.{IsByteFree}
+use Rattle.gb_product.specs.Below.gb_relations.Sound.{IsBytePlaced}
 use Rattle.gb_product.specs.Below.gb_relations.Transfer.{values_of}
 use Rattle.gb_product.proofs.Below.gb_relations_laws.ReturnLaws.{returned_sound}
 use Rattle.gb_product.specs.Below.gb_copies.Meaning.{HoldOneByte}
 use Rattle.gb_product.specs.Below.gb_relations.Compared.{only_of_a}
 use Rattle.gb_product.proofs.Below.gb_relations_laws.ComparedLaws.{HoldOneByte-nothing, HoldOneByte-only_of_a}
 use Rattle.gb_product.proofs.Below.gb_relations_laws.TransferLaws.{HoldPairs-nothing}
-use Rattle.gb_domain.specs.Areas.{IsRegion, meets}
+use Rattle.gb_domain.specs.Areas.{IsRegion, meets, is_item, is_place_at, are_in_ram}
 use Rattle.gb_product.specs.Below.gb_abs.Span.{one}
 use Rattle.gb_product.specs.Below.gb_abs.Cells.{IsPlaced, ArePlaced}
 use Rattle.gb_product.specs.Below.gb_abs.Meaning.{Activation, origin_value, Holds, HoldsFlags, IsBankKept, IsHighBankKept, KeepsBanks, HoldsLowBank, HoldsController, MeansCore, AreItems, IsMemory}
@@ -82,7 +87,7 @@ use Rattle.gb_product.specs.Below.gb_abs.Origins.{is_own}
 use Rattle.gb_product.proofs.Below.gb_abs_laws.OriginLaws.{origin_value-of_register}
 use Rattle.gb_calls.specs.declared.resuming.Resumed.{Resumed}
 use Rattle.gb_calls.specs.declared.resuming.Resumed.TheVariants.{Nothing, States, TooDeep}
-use Rattle.gb_calls.specs.Resuming.{kept_back, whole_bank, joined_halves, bank_back, controller_back, registers_back, core_back, is_address_in, is_in_ranges, is_out_of_ranges, merged, given_addresses, byte_back, cells_back, unknown_program, resumed_alone, own_by_register, kept_by, rejoined, with_values, with_values_if, reduced_state, are_registers_left, is_cell_left, are_all_left, is_something, resumed, IsTooDeep, IsResumed}
+use Rattle.gb_calls.specs.Resuming.{kept_back, whole_bank, joined_halves, bank_back, controller_back, registers_back, core_back, is_address_in, is_in_ranges, is_out_of_ranges, merged, given_addresses, byte_back, cells_back, unknown_program, resumed_alone, own_by_register, kept_by, rejoined, with_values, with_values_if, reduced_state, are_registers_left, is_cell_left, are_all_left, is_something, waiting_stack, resumed_by, IsTooDeep, IsResumed}
 use Rattle.gb_calls.specs.Told.{named, is_left, place_back, val_back, cell_back}
 use Rattle.gb_calls.specs.Sound.{ComesBack, HandsBack, ComesBackBy, MeansIf, MeansResumed, ReducesSoundly, IsSoundResuming}
 use Rattle.gb_calls.specs.TakenOver.{base_below, given_back_items}
@@ -401,31 +406,66 @@ none_of : (b : Bool) → not b ≡ true → b ≡ false
 none_of true h = cc
 none_of false h = refl
 
+-- an item that waits isn't below the callee's base
+above_callee : (z : Setting) (region : Region) (w a base : ℕ) → IsBase z base → (not (meets region a a) || is_item (stack_held z region w).base w a) ≡ true → meets region a a ≡ true → base - w ≤ a
+above_callee z region w a base right h m = choose (meets region a a) h m
+  where
+    choose : (b : Bool) → (not b || is_item (stack_held z region w).base w a) ≡ true → b ≡ true → base - w ≤ a
+    choose true h m =
+        let above = (item_among z region w a base right h).above in
+        omega arith
+    choose false h m = cc
+
+placed_parts : (z : Setting) (region : Region) (w a : ℕ) → is_place_at (stack_held z region w) a ≡ true → (not (meets region a a) || is_item (stack_held z region w).base w a) ≡ true
+unfolding stack_held
+placed_parts z region w a h = (and_parts (nat_le a a && are_in_ram a a) (not (meets region a a) || is_item (cond z.is_whole z.base 0) w a) h).1
+
+-- a place in the stack isn't below the items
+pub place_above : (z : Setting) (region : Region) (w a base : ℕ) → IsBase z base → is_place_at (stack_held z region w) a ≡ true → meets region a a ≡ true → base - w ≤ a
+place_above z region w a base right place m = above_callee z region w a base right (placed_parts z region w a place) m
+
+-- it stands where the caller's base is right, so many of its items wait, and the callee keeps what isn't its own
+record IsKeptBy (z callee : Setting) (region : Region) (base w under : ℕ) : Type 0 where
+  based : IsBase z base
+  under_is : under ≡ base - w
+  does : keeps callee ≡ true
+
+IsKept-place :
+    (z callee : Setting) (region : Region) (ranges : List Range) (base w under a : ℕ)
+    → IsKeptBy z callee region base w under → is_address_in ranges a ≡ false → is_place_at (stack_held z region w) a ≡ true → IsKept callee region ranges under a
+IsKept-place z callee region ranges base w under a k out place =
+    record {
+      procedure = k.does;
+      ram = placed-ram (stack_held z region w) a place;
+      outside = out;
+      above = λ m. subst (λ n. n ≤ a) (sym k.under_is) (place_above z region w a base k.based place m);
+    }
+
 address_kept :
-    (z : Setting) (region : Region) (ranges : List Range) (base : ℕ) (addresses : List ℕ) (address : Option ℕ) (m t : Storage)
-    → keeps z ≡ true → ((b : ℕ) → IsKept z region ranges base b → peek t b ≡ peek m b) → ((b : ℕ) → is_given addresses b ≡ true → peek t b ≡ peek m b)
-    → IsByteFree region address → is_byte_kept ranges addresses address ≡ true → (a : ℕ) → address ≡ Some a → peek t a ≡ peek m a
-address_kept z region ranges base addresses None m t does kept given free e a is = absurd (cc)
-address_kept z region ranges base addresses (Some b) m t does kept given free e a is =
+    (z callee : Setting) (region : Region) (ranges : List Range) (base w under : ℕ) (addresses : List ℕ) (address : Option ℕ) (m t : Storage)
+    → IsKeptBy z callee region base w under → ((b : ℕ) → IsKept callee region ranges under b → peek t b ≡ peek m b) → ((b : ℕ) → is_given addresses b ≡ true → peek t b ≡ peek m b)
+    → IsBytePlaced (stack_held z region w) address → is_byte_kept ranges addresses address ≡ true → (a : ℕ) → address ≡ Some a → peek t a ≡ peek m a
+address_kept z callee region ranges base w under addresses None m t k kept given place e a is = absurd (cc)
+address_kept z callee region ranges base w under addresses (Some b) m t k kept given place e a is =
     subst (λ n. peek t n ≡ peek m n) (same_Some b a is)
     (elim (or_cases (not (lies_in_ranges ranges b)) (is_given addresses b) e) [
-      | inl out ↦ kept b (IsKept-address z region ranges base b does (same_ranges ranges b ∙ none_of (lies_in_ranges ranges b) out) free)
+      | inl out ↦ kept b (IsKept-place z callee region ranges base w under b k (same_ranges ranges b ∙ none_of (lies_in_ranges ranges b) out) place)
       | inr back ↦ given b back
     ])
 
 Returned-kept :
-    (z : Setting) (region : Region) (ranges : List Range) (base : ℕ) (addresses : List ℕ) (s exit : AbsState) (called : Activation) (x : MState)
-    → keeps z ≡ true → ((b : ℕ) → IsKept z region ranges base b → peek x.storage b ≡ peek called.entered.storage b)
-    → ((b : ℕ) → is_given addresses b ≡ true → peek x.storage b ≡ peek called.entered.storage b) → IsByteFree region s.relations.byte.address
+    (z callee : Setting) (region : Region) (ranges : List Range) (base w under : ℕ) (addresses : List ℕ) (known : Relations) (exit : AbsState) (called : Activation) (x : MState)
+    → IsKeptBy z callee region base w under → ((b : ℕ) → IsKept callee region ranges under b → peek x.storage b ≡ peek called.entered.storage b)
+    → ((b : ℕ) → is_given addresses b ≡ true → peek x.storage b ≡ peek called.entered.storage b) → IsBytePlaced (stack_held z region w) known.byte.address
     → MeansCore exit.core called x
-    → Returned.IsKept (kept_by ranges addresses s.relations.byte exit.core) s.relations.byte.address called.entered.processor.registers x.processor.registers
+    → Returned.IsKept (kept_by ranges addresses known.byte exit.core) known.byte.address called.entered.processor.registers x.processor.registers
     (peek called.entered.storage) (peek x.storage) called.entered.processor.flags x.processor.flags
-Returned-kept z region ranges base addresses s exit called x does kept given free h =
+Returned-kept z callee region ranges base w under addresses known exit called x k kept given place h =
     record {
       registers = λ r is. own-value (origin_of_register r) (get r exit.core.registers) called (get r x.processor.registers)
           (sym (register_own exit.core.registers r) ∙ is) (h.registers r)
           ∙ origin_value-of_register r called;
-      memory = λ out a is. address_kept z region ranges base addresses s.relations.byte.address called.entered.storage x.storage does kept given free out a is;
+      memory = λ out a is. address_kept z callee region ranges base w under addresses known.byte.address called.entered.storage x.storage k kept given place out a is;
       flags = λ is. h.flags.own is;
     }
 
@@ -490,17 +530,21 @@ GivesBack-exit k z region ranges base addresses exit called x of does kept given
     }
 
 IsCaller-handed :
-    (program : Program) (k : ℕ) (region : Region) (ranges : List Range) (names : List ℕ) (s exit : AbsState) (entry : Activation) (base : ℕ) (called : Activation) (x : MState)
-    → HandsBack program k region ranges names s exit entry base called x → IsCaller program names s entry base called
-IsCaller-handed program k region ranges names s exit entry base called x h =
+    (program : Program) (z : Setting) (k : ℕ) (region : Region) (ranges : List Range) (names : List ℕ) (s exit : AbsState) (entry : Activation) (base : ℕ) (called : Activation) (x : MState)
+    → HandsBack program z k region ranges names s exit entry base called x → IsCaller program names s entry base called
+IsCaller-handed program z k region ranges names s exit entry base called x h =
     record { means = h.begins.caller; located = h.begins.located; program_is = h.caller_program; names = h.names }
 
 -- the waiting items stand, the exit's behind them
 pub Means-rejoined :
-    (program : Program) (whole : Bool) (k : ℕ) (region : Region) (ranges : List Range) (names : List ℕ) (s exit : AbsState) (entry : Activation) (base : ℕ) (called : Activation) (x : MState)
-    → HandsBack program k region ranges names s exit entry base called x → Means (rejoined program whole k ranges names s exit) entry base x
+    (program : Program) (z : Setting) (k : ℕ) (region : Region) (ranges : List Range) (names : List ℕ) (s exit : AbsState) (entry : Activation) (base : ℕ) (called : Activation) (x : MState)
+    → HandsBack program z k region ranges names s exit entry base called x → Means (rejoined program z.is_whole (waiting_stack z region k s) k ranges names s exit) entry base x
 unfolding rejoined
-Means-rejoined program whole k region ranges names s exit entry base called x h =
+Means-rejoined program z k region ranges names s exit entry base called x h =
+    let whole = z.is_whole in
+    let waits = length s.items - k in
+    let waiting = waiting_stack z region k s in
+    let known = held_relations waiting s.relations in
     let first = h.room.first in
     let last = h.room.last in
     let caller = h.begins.caller in
@@ -509,7 +553,7 @@ Means-rejoined program whole k region ranges names s exit entry base called x h 
     let count : length back ≡ length exit.items = length-map exit.items (val_back program whole names s) in
     let left : x.processor.sp + length exit.items ≡ under = h.exits.parts.stack h.exit_located in
     let tells : Tells program whole names s entry called =
-    λ e. IsTold-exit program names s entry base called (IsCaller-handed program k region ranges names s exit entry base called x h) in
+    λ e. IsTold-exit program names s entry base called (IsCaller-handed program z k region ranges names s exit entry base called x h) in
     let given = IsGiven-back names exit.cells called x.storage h.exits.parts.memory h.exits.parts.cells h.names in
     record {
       parts = record {
@@ -523,10 +567,11 @@ Means-rejoined program whole k region ranges names s exit entry base called x h 
         cells = AreCells-joined (cell_room Extended) program whole names s h.callee region ranges under exit.cells entry called called.entered.storage x.storage
             tells h.exits.parts.memory h.keeps h.kept h.placed.cells caller.parts.cells h.exits.parts.cells;
       };
-      related = (returned_sound (kept_by ranges (given_addresses names exit.cells) s.relations.byte exit.core) s.relations exit.relations _ refl).gives
+      related = (returned_sound (kept_by ranges (given_addresses names exit.cells) known.byte exit.core) known exit.relations _ refl).gives
           called.entered.processor.registers x.processor.registers (peek called.entered.storage) (peek x.storage) called.entered.processor.flags x.processor.flags
-          (Returned-kept h.callee region ranges under (given_addresses names exit.cells) s exit called x h.keeps h.kept given h.placed.byte h.exits.parts.core)
-          caller.related h.exits.related;
+          (Returned-kept z h.callee region ranges base waits under (given_addresses names exit.cells) known exit called x
+          (record { based = h.based; under_is = refl; does = h.keeps }) h.kept given (held_placed z region (length s.items) waits s.relations.byte h.placed.byte) h.exits.parts.core)
+          (related_held waiting s.relations called.entered caller.related) h.exits.related;
       summary = HoldSummary-back program whole region ranges names s exit entry called x h.caller_program h.callee_program h.facts h.placed.summary h.exit_free
           (HoldsValues-caller s entry base called.entered caller)
           (GivesBack-exit program.kind h.callee region ranges under (given_addresses names exit.cells) exit called x (ap (λ p. p.kind) h.callee_program) h.keeps h.kept given h.exits.parts.core)
@@ -558,11 +603,11 @@ are_cells_left program names ranges s (c ∷ cells) called m t is h =
 
 -- where the callee comes back something is meant
 something_left :
-    (program : Program) (whole : Bool) (k : ℕ) (region : Region) (ranges : List Range) (names : List ℕ) (s exit : AbsState) (entry : Activation) (base : ℕ) (called : Activation) (x : MState)
-    → HandsBack program k region ranges names s exit entry base called x → is_something program whole names ranges s exit ≡ true
+    (program : Program) (whole : Bool) (z : Setting) (k : ℕ) (region : Region) (ranges : List Range) (names : List ℕ) (s exit : AbsState) (entry : Activation) (base : ℕ) (called : Activation) (x : MState)
+    → HandsBack program z k region ranges names s exit entry base called x → is_something program whole names ranges s exit ≡ true
 unfolding are_all_left
-something_left program false k region ranges names s exit entry base called x h = refl
-something_left program true k region ranges names s exit entry base called x h =
+something_left program false z k region ranges names s exit entry base called x h = refl
+something_left program true z k region ranges names s exit entry base called x h =
     both _ _ (both _ _ (both _ _ registers (t exit.core.ie x.storage.ie (byte-of exit.core.ie called x.storage.ie core.ie m.ie) m.ie))
     (are_left program names s exit.items entry called (base_below k s.items base) x.storage t h.exits.parts.memory h.exits.parts.items))
     (are_cells_left program names ranges s exit.cells called x.storage t h.exits.parts.memory h.exits.parts.cells)
@@ -574,7 +619,7 @@ something_left program true k region ranges names s exit entry base called x h =
     m = h.exits.parts.core
 
     t : (v : Val) (n : ℕ) → n ≤ 255 → Holds v called n → is_left program names s v ≡ true
-    t v n byte holds = (IsTold-exit program names s entry base called (IsCaller-handed program k region ranges names s exit entry base called x h) v n byte holds).left
+    t v n byte holds = (IsTold-exit program names s entry base called (IsCaller-handed program z k region ranges names s exit entry base called x h) v n byte holds).left
 
     one : (r : Register) → is_left program names s (get r exit.core.registers) ≡ true
     one r = t (get r exit.core.registers) (get r x.processor.registers) (byte-of (get r exit.core.registers) called (get r x.processor.registers) (core.registers r) (m.registers r)) (m.registers r)
@@ -667,53 +712,55 @@ Means-reduced s entry base x sound bytes m =
     choose (Some w) cuts h = Means-with_banks_cut (with_values s w) entry base x bytes (Means-with_values s w entry base x cuts h m)
 
 Means-rejoined_reduced :
-    (program : Program) (whole : Bool) (k : ℕ) (region : Region) (ranges : List Range) (names : List ℕ) (s exit : AbsState) (entry : Activation) (base : ℕ) (called : Activation) (x : MState)
-    → ReducesSoundly (rejoined program whole k ranges names s exit) → HandsBack program k region ranges names s exit entry base called x
-    → MeansIf (reduced_state program (rejoined program whole k ranges names s exit)) entry base x
-Means-rejoined_reduced program whole k region ranges names s exit entry base called x sound h =
-    subst (λ q. MeansIf (reduced_state q (rejoined program whole k ranges names s exit)) entry base x) h.caller_program
-    (Means-reduced (rejoined program whole k ranges names s exit) entry base x sound
+    (program : Program) (z : Setting) (k : ℕ) (region : Region) (ranges : List Range) (names : List ℕ) (s exit : AbsState) (entry : Activation) (base : ℕ) (called : Activation) (x : MState)
+    → ReducesSoundly (rejoined program z.is_whole (waiting_stack z region k s) k ranges names s exit) → HandsBack program z k region ranges names s exit entry base called x
+    → MeansIf (reduced_state program (rejoined program z.is_whole (waiting_stack z region k s) k ranges names s exit)) entry base x
+Means-rejoined_reduced program z k region ranges names s exit entry base called x sound h =
+    let back = rejoined program z.is_whole (waiting_stack z region k s) k ranges names s exit in
+    subst (λ q. MeansIf (reduced_state q back) entry base x) h.caller_program
+    (Means-reduced back entry base x sound
     (registers_are_bytes exit.core called x h.exit_core h.exits.parts.core)
-    (Means-rejoined program whole k region ranges names s exit entry base called x h))
+    (Means-rejoined program z k region ranges names s exit entry base called x h))
 
 -- where the callee comes back something is meant, and that holds
 Means-something :
-    (program : Program) (whole : Bool) (k : ℕ) (region : Region) (ranges : List Range) (names : List ℕ) (s exit : AbsState) (entry : Activation) (base : ℕ) (called : Activation) (x : MState)
-    → (is_something program whole names ranges s exit ≡ true → ReducesSoundly (rejoined program whole k ranges names s exit))
-    → HandsBack program k region ranges names s exit entry base called x
-    → MeansIf (resumed program Extended whole k ranges names s exit) entry base x
-unfolding resumed
-Means-something program whole k region ranges names s exit entry base called x sound h =
-    let some = something_left program whole k region ranges names s exit entry base called x h in
-    subst (λ b. MeansIf (cond b (reduced_state program (rejoined program whole k ranges names s exit)) None) entry base x) (sym some)
-    (Means-rejoined_reduced program whole k region ranges names s exit entry base called x (sound some) h)
+    (program : Program) (z : Setting) (k : ℕ) (region : Region) (ranges : List Range) (names : List ℕ) (s exit : AbsState) (entry : Activation) (base : ℕ) (called : Activation) (x : MState)
+    → (is_something program z.is_whole names ranges s exit ≡ true → ReducesSoundly (rejoined program z.is_whole (waiting_stack z region k s) k ranges names s exit))
+    → HandsBack program z k region ranges names s exit entry base called x
+    → MeansIf (resumed_by Extended program z region k ranges names s exit) entry base x
+unfolding resumed_by
+Means-something program z k region ranges names s exit entry base called x sound h =
+    let some = something_left program z.is_whole z k region ranges names s exit entry base called x h in
+    subst (λ b. MeansIf (cond b (reduced_state program (rejoined program z.is_whole (waiting_stack z region k s) k ranges names s exit)) None) entry base x) (sym some)
+    (Means-rejoined_reduced program z k region ranges names s exit entry base called x (sound some) h)
 
 -- ---- what was computed
 
 -- with more items than a state holds
 pub too_deep :
-    (program : Program) (whole : Bool) (k : ℕ) (ranges : List Range) (names addresses : List ℕ) (s exit : AbsState) (kept : Kept) (core : Core) (relations : Relations) (v : Values) (cells : List Cell) (said : SummaryParts) (c : Ctl)
-    → addresses ≡ given_addresses names exit.cells → kept ≡ kept_by ranges addresses s.relations.byte exit.core → core ≡ core_back program whole names s exit.core
-    → relations ≡ returned kept s.relations exit.relations → Some v ≡ reduced (values_of core.registers relations.pairs)
+    (program : Program) (whole : Bool) (waiting : StackBytes) (k : ℕ) (ranges : List Range) (names addresses : List ℕ) (s exit : AbsState) (kept : Kept) (core : Core) (relations : Relations) (v : Values) (cells : List Cell) (said : SummaryParts) (c : Ctl)
+    → addresses ≡ given_addresses names exit.cells → kept ≡ kept_by ranges addresses (held_relations waiting s.relations).byte exit.core → core ≡ core_back program whole names s exit.core
+    → relations ≡ returned kept (held_relations waiting s.relations) exit.relations → Some v ≡ reduced (values_of core.registers relations.pairs)
     → cells ≡ cells_back (cell_room Extended) (cell_back program whole names s) ranges s.cells exit.cells → said ≡ summary_back program whole ranges names s exit
     → Some c ≡ reduced_controller program v cells said core.ctl
-    → 255 < length (given_back_items k s.items exit.items) → IsTooDeep (reduced_state program (rejoined program whole k ranges names s exit))
+    → 255 < length (given_back_items k s.items exit.items) → IsTooDeep (reduced_state program (rejoined program whole waiting k ranges names s exit))
 unfolding rejoined reduced_state with_banks_cut item_room
-too_deep program whole k ranges names addresses s exit kept core relations v cells said c given is is_core are e is_cells is_said cuts many =
-    let by = kept_by ranges (given_addresses names exit.cells) s.relations.byte exit.core in
-    let same : relations ≡ returned by s.relations exit.relations =
-    are ∙ ap (λ (o : Kept). returned o s.relations exit.relations) (is ∙ ap (λ (xs : List ℕ). kept_by ranges xs s.relations.byte exit.core) given) in
-    let cut : Some v ≡ reduced (values_of (core_back program whole names s exit.core).registers (returned by s.relations exit.relations).pairs) =
+too_deep program whole waiting k ranges names addresses s exit kept core relations v cells said c given is is_core are e is_cells is_said cuts many =
+    let known = held_relations waiting s.relations in
+    let by = kept_by ranges (given_addresses names exit.cells) known.byte exit.core in
+    let same : relations ≡ returned by known exit.relations =
+    are ∙ ap (λ (o : Kept). returned o known exit.relations) (is ∙ ap (λ (xs : List ℕ). kept_by ranges xs known.byte exit.core) given) in
+    let cut : Some v ≡ reduced (values_of (core_back program whole names s exit.core).registers (returned by known exit.relations).pairs) =
     e ∙ (ap (λ (d : Core). reduced (values_of d.registers relations.pairs)) is_core
     ∙ ap (λ (r : Relations). reduced (values_of (core_back program whole names s exit.core).registers r.pairs)) same) in
-    let t : AbsState = with_values (rejoined program whole k ranges names s exit) v in
+    let t : AbsState = with_values (rejoined program whole waiting k ranges names s exit) v in
     let banks : Some c ≡ reduced_controller program v t.cells t.summary t.core.ctl =
     cuts ∙ (ap (λ (xs : List Cell). reduced_controller program v xs said core.ctl) is_cells
     ∙ (ap (λ (m : SummaryParts). reduced_controller program v t.cells m core.ctl) is_said
     ∙ ap (λ (d : Core). reduced_controller program v t.cells t.summary d.ctl) is_core)) in
     record {
       state = with_controller t c;
-      is = ap (λ o. option_and_then (with_banks_cut program) (with_values_if (rejoined program whole k ranges names s exit) o)) (sym cut)
+      is = ap (λ o. option_and_then (with_banks_cut program) (with_values_if (rejoined program whole waiting k ranges names s exit) o)) (sym cut)
           ∙ ap (option_map (with_controller t)) (sym banks);
       deep = subst (λ n. 255 < n) (sym (given_back-count k s.items exit.items (val_back program whole names s))) many;
     }
@@ -724,22 +771,25 @@ computed (States t) s entry base x e m = subst (λ (o : Option AbsState). MeansI
 computed TooDeep s entry base x e m = tt
 
 pub resumed_alone_sound :
-    (program : Program) (k : ℕ) (ranges : List Range) (names : List ℕ) (s exit o : AbsState) → o ≡ resumed_alone ranges s exit
-    → IsSoundResuming program Simple k ranges names s exit (States o)
-resumed_alone_sound program k ranges names s exit o e =
+    (program : Program) (z : Setting) (region : Region) (k : ℕ) (ranges : List Range) (names : List ℕ) (s exit o : AbsState) → z.rules ≡ Simple → o ≡ resumed_alone ranges s exit
+    → IsSoundResuming program z region k ranges names s exit (States o)
+resumed_alone_sound program z region k ranges names s exit o simple e =
     record {
-      gives = λ region entry base called x h. subst (λ (w : AbsState). Means w entry base x) (sym e) (Means-resumed_alone region ranges s exit entry base called x h);
+      gives = λ entry base called x h. subst (λ (w : AbsState). Means w entry base x) (sym e)
+          (Means-resumed_alone region ranges s exit entry base called x
+          (subst (λ (r : Rules). ComesBackBy program r z k region ranges names s exit entry base called x) simple h));
     }
 
 pub rejoined_sound :
-    (program : Program) (whole : Bool) (k : ℕ) (ranges : List Range) (names : List ℕ) (s exit : AbsState) (r : Resumed)
-    → IsResumed r (resumed program Extended whole k ranges names s exit)
-    → (is_something program whole names ranges s exit ≡ true → ReducesSoundly (rejoined program whole k ranges names s exit))
-    → IsSoundResuming program Extended k ranges names s exit r
-rejoined_sound program whole k ranges names s exit r e sound =
+    (program : Program) (z : Setting) (region : Region) (k : ℕ) (ranges : List Range) (names : List ℕ) (s exit : AbsState) (r : Resumed) → z.rules ≡ Extended
+    → IsResumed r (resumed_by Extended program z region k ranges names s exit)
+    → (is_something program z.is_whole names ranges s exit ≡ true → ReducesSoundly (rejoined program z.is_whole (waiting_stack z region k s) k ranges names s exit))
+    → IsSoundResuming program z region k ranges names s exit r
+rejoined_sound program z region k ranges names s exit r extended e sound =
     record {
-      gives = λ region entry base called x h. computed r (resumed program Extended whole k ranges names s exit) entry base x e
-          (Means-something program whole k region ranges names s exit entry base called x sound h);
+      gives = λ entry base called x h. computed r (resumed_by Extended program z region k ranges names s exit) entry base x e
+          (Means-something program z k region ranges names s exit entry base called x sound
+          (subst (λ (q : Rules). ComesBackBy program q z k region ranges names s exit entry base called x) extended h));
     }
 
 -- ---- by either rules, of states that a certificate may have
@@ -774,19 +824,22 @@ ArePairs-returned k s t h i = record { each = λ p. each p }
     each pair.Hl = IsPairFacts-returned pair.Hl k s.pairs.hl t.pairs.hl (h.each pair.Hl) (i.each pair.Hl)
 
 ReducesSoundly-rejoined :
-    (program : Program) (whole : Bool) (k : ℕ) (ranges : List Range) (names : List ℕ) (s exit : AbsState) → ArePairs s.relations.pairs → ArePairs exit.relations.pairs
-    → ReducesSoundly (rejoined program whole k ranges names s exit)
+    (program : Program) (whole : Bool) (waiting : StackBytes) (k : ℕ) (ranges : List Range) (names : List ℕ) (s exit : AbsState) → ArePairs s.relations.pairs → ArePairs exit.relations.pairs
+    → ReducesSoundly (rejoined program whole waiting k ranges names s exit)
 unfolding rejoined
-ReducesSoundly-rejoined program whole k ranges names s exit h i =
-    reduced_sound (values_of (rejoined program whole k ranges names s exit).core.registers (rejoined program whole k ranges names s exit).relations.pairs) _ refl
-    (ArePairs-returned (kept_by ranges (given_addresses names exit.cells) s.relations.byte exit.core) s.relations exit.relations h i)
+ReducesSoundly-rejoined program whole waiting k ranges names s exit h i =
+    let known = held_relations waiting s.relations in
+    let back = rejoined program whole waiting k ranges names s exit in
+    reduced_sound (values_of back.core.registers back.relations.pairs) _ refl
+    (ArePairs-returned (kept_by ranges (given_addresses names exit.cells) known.byte exit.core) known exit.relations h i)
 
 -- the callee has come back: there is something that its caller goes on with, and it holds
 pub Means-resumed :
-    (program : Program) (rules : Rules) (whole : Bool) (k : ℕ) (region : Region) (ranges : List Range) (names : List ℕ) (s exit : AbsState) (entry : Activation) (base : ℕ) (called : Activation) (x : MState)
-    → ArePairs s.relations.pairs → ArePairs exit.relations.pairs → ComesBackBy program rules k region ranges names s exit entry base called x
-    → MeansIf (resumed program rules whole k ranges names s exit) entry base x
-unfolding resumed
-Means-resumed program Simple whole k region ranges names s exit entry base called x p q h = Means-resumed_alone region ranges s exit entry base called x h
-Means-resumed program Extended whole k region ranges names s exit entry base called x p q h =
-    Means-something program whole k region ranges names s exit entry base called x (λ e. ReducesSoundly-rejoined program whole k ranges names s exit p q) h
+    (program : Program) (rules : Rules) (z : Setting) (k : ℕ) (region : Region) (ranges : List Range) (names : List ℕ) (s exit : AbsState) (entry : Activation) (base : ℕ) (called : Activation) (x : MState)
+    → ArePairs s.relations.pairs → ArePairs exit.relations.pairs → ComesBackBy program rules z k region ranges names s exit entry base called x
+    → MeansIf (resumed_by rules program z region k ranges names s exit) entry base x
+unfolding resumed_by
+Means-resumed program Simple z k region ranges names s exit entry base called x p q h = Means-resumed_alone region ranges s exit entry base called x h
+Means-resumed program Extended z k region ranges names s exit entry base called x p q h =
+    Means-something program z k region ranges names s exit entry base called x
+    (λ e. ReducesSoundly-rejoined program z.is_whole (waiting_stack z region k s) k ranges names s exit p q) h

@@ -1,6 +1,7 @@
 -- What a procedure begins with, which one is called, and what it may write (own rules: calls).
 use Rattle.std.specs.Prelude.{ℕ, ◌+◌, ◌-◌, Bool, true, false, ◌&&◌, ◌||◌, ◌==◌, nat_le, List, [], ◌∷◌, length, map, slice_get, Option, Some, None}
 use Rattle.std.specs.List.{list_any, list_all}
+use Rattle.gb_ops.specs.declared.machine.Region.{Region}
 use Rattle.gb_ops.specs.declared.registers.Registers.{Registers}
 use Rattle.gb_domain.specs.LowBits.{no_low_bits}
 use Rattle.gb_domain.specs.declared.types.Origin.TheVariants as origin
@@ -20,6 +21,7 @@ use Rattle.gb_product.specs.Below.gb_abs.Cells.{with_cell}
 use Rattle.gb_product.specs.Below.gb_abs.Origins.{own, cell_without_origin}
 use Rattle.gb_abs_memory.specs.Access.{is_range}
 use Rattle.gb_product.specs.Covering.{covers}
+use Rattle.gb_product.specs.Held.{relations_outside}
 use Rattle.gb_calls.specs.Parts.{byte_there}
 use Rattle.gb_calls.specs.TakenOver.{taken_over}
 
@@ -67,14 +69,15 @@ with_kept program rules s i (a ∷ kept) cells =
     with_kept program rules s (i + 1) kept (with_cell (cell_room rules) (kept_cell program s i a) cells)
 
 -- what a procedure with these kept addresses begins with that is called in s: each register, the flags and IE are their own origins,
--- the controller is kept, the cells are no copies but for the bytes at these addresses, what is known together stays, and so does
--- what is said of the whole program
-unfoldable pub entered_by : Program → Rules → ℕ → List ℕ → AbsState → AbsState
-entered_by program rules k kept s =
+-- the controller is kept, the cells are no copies but for the bytes at these addresses, what is known together stays but for an item
+-- among the places, and what is said of the whole program stays
+unfoldable pub entered_by : Program → Region → Rules → ℕ → List ℕ → AbsState → AbsState
+entered_by program region rules k kept s =
     record s {
       core = entered_core s.core;
       items = items_entered rules k s.items;
       cells = with_kept program rules s 0 kept (map cell_without_origin s.cells);
+      relations = relations_outside region s.relations;
       summary = summary_entered rules s.summary;
     }
 
@@ -96,18 +99,18 @@ unfoldable pub fits : Setting → ℕ → ℕ → ℕ → Bool
 fits z base k n = fits_by z.rules (known_base z) base k n
 
 -- a procedure with this base, these kept addresses and t at its entry may begin where it is called in s
-unfoldable pub may_begin : Program → Setting → AbsState → ℕ → List ℕ → AbsState → Bool
-may_begin program z s base kept t =
-    fits z base (length t.items) (length s.items) && covers program (entered_by program z.rules (length t.items) kept s) t
+unfoldable pub may_begin : Program → Region → Setting → AbsState → ℕ → List ℕ → AbsState → Bool
+may_begin program region z s base kept t =
+    fits z base (length t.items) (length s.items) && covers program (entered_by program region z.rules (length t.items) kept s) t
 
 -- the node begins at the address and stands for the states
-abbrev pub is_entry_node : Program → Setting → ℕ → AbsState → ℕ → List ℕ → Option Node → Bool
-is_entry_node program z a s base kept None = false
-is_entry_node program z a s base kept (Some n) = (n.address == a) && may_begin program z s base kept n.state
+abbrev pub is_entry_node : Program → Region → Setting → ℕ → AbsState → ℕ → List ℕ → Option Node → Bool
+is_entry_node program region z a s base kept None = false
+is_entry_node program region z a s base kept (Some n) = (n.address == a) && may_begin program region z s base kept n.state
 
 -- the procedure begins so
 unfoldable pub is_entry : Program → Certificate → Setting → ℕ → AbsState → ProcedureParts → Bool
-is_entry program cert z a s p = is_entry_node program z a s p.base p.kept (slice_get cert.nodes p.entry)
+is_entry program cert z a s p = is_entry_node program cert.region z a s p.base p.kept (slice_get cert.nodes p.entry)
 
 abbrev pub or_later : Bool → ℕ → Option ℕ → Option ℕ
 or_later true i later = Some i

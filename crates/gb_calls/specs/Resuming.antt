@@ -1,8 +1,9 @@
 -- What a caller goes on with behind a call (own rules: calls).
-use Rattle.std.specs.Prelude.{◌≡◌, ℕ, ◌+◌, ◌*◌, ◌/◌, ◌<◌, Bool, true, false, not, ◌&&◌, ◌||◌, if◌then◌else◌, nat_lt, nat_le, List, [], ◌∷◌, length, map, take, Option, Some, None, option_map, option_and_then}
+use Rattle.std.specs.Prelude.{◌≡◌, ℕ, ◌+◌, ◌-◌, ◌*◌, ◌/◌, ◌<◌, Bool, true, false, not, ◌&&◌, ◌||◌, if◌then◌else◌, nat_lt, nat_le, List, [], ◌∷◌, length, map, take, Option, Some, None, option_map, option_and_then}
 use Rattle.std.specs.List.{filter, list_all, list_any}
 use Rattle.gb_ops.specs.declared.machine.Kind.{Kind}
 use Rattle.gb_ops.specs.declared.machine.Kind.TheVariants as kind
+use Rattle.gb_ops.specs.declared.machine.Region.{Region}
 use Rattle.gb_ops.specs.declared.registers.Registers.{Registers}
 use Rattle.gb_domain.specs.declared.types.Origin.TheVariants as origin
 use Rattle.gb_domain.specs.declared.types.Val.{Val}
@@ -12,8 +13,10 @@ use Rattle.gb_domain.specs.declared.types.KeptBanks.{KeptBanks}
 use Rattle.gb_domain.specs.declared.types.Core.{Core}
 use Rattle.gb_domain.specs.declared.types.Range.{Range}
 use Rattle.gb_domain.specs.declared.places.OneByte.{OneByte}
+use Rattle.gb_domain.specs.declared.places.StackBytes.{StackBytes}
 use Rattle.gb_domain.specs.declared.rules.Rules.{Rules}
 use Rattle.gb_domain.specs.declared.rules.Rules.TheVariants.{Simple, Extended}
+use Rattle.gb_domain.specs.declared.setting.Setting.{Setting}
 use Rattle.gb_domain.specs.Limits.{cell_room, item_room}
 use Rattle.gb_domain.specs.Places.{no_byte}
 use Rattle.gb_domain.specs.Relations.{no_relations}
@@ -29,6 +32,7 @@ use Rattle.gb_product.specs.Below.gb_abs.Covering.{cell_at}
 use Rattle.gb_product.specs.Below.gb_abs.Origins.{is_own}
 use Rattle.gb_product.specs.Below.gb_abs.Span.{one}
 use Rattle.gb_product.specs.Covering.{values_in}
+use Rattle.gb_product.specs.Held.{stack_held, held_relations}
 use Rattle.gb_product.specs.Reduced.{reduced_controller}
 use Rattle.gb_product.specs.Below.gb_summaries.declared.returning.GivenBack.{GivenBack}
 use Rattle.gb_product.specs.Below.gb_summaries.Returning.{is_byte_kept, summary_returned}
@@ -208,14 +212,16 @@ summary_back program whole ranges kept s x =
     summary_returned program ranges (given_by x.core) (given_addresses kept x.cells) (values_in s) s.cells s.summary x.cells x.summary
     (has_room ranges s.cells x.cells) (cells_back (cell_room Extended) (cell_back program whole kept s) ranges s.cells x.cells)
 
--- the caller's waiting items and the exit's behind them, what is known together on either side, and what is said of the whole program
-unfoldable pub rejoined : Program → Bool → ℕ → List Range → List ℕ → AbsState → AbsState → AbsState
-rejoined program whole k ranges kept s x =
+-- the caller's waiting items and the exit's behind them, what is known together on either side, of the caller's without items that
+-- don't wait, and what is said of the whole program
+unfoldable pub rejoined : Program → Bool → StackBytes → ℕ → List Range → List ℕ → AbsState → AbsState → AbsState
+rejoined program whole waiting k ranges kept s x =
+    let known = held_relations waiting s.relations in
     record {
       core = core_back program whole kept s x.core;
       items = given_back_items k s.items (map (val_back program whole kept s) x.items);
       cells = cells_back (cell_room Extended) (cell_back program whole kept s) ranges s.cells x.cells;
-      relations = returned (kept_by ranges (given_addresses kept x.cells) s.relations.byte x.core) s.relations x.relations;
+      relations = returned (kept_by ranges (given_addresses kept x.cells) known.byte x.core) known x.relations;
       summary = summary_back program whole ranges kept s x;
     }
 
@@ -261,12 +267,21 @@ is_something program true kept ranges s x = are_all_left program kept ranges s x
 
 -- ---- by all rules; those of version 4 know the whole program
 
--- what the caller goes on with that was in s, in a program, where the callee has these ranges and kept addresses, began with k items
--- and left by the exit x; none where nothing is meant
-unfoldable pub resumed : Program → Rules → Bool → ℕ → List Range → List ℕ → AbsState → AbsState → Option AbsState
-resumed program Simple whole k ranges kept s x = Some (resumed_alone ranges s x)
-resumed program Extended whole k ranges kept s x =
-    if is_something program whole kept ranges s x then reduced_state program (rejoined program whole k ranges kept s x) else None
+-- the stack with the items that wait for a callee that took k over
+abbrev pub waiting_stack : Setting → Region → ℕ → AbsState → StackBytes
+waiting_stack z region k s = stack_held z region (length s.items - k)
+
+unfoldable pub resumed_by : Rules → Program → Setting → Region → ℕ → List Range → List ℕ → AbsState → AbsState → Option AbsState
+resumed_by Simple program z region k ranges kept s x = Some (resumed_alone ranges s x)
+resumed_by Extended program z region k ranges kept s x =
+    if is_something program z.is_whole kept ranges s x
+    then reduced_state program (rejoined program z.is_whole (waiting_stack z region k s) k ranges kept s x)
+    else None
+
+-- what the caller goes on with that was in s, in a procedure of a program with a stack region, where the callee has these ranges and
+-- kept addresses, began with k items and left by the exit x; none where nothing is meant
+abbrev pub resumed : Program → Setting → Region → ℕ → List Range → List ℕ → AbsState → AbsState → Option AbsState
+resumed program z region k ranges kept s x = resumed_by z.rules program z region k ranges kept s x
 
 -- with more items than any state has
 pub record IsTooDeep (s : Option AbsState) : Type 0 where

@@ -53,7 +53,7 @@ callee_base Extended k items base x = base_below k items base
 
 -- Of each state of the program in which s was left by a call: the callee that has these kept addresses, entered in just that state with
 -- its return word at SP, begins with what is said, wherever its mark is.
-pub record IsSoundEntering (program : Program) (rules : Rules) (k : ℕ) (kept : List ℕ) (s after : AbsState) : Type 0 where
+pub record IsSoundEntering (program : Program) (region : Region) (rules : Rules) (k : ℕ) (kept : List ℕ) (s after : AbsState) : Type 0 where
   pub gives :
       (entry : Activation) (base : ℕ) (begun : Activation)
       → entry.program ≡ program → begun.program ≡ program → begun.kept ≡ kept → Begins rules k s entry base begun.entered
@@ -81,12 +81,13 @@ pub record ComesBack (region : Region) (ranges : List Range) (s exit : AbsState)
   pub kept : (b : ℕ) → IsKept callee region ranges called.entered.processor.sp b → peek x.storage b ≡ peek called.entered.storage b
 
 -- By those of version 3: the callee took over k items of the caller's, the return word among them, and leaves as many as its exit
--- has. It stands in a setting of its own, in which it keeps what isn't its own to write. The addresses are those that it names to be
--- kept.
-pub record HandsBack (program : Program) (k : ℕ) (region : Region) (ranges : List Range) (addresses : List ℕ) (s exit : AbsState) (entry : Activation) (base : ℕ) (called : Activation) (x : MState) : Type 0 where
+-- has. It stands in a setting of its own, in which it keeps what isn't its own to write; z is the caller's. The addresses are those that
+-- it names to be kept.
+pub record HandsBack (program : Program) (z : Setting) (k : ℕ) (region : Region) (ranges : List Range) (addresses : List ℕ) (s exit : AbsState) (entry : Activation) (base : ℕ) (called : Activation) (x : MState) : Type 0 where
   pub is_region : IsRegion region
   pub apart : AllByRecursion (λ r. meets region r.first r.last ≡ false) ranges
-  pub placed : IsApart region s
+  pub placed : IsApart z region s
+  pub based : IsBase z base
   pub room : AreInRegion region base (length s.items)
   pub begins : IsCalled k s entry base called.entered
   pub callee : Setting
@@ -103,10 +104,10 @@ pub record HandsBack (program : Program) (k : ℕ) (region : Region) (ranges : L
   pub kept : (b : ℕ) → IsKept callee region ranges (base_below k s.items base) b → peek x.storage b ≡ peek called.entered.storage b
 
 abbrev pub ComesBackBy :
-    Program → Rules → ℕ → Region → List Range → List ℕ → AbsState → AbsState → Activation → ℕ → Activation → MState → Type 0
-ComesBackBy program Simple k region ranges addresses s exit entry base called x = ComesBack region ranges s exit entry base called x
-ComesBackBy program Extended k region ranges addresses s exit entry base called x =
-    HandsBack program k region ranges addresses s exit entry base called x
+    Program → Rules → Setting → ℕ → Region → List Range → List ℕ → AbsState → AbsState → Activation → ℕ → Activation → MState → Type 0
+ComesBackBy program Simple z k region ranges addresses s exit entry base called x = ComesBack region ranges s exit entry base called x
+ComesBackBy program Extended z k region ranges addresses s exit entry base called x =
+    HandsBack program z k region ranges addresses s exit entry base called x
 
 -- x is one of the states, of which there are some
 abbrev pub MeansIf : Option AbsState → Activation → ℕ → MState → Type 0
@@ -125,7 +126,7 @@ ReducesSoundly s =
     IsSoundReducing (values_of s.core.registers s.relations.pairs) (reduced (values_of s.core.registers s.relations.pairs))
 
 -- whatever the callee did in the program, what is said of the caller's state holds
-pub record IsSoundResuming (program : Program) (rules : Rules) (k : ℕ) (ranges : List Range) (kept : List ℕ) (s exit : AbsState) (after : Resumed) : Type 0 where
+pub record IsSoundResuming (program : Program) (z : Setting) (region : Region) (k : ℕ) (ranges : List Range) (kept : List ℕ) (s exit : AbsState) (after : Resumed) : Type 0 where
   pub gives :
-      (region : Region) (entry : Activation) (base : ℕ) (called : Activation) (x : MState)
-      → ComesBackBy program rules k region ranges kept s exit entry base called x → MeansResumed after entry base x
+      (entry : Activation) (base : ℕ) (called : Activation) (x : MState)
+      → ComesBackBy program z.rules z k region ranges kept s exit entry base called x → MeansResumed after entry base x

@@ -10,6 +10,7 @@ use crate::entering::enter_in;
 use arrayvec::ArrayVec;
 use gb_cert::{Cert, ProcedureRef, StateRef};
 use gb_domain::types::{Abs, Rules, Setting};
+use gb_ops::machine::Region;
 use gb_product::{Program, States};
 
 /// Whether a base that is said is so many bytes below the caller's, which then is said too.
@@ -41,6 +42,7 @@ fn fits(setting: Setting, base: u16, count: usize, held: usize) -> bool
 /// addresses to be kept. That is put in the place of other states.
 fn covers_entered(
     program: &Program<'_>,
+    region: Region,
     rules: Rules,
     count: u8,
     kept: &ArrayVec<u16, 16>,
@@ -48,9 +50,9 @@ fn covers_entered(
     entry: &StateRef<'_>,
     room: &mut Abs,
 ) -> bool
-    ensures { result ≡ covers program.now (Calls.entered_by program.now rules count kept.now.items state.now) entry.now }
+    ensures { result ≡ covers program.now (Calls.entered_by program.now region rules count kept.now.items state.now) entry.now }
 {
-    enter_in(program, rules, count, kept, state, room);
+    enter_in(program, region, rules, count, kept, state, room);
     covers_states(program, &States::of(room), entry)
 }
 
@@ -58,6 +60,7 @@ fn covers_entered(
 #[tactic(auto, unfolding(crate::specs::Calls::may_begin))]
 fn may_begin(
     program: &Program<'_>,
+    region: Region,
     setting: Setting,
     state: &Abs,
     base: u16,
@@ -65,11 +68,20 @@ fn may_begin(
     entry: &StateRef<'_>,
     room: &mut Abs,
 ) -> bool
-    ensures { result ≡ Calls.may_begin program.now setting state.now base kept.now.items entry.now }
+    ensures { result ≡ Calls.may_begin program.now region setting state.now base kept.now.items entry.now }
 {
     let count = entry.item_count();
     fits(setting, base, usize::from(count), state.items().len())
-        && covers_entered(program, setting.rules, count, kept, state, entry, room)
+        && covers_entered(
+            program,
+            region,
+            setting.rules,
+            count,
+            kept,
+            state,
+            entry,
+            room,
+        )
 }
 
 /// Whether a procedure begins at the address, in a state that stands for these. The state is decoded only where
@@ -94,6 +106,7 @@ fn is_entry(
     node.address() == address
         && may_begin(
             program,
+            cert.region(),
             setting,
             state,
             procedure.base(),

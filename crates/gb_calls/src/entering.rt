@@ -12,8 +12,9 @@ ghost use Rattle.gb_calls.specs.TakenOver as TakenOver;
 use crate::told::byte_there;
 use arrayvec::ArrayVec;
 use gb_domain::types::{Abs, Cell, Core, Ctl, Flg, KeptBanks, Origin, Rules, Val};
+use gb_ops::machine::Region;
 use gb_ops::registers::Registers;
-use gb_product::{Program, cell_without_origin, own, with_cell, without_origin};
+use gb_product::{Program, cell_without_origin, own, relations_outside, with_cell, without_origin};
 
 /// Each register is a copy of what it held at entry.
 fn own_registers(registers: &Registers<Val>) -> Registers<Val>
@@ -144,16 +145,17 @@ fn put_summary(rules: Rules, state: &Abs, entered: &mut Abs)
 #[tactic(auto, unfolding(crate::specs::Calls::entered_by))]
 fn put_entered(
     program: &Program<'_>,
+    region: Region,
     rules: Rules,
     count: u8,
     kept: &ArrayVec<u16, 16>,
     state: &Abs,
     entered: &mut Abs,
 )
-    ensures { entered.new ≡ Calls.entered_by program.now rules count kept.now.items state.now }
+    ensures { entered.new ≡ Calls.entered_by program.now region rules count kept.now.items state.now }
 {
     entered.set_plain(entered_core(state.core()));
-    entered.set_relations(*state.relations());
+    entered.set_relations(relations_outside(region, state.relations()));
     append_entered(rules, count, state.items(), entered);
     append_cells(state.cells(), entered);
     put_kept(program, rules, state, kept, entered);
@@ -164,33 +166,35 @@ fn put_entered(
 #[tactic(auto, using(crate::proofs::EnteringLaws::enter_sound))]
 pub fn enter_in(
     program: &Program<'_>,
+    region: Region,
     rules: Rules,
     count: u8,
     kept: &ArrayVec<u16, 16>,
     state: &Abs,
     entered: &mut Abs,
 )
-    ensures exact { entered.new ≡ Calls.entered_by program.now rules count kept.now.items state.now }
-    ensures sound { IsSoundEntering program.now rules count kept.now.items state.now entered.new }
+    ensures exact { entered.new ≡ Calls.entered_by program.now region rules count kept.now.items state.now }
+    ensures sound { IsSoundEntering program.now region rules count kept.now.items state.now entered.new }
 {
-    put_entered(program, rules, count, kept, state, entered);
+    put_entered(program, region, rules, count, kept, state, entered);
 }
 
 /// What a procedure begins with that is called in these states of a program, whose entry node has so many items, and which names these
 /// addresses to be kept (abstract interpretation: calls; own). What it holds is its own. By the rules of versions 1 and 2 no byte is
 /// pushed, the return word stands at its base; by those of version 3 it takes over its caller's newest items, the return word the last
-/// two of them.
+/// two of them. No item of the stack region is a place then.
 pub fn enter(
     program: &Program<'_>,
+    region: Region,
     rules: Rules,
     count: u8,
     kept: &ArrayVec<u16, 16>,
     state: &Abs,
 ) -> Abs
-    ensures exact { result ≡ Calls.entered_by program.now rules count kept.now.items state.now }
-    ensures sound { IsSoundEntering program.now rules count kept.now.items state.now result }
+    ensures exact { result ≡ Calls.entered_by program.now region rules count kept.now.items state.now }
+    ensures sound { IsSoundEntering program.now region rules count kept.now.items state.now result }
 {
     let mut entered = Abs::new(*state.core());
-    enter_in(program, rules, count, kept, state, &mut entered);
+    enter_in(program, region, rules, count, kept, state, &mut entered);
     entered
 }

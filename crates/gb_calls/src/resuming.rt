@@ -1,6 +1,6 @@
 //! What a caller goes on with.
 
-ghost use Rattle.std.specs.Prelude.{◌≡◌, ◌+◌, ◌≤◌, ◌<◌, ◌++◌, true, false, length, map};
+ghost use Rattle.std.specs.Prelude.{◌≡◌, ◌+◌, ◌≤◌, ◌<◌, ◌++◌, true, false, if◌then◌else◌, None, length, map};
 ghost use Rattle.std.specs.List.{list_all};
 ghost use Rattle.gb_domain.specs.declared.rules.Rules.TheVariants.{Extended};
 ghost use Rattle.gb_domain.specs.Limits.{cell_room};
@@ -13,16 +13,16 @@ use crate::cells::{cells_back, given_addresses, has_room, is_in_ranges};
 use crate::told::{Caller, is_left, place_back, val_back};
 use arrayvec::ArrayVec;
 use gb_abs_memory::windows::low_ends;
-use gb_domain::places::OneByte;
+use gb_domain::places::{OneByte, StackBytes};
 use gb_domain::relations::Relations;
 use gb_domain::summary::Summary;
-use gb_domain::types::{Abs, Cell, Core, Ctl, KeptBanks, Origin, Range, Rules, Val};
-use gb_ops::machine::Kind;
+use gb_domain::types::{Abs, Cell, Core, Ctl, KeptBanks, Origin, Range, Rules, Setting, Val};
+use gb_ops::machine::{Kind, Region};
 use gb_ops::registers::Registers;
 use gb_product::reduced::reduced_controller;
 use gb_product::{
-    GivenBack, Kept, KnownRam, Program, Values, is_byte_kept, is_own, only_of_a, reduce, returned,
-    summary_returned,
+    GivenBack, Kept, KnownRam, Program, Values, held_relations, is_byte_kept, is_own, only_of_a,
+    reduce, returned, stack_held, summary_returned,
 };
 
 /// The most items that a state holds by any rules.
@@ -343,20 +343,22 @@ fn are_too_many(count: u8, held: &[Val], exit: &[Val]) -> bool
 #[tactic(auto, unfolding(crate::specs::Resuming::rejoined, crate::specs::Resuming::reduced_state, crate::specs::Resuming::with_banks_cut))]
 fn put_rejoined(
     caller: &Caller<'_>,
+    waiting: StackBytes,
     count: u8,
     ranges: &[Range],
     exit: &Abs,
     resumed: &mut Abs,
 ) -> Return
-    ensures exact { Resuming.IsResumed (Resuming.resumed_to result resumed.new) (Resuming.reduced_state caller.now.program.now (Resuming.rejoined caller.now.program.now caller.now.is_whole count ranges.now caller.now.kept.now.items caller.now.state.now exit.now)) }
-    ensures reducing { ReducesSoundly (Resuming.rejoined caller.now.program.now caller.now.is_whole count ranges.now caller.now.kept.now.items caller.now.state.now exit.now) }
+    ensures exact { Resuming.IsResumed (Resuming.resumed_to result resumed.new) (Resuming.reduced_state caller.now.program.now (Resuming.rejoined caller.now.program.now caller.now.is_whole waiting count ranges.now caller.now.kept.now.items caller.now.state.now exit.now)) }
+    ensures reducing { ReducesSoundly (Resuming.rejoined caller.now.program.now caller.now.is_whole waiting count ranges.now caller.now.kept.now.items caller.now.state.now exit.now) }
 {
     let state = caller.state;
     let given = given_addresses(caller.kept, exit.cells());
     let addresses = given.as_slice();
-    let kept = kept_by(ranges, addresses, &state.relations().byte, exit.core());
+    let known = held_relations(waiting, state.relations());
+    let kept = kept_by(ranges, addresses, &known.byte, exit.core());
     let mut core = core_back(caller, exit.core());
-    let mut relations = returned(&kept, state.relations(), exit.relations());
+    let mut relations = returned(&kept, &known, exit.relations());
     if !reduce(&mut core.registers, &mut relations.pairs) {
         return Return::Nothing;
     }
@@ -440,41 +442,38 @@ fn is_something(caller: &Caller<'_>, ranges: &[Range], exit: &Abs) -> bool
 }
 
 /// What a caller goes on with by the rules of versions 3 and 4, in the place of other states.
-#[tactic(auto, unfolding(crate::specs::Resuming::resumed))]
 fn put_something(
     caller: &Caller<'_>,
+    waiting: StackBytes,
     count: u8,
     ranges: &[Range],
     exit: &Abs,
     resumed: &mut Abs,
 ) -> Return
-    ensures exact { Resuming.IsResumed (Resuming.resumed_to result resumed.new) (Resuming.resumed caller.now.program.now Extended caller.now.is_whole count ranges.now caller.now.kept.now.items caller.now.state.now exit.now) }
-    ensures reducing { Resuming.is_something caller.now.program.now caller.now.is_whole caller.now.kept.now.items ranges.now caller.now.state.now exit.now ≡ true → ReducesSoundly (Resuming.rejoined caller.now.program.now caller.now.is_whole count ranges.now caller.now.kept.now.items caller.now.state.now exit.now) }
+    ensures exact { Resuming.IsResumed (Resuming.resumed_to result resumed.new) (if Resuming.is_something caller.now.program.now caller.now.is_whole caller.now.kept.now.items ranges.now caller.now.state.now exit.now then Resuming.reduced_state caller.now.program.now (Resuming.rejoined caller.now.program.now caller.now.is_whole waiting count ranges.now caller.now.kept.now.items caller.now.state.now exit.now) else None) }
+    ensures reducing { Resuming.is_something caller.now.program.now caller.now.is_whole caller.now.kept.now.items ranges.now caller.now.state.now exit.now ≡ true → ReducesSoundly (Resuming.rejoined caller.now.program.now caller.now.is_whole waiting count ranges.now caller.now.kept.now.items caller.now.state.now exit.now) }
 {
     if is_something(caller, ranges, exit) {
-        put_rejoined(caller, count, ranges, exit, resumed)
+        put_rejoined(caller, waiting, count, ranges, exit, resumed)
     } else {
         Return::Nothing
     }
 }
 
-/// Rejoins the caller's state with the callee's exit, and follows what the machine does.
-#[tactic(auto, using(crate::proofs::ResumingLaws::rejoined_sound))]
-fn rejoin(caller: &Caller<'_>, count: u8, ranges: &[Range], exit: &Abs, resumed: &mut Abs) -> Return
-    ensures exact { Resuming.IsResumed (Resuming.resumed_to result resumed.new) (Resuming.resumed caller.now.program.now Extended caller.now.is_whole count ranges.now caller.now.kept.now.items caller.now.state.now exit.now) }
-    ensures sound { IsSoundResuming caller.now.program.now Extended count ranges.now caller.now.kept.now.items caller.now.state.now exit.now (Resuming.resumed_to result resumed.new) }
+/// The stack with the items that wait for a callee that took so many over.
+fn waiting_stack(setting: Setting, region: Region, count: u8, state: &Abs) -> StackBytes
+    ensures { result ≡ Resuming.waiting_stack setting region count state.now }
 {
-    put_something(caller, count, ranges, exit, resumed)
+    let held = state.items().len() as u8;
+    stack_held(setting, region, held.saturating_sub(count))
 }
 
-// ---- by all rules
-
-/// Does what `resume` does, in the place of other states; `Return` says what they are.
-#[tactic(auto, using(crate::proofs::ResumingLaws::resumed_alone_sound), unfolding(crate::specs::Resuming::resumed))]
-pub fn resume_in(
+/// Rejoins the caller's state with the callee's exit, and follows what the machine does.
+#[tactic(auto, using(crate::proofs::ResumingLaws::rejoined_sound), unfolding(crate::specs::Resuming::resumed_by))]
+fn rejoin(
     program: &Program<'_>,
-    rules: Rules,
-    is_whole: bool,
+    setting: Setting,
+    region: Region,
     count: u8,
     ranges: &[Range],
     kept: &ArrayVec<u16, 16>,
@@ -482,47 +481,71 @@ pub fn resume_in(
     exit: &Abs,
     resumed: &mut Abs,
 ) -> Return
-    ensures exact { Resuming.IsResumed (Resuming.resumed_to result resumed.new) (Resuming.resumed program.now rules is_whole count ranges.now kept.now.items state.now exit.now) }
-    ensures sound { IsSoundResuming program.now rules count ranges.now kept.now.items state.now exit.now (Resuming.resumed_to result resumed.new) }
+    requires { setting.rules ≡ Extended }
+    ensures exact { Resuming.IsResumed (Resuming.resumed_to result resumed.new) (Resuming.resumed_by Extended program.now setting region count ranges.now kept.now.items state.now exit.now) }
+    ensures sound { IsSoundResuming program.now setting region count ranges.now kept.now.items state.now exit.now (Resuming.resumed_to result resumed.new) }
 {
-    match rules {
+    let caller = Caller {
+        program,
+        is_whole: setting.is_whole,
+        kept,
+        state,
+    };
+    let waiting = waiting_stack(setting, region, count, state);
+    put_something(&caller, waiting, count, ranges, exit, resumed)
+}
+
+// ---- by all rules
+
+/// Does what `resume` does, in the place of other states; `Return` says what they are.
+#[tactic(auto, using(crate::proofs::ResumingLaws::resumed_alone_sound), unfolding(crate::specs::Resuming::resumed_by))]
+pub fn resume_in(
+    program: &Program<'_>,
+    setting: Setting,
+    region: Region,
+    count: u8,
+    ranges: &[Range],
+    kept: &ArrayVec<u16, 16>,
+    state: &Abs,
+    exit: &Abs,
+    resumed: &mut Abs,
+) -> Return
+    ensures exact { Resuming.IsResumed (Resuming.resumed_to result resumed.new) (Resuming.resumed program.now setting region count ranges.now kept.now.items state.now exit.now) }
+    ensures sound { IsSoundResuming program.now setting region count ranges.now kept.now.items state.now exit.now (Resuming.resumed_to result resumed.new) }
+{
+    match setting.rules {
         Rules::Simple => {
             put_alone(ranges, state, exit, resumed);
             Return::States
         }
-        Rules::Extended => {
-            let caller = Caller {
-                program,
-                is_whole,
-                kept,
-                state,
-            };
-            rejoin(&caller, count, ranges, exit, resumed)
-        }
+        Rules::Extended => rejoin(
+            program, setting, region, count, ranges, kept, state, exit, resumed,
+        ),
     }
 }
 
-/// What a caller goes on with in a program that was in these states, where its callee has these ranges and kept addresses, began with so
-/// many items and left by this exit (abstract interpretation: calls; own). Where the rules are of version 4, `is_whole`, what the exit
-/// says is a copy is what the caller's states say of what it is a copy of.
+/// What a caller goes on with that was in these states, in a procedure of a program with this stack region, where its callee has these
+/// ranges and kept addresses, began with so many items and left by this exit (abstract interpretation: calls; own). Where the rules are
+/// of version 4, what the exit says is a copy is what the caller's states say of what it is a copy of, and an item that waits may still
+/// be a place.
 pub fn resume(
     program: &Program<'_>,
-    rules: Rules,
-    is_whole: bool,
+    setting: Setting,
+    region: Region,
     count: u8,
     ranges: &[Range],
     kept: &ArrayVec<u16, 16>,
     state: &Abs,
     exit: &Abs,
 ) -> Resumed
-    ensures exact { Resuming.IsResumed result (Resuming.resumed program.now rules is_whole count ranges.now kept.now.items state.now exit.now) }
-    ensures sound { IsSoundResuming program.now rules count ranges.now kept.now.items state.now exit.now result }
+    ensures exact { Resuming.IsResumed result (Resuming.resumed program.now setting region count ranges.now kept.now.items state.now exit.now) }
+    ensures sound { IsSoundResuming program.now setting region count ranges.now kept.now.items state.now exit.now result }
 {
     let mut resumed = Abs::new(*state.core());
     match resume_in(
         program,
-        rules,
-        is_whole,
+        setting,
+        region,
         count,
         ranges,
         kept,

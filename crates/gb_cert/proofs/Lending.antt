@@ -5,10 +5,11 @@ use Rattle.std.specs.List.{flat_map}
 use Rattle.std.proofs.lemmas.Bool.Decides.{nat_tests}
 use Rattle.gb_ops.specs.declared.machine.Region.{Region}
 use Rattle.gb_domain.specs.declared.summary.Fact.{Fact}
-use Rattle.gb_domain.specs.Types.{AbsState, Node, state_of}
+use Rattle.gb_domain.specs.Types.{AbsState, ProcedureParts, Node, state_of}
 use Rattle.gb_domain.specs.Certificate.{Certificate}
 use Rattle.gb_domain.specs.Limits.{rules_of}
 use Rattle.gb_domain.specs.Rules.{IsChain}
+use Rattle.gb_states.specs.declared.form.ProcedureForm.{ProcedureForm}
 use Rattle.gb_states.specs.declared.form.Form.{Form}
 use Rattle.gb_states.specs.Below.gb_fields.declared.fault.CertFault.{CertFault}
 use Rattle.gb_states.specs.Below.gb_fields.Format.{both, byte}
@@ -16,12 +17,12 @@ use Rattle.gb_states.specs.Below.gb_fields.Limits.{procedure_limit_by}
 use Rattle.gb_states.specs.Below.gb_fields.Reading.{word}
 use Rattle.gb_states.specs.Rules.{is_from, key, role_of}
 use Rattle.gb_states.specs.Forms.{form_by}
-use Rattle.gb_states.specs.WholeRules.{kept_counts, kept_of, IsNodeBy, IsCertificate}
+use Rattle.gb_states.specs.WholeRules.{procedure_forms, form_in, IsNodeBy, IsCertificate}
 use Rattle.gb_states.specs.WholeReading.{number_by}
 use Rattle.gb_states.specs.Spelling as simple
 use Rattle.gb_states.specs.WholeSpelling as spelled
 use Rattle.gb_rows.specs.Rows.{is_before, AreInOrder}
-use Rattle.gb_cert.specs.Places.{AreAt, IsLaid}
+use Rattle.gb_cert.specs.Places.{AreAt, forms_if, IsLaid}
 use Rattle.gb_cert.specs.Borrowed.{read_or, any_core, state_in, StateStands}
 use Rattle.gb_states.proofs.Formats.{IsFormat-byte, IsFormat-both, same_pair}
 use Rattle.gb_states.proofs.FieldLaws.{last_small, spelled_byte, IsFormat-word}
@@ -49,11 +50,11 @@ limit-most false n h = omega (arith, h)
 
 -- ---- what a certificate says
 
-pub few-facts : (bytes : List ℕ) (version : ℕ) (region : Region) (facts : List Fact) (counts procedures nodes : List ℕ) (c : Certificate) → IsLaid bytes version region facts counts procedures nodes c → length facts < 65536
-few-facts bytes version region facts counts procedures nodes c laid = subst (λ (fs : List Fact). length fs < 65536) (sym laid.facts_are) (facts-few (c.version == 4) c.region c.facts laid.spells.is_certificate.facts)
+pub few-facts : (bytes : List ℕ) (version : ℕ) (region : Region) (facts : List Fact) (forms : List ProcedureForm) (procedures nodes : List ℕ) (c : Certificate) → IsLaid bytes version region facts forms procedures nodes c → length facts < 65536
+few-facts bytes version region facts forms procedures nodes c laid = subst (λ (fs : List Fact). length fs < 65536) (sym laid.facts_are) (facts-few (c.version == 4) c.region c.facts laid.spells.is_certificate.facts)
 
-pub small-last : (bytes : List ℕ) (version : ℕ) (region : Region) (facts : List Fact) (counts procedures nodes : List ℕ) (c : Certificate) → IsLaid bytes version region facts counts procedures nodes c → region.last < 65535
-small-last bytes version region facts counts procedures nodes c laid = subst (λ (r : Region). r.last < 65535) (sym laid.region_is) (last_small c.region.first c.region.last laid.spells.is_certificate.region.area)
+pub small-last : (bytes : List ℕ) (version : ℕ) (region : Region) (facts : List Fact) (forms : List ProcedureForm) (procedures nodes : List ℕ) (c : Certificate) → IsLaid bytes version region facts forms procedures nodes c → region.last < 65535
+small-last bytes version region facts forms procedures nodes c laid = subst (λ (r : Region). r.last < 65535) (sym laid.region_is) (last_small c.region.first c.region.last laid.spells.is_certificate.region.area)
 
 -- ---- nodes
 
@@ -67,18 +68,18 @@ front_of n = (n.procedure, (n.address, n.bank))
 abbrev lent_node : Form → Region → Front → List ℕ → Node
 lent_node form region front state = record { procedure = front.0; address = front.1.0; bank = front.1.1; state = state_in form (role_of front.0) region state }
 
-record NodeStands (b : Bool) (version facts : ℕ) (counts : List ℕ) (region : Region) (bytes : List ℕ) (n : Node) : Type 0 where
+record NodeStands (b : Bool) (version facts : ℕ) (forms : List ProcedureForm) (region : Region) (bytes : List ℕ) (n : Node) : Type 0 where
   pub rest : List ℕ
   pub front : both (number_by b) (both word word) bytes ≡ Ok (front_of n, rest)
-  pub state : StateStands (form_by b version facts (kept_of counts n.procedure)) (role_of n.procedure) region rest n.state
+  pub state : StateStands (form_by b version facts (form_in forms n.procedure)) (role_of n.procedure) region rest n.state
 
-node-by : (b : Bool) (version facts : ℕ) (counts : List ℕ) (region : Region) (procedures : ℕ) (before : ℕ × ℕ) (n : Node) (tail : List ℕ) → facts < 65536 → ((p : ℕ) → b ≡ true → kept_of counts p ≤ 16) → procedures ≤ procedure_limit_by b
-    → IsNodeBy b version facts (kept_of counts) region procedures before n → NodeStands b version facts counts region (spelled.node_by b version n ++ tail) n
+node-by : (b : Bool) (version facts : ℕ) (forms : List ProcedureForm) (region : Region) (procedures : ℕ) (before : ℕ × ℕ) (n : Node) (tail : List ℕ) → facts < 65536 → ((p : ℕ) → b ≡ true → (form_in forms p).kept ≤ 16) → procedures ≤ procedure_limit_by b
+    → IsNodeBy b version facts (form_in forms) region procedures before n → NodeStands b version facts forms region (spelled.node_by b version region (form_in forms) n ++ tail) n
 unfolding spelled.node simple.node
-node-by true version facts counts region procedures before n tail small few many h =
+node-by true version facts forms region procedures before n tail small few many h =
     let p = h.procedure in
     let bank = h.bank in
-    let rest : List ℕ = spelled.state n.state ++ tail in
+    let rest : List ℕ = spelled.state region (form_in forms n.procedure).base n.state ++ tail in
     record {
       rest = rest;
       front = (IsFormat-both word (both word word) _ _ _ _ IsFormat-word (IsFormat-both word word _ _ _ _ IsFormat-word IsFormat-word)).again (front_of n) rest (omega (arith, p, many), (h.address, omega (arith, bank)));
@@ -87,10 +88,10 @@ node-by true version facts counts region procedures before n tail small few many
         fit = (small, few n.procedure refl);
         parts = refl;
         is_state = h.state;
-        is_read = (whole.IsFormat-state facts (kept_of counts n.procedure) (role_of n.procedure) region small (few n.procedure refl)).again n.state tail h.state;
+        is_read = (whole.IsFormat-state facts (form_in forms n.procedure) (role_of n.procedure) region small (few n.procedure refl)).again n.state tail h.state;
       };
     }
-node-by false version facts counts region procedures before n tail small few many h =
+node-by false version facts forms region procedures before n tail small few many h =
     let p = h.procedure in
     let bank = h.bank in
     let rest : List ℕ = simple.state (rules_of version) n.state ++ tail in
@@ -100,41 +101,48 @@ node-by false version facts counts region procedures before n tail small few man
       state = record { tail = tail; fit = tt; parts = refl; is_state = h.state; is_read = (IsFormat-state (rules_of version) (role_of n.procedure) region).again n.state tail h.state };
     }
 
+-- Versions 1 to 3 need no form.
+formed : (b : Bool) (version facts : ℕ) (ps : List ProcedureParts) (region : Region) (bytes : List ℕ) (n : Node) → NodeStands b version facts (procedure_forms ps) region bytes n → NodeStands b version facts (forms_if b ps) region bytes n
+formed true version facts ps region bytes n h = record { rest = h.rest; front = h.front; state = h.state }
+formed false version facts ps region bytes n h = record { rest = h.rest; front = h.front; state = h.state }
+
 -- the node with this number stands at its place
-node-stands : (bytes : List ℕ) (version : ℕ) (region : Region) (facts : List Fact) (counts procedures nodes : List ℕ) (c : Certificate) (i : ℕ) → IsLaid bytes version region facts counts procedures nodes c → i < length c.nodes
-    → (n : Node) × (slice_get c.nodes i ≡ Some n) × NodeStands (version == 4) version (length facts) counts region (drop (get_or nodes i 0) bytes) n
-node-stands bytes version region facts counts procedures nodes c i laid lt =
+node-stands : (bytes : List ℕ) (version : ℕ) (region : Region) (facts : List Fact) (forms : List ProcedureForm) (procedures nodes : List ℕ) (c : Certificate) (i : ℕ) → IsLaid bytes version region facts forms procedures nodes c → i < length c.nodes
+    → (n : Node) × (slice_get c.nodes i ≡ Some n) × NodeStands (version == 4) version (length facts) forms region (drop (get_or nodes i 0) bytes) n
+node-stands bytes version region facts forms procedures nodes c i laid lt =
     let one = some-at c.nodes i lt in
     let n = one.0 in
     let is = laid.spells.is_certificate in
-    let at = at-each (spelled.node_by (c.version == 4) c.version) bytes [] nodes c.nodes i n laid.nodes_at one.1 in
-    let good = chain-each (IsNodeBy (c.version == 4) c.version (length c.facts) (kept_of (kept_counts c.procedures)) c.region (length c.procedures)) key (0, 0) c.nodes i n is.nodes one.1 in
+    let at = at-each (spelled.node_by (c.version == 4) c.version c.region (form_in (procedure_forms c.procedures))) bytes [] nodes c.nodes i n laid.nodes_at one.1 in
+    let good = chain-each (IsNodeBy (c.version == 4) c.version (length c.facts) (form_in (procedure_forms c.procedures)) c.region (length c.procedures)) key (0, 0) c.nodes i n is.nodes one.1 in
     let small = facts-few (c.version == 4) c.region c.facts is.facts in
     let few = few-kept (c.version == 4) c.version (length c.facts) c.region (length c.nodes) true c.procedures is.procedures in
-    let made = node-by (c.version == 4) c.version (length c.facts) (kept_counts c.procedures) c.region (length c.procedures) good.0 n at.tail small few is.procedure_count good.1 in
-    let placed = subst (λ (b : List ℕ). NodeStands (c.version == 4) c.version (length c.facts) (kept_counts c.procedures) c.region b n) (sym at.parts) made in
-    let versioned = subst (λ (v : ℕ). NodeStands (v == 4) v (length c.facts) (kept_counts c.procedures) c.region (drop (get_or nodes i 0) bytes) n) (sym laid.version_is) placed in
-    let regioned = subst (λ (r : Region). NodeStands (version == 4) version (length c.facts) (kept_counts c.procedures) r (drop (get_or nodes i 0) bytes) n) (sym laid.region_is) versioned in
-    let counted = subst (λ (ks : List ℕ). NodeStands (version == 4) version (length c.facts) ks region (drop (get_or nodes i 0) bytes) n) (sym laid.counts_are) regioned in
-    (n, one.1, subst (λ (fs : List Fact). NodeStands (version == 4) version (length fs) counts region (drop (get_or nodes i 0) bytes) n) (sym laid.facts_are) counted)
+    let made = node-by (c.version == 4) c.version (length c.facts) (procedure_forms c.procedures) c.region (length c.procedures) good.0 n at.tail small few is.procedure_count good.1 in
+    let placed = subst (λ (b : List ℕ). NodeStands (c.version == 4) c.version (length c.facts) (procedure_forms c.procedures) c.region b n) (sym at.parts) made in
+    let versioned = subst (λ (v : ℕ). NodeStands (v == 4) v (length c.facts) (procedure_forms c.procedures) c.region (drop (get_or nodes i 0) bytes) n) (sym laid.version_is) placed in
+    let regioned = subst (λ (r : Region). NodeStands (version == 4) version (length c.facts) (procedure_forms c.procedures) r (drop (get_or nodes i 0) bytes) n) (sym laid.region_is) versioned in
+    let unformed = formed (version == 4) version (length c.facts) c.procedures region (drop (get_or nodes i 0) bytes) n regioned in
+    let by_version = subst (λ (v : ℕ). NodeStands (version == 4) version (length c.facts) (forms_if (v == 4) c.procedures) region (drop (get_or nodes i 0) bytes) n) laid.version_is unformed in
+    let counted = subst (λ (fs : List ProcedureForm). NodeStands (version == 4) version (length c.facts) fs region (drop (get_or nodes i 0) bytes) n) (sym laid.forms_are) by_version in
+    (n, one.1, subst (λ (fs : List Fact). NodeStands (version == 4) version (length fs) forms region (drop (get_or nodes i 0) bytes) n) (sym laid.facts_are) counted)
 
-pub node-front : (bytes : List ℕ) (version : ℕ) (region : Region) (facts : List Fact) (counts procedures nodes : List ℕ) (c : Certificate) (i : ℕ) (e : CertFault) → IsLaid bytes version region facts counts procedures nodes c → i < length c.nodes
+pub node-front : (bytes : List ℕ) (version : ℕ) (region : Region) (facts : List Fact) (forms : List ProcedureForm) (procedures nodes : List ℕ) (c : Certificate) (i : ℕ) (e : CertFault) → IsLaid bytes version region facts forms procedures nodes c → i < length c.nodes
     → both (number_by (version == 4)) (both word word) (drop (get_or nodes i 0) bytes) ≡ Err e → ⊥
-node-front bytes version region facts counts procedures nodes c i e laid lt wrong =
-    let s = node-stands bytes version region facts counts procedures nodes c i laid lt in
+node-front bytes version region facts forms procedures nodes c i e laid lt wrong =
+    let s = node-stands bytes version region facts forms procedures nodes c i laid lt in
     no-error _ _ _ s.2.front wrong
 
 -- The node that is lent is the certificate's, and its state stands.
 abbrev pub IsLent : Certificate → ℕ → Form → Region → Front → List ℕ → Type 0
 IsLent c i form region front state = StateStands form (role_of front.0) region state (state_in form (role_of front.0) region state) × (slice_get c.nodes i ≡ Some (lent_node form region front state))
 
-pub node-lent : (bytes : List ℕ) (version : ℕ) (region : Region) (facts : List Fact) (counts procedures nodes : List ℕ) (c : Certificate) (i : ℕ) (front : Front) (state : List ℕ) → IsLaid bytes version region facts counts procedures nodes c → i < length c.nodes
-    → both (number_by (version == 4)) (both word word) (drop (get_or nodes i 0) bytes) ≡ Ok (front, state) → IsLent c i (form_by (version == 4) version (length facts) (kept_of counts front.0)) region front state
-node-lent bytes version region facts counts procedures nodes c i front state laid lt right =
-    let s = node-stands bytes version region facts counts procedures nodes c i laid lt in
+pub node-lent : (bytes : List ℕ) (version : ℕ) (region : Region) (facts : List Fact) (forms : List ProcedureForm) (procedures nodes : List ℕ) (c : Certificate) (i : ℕ) (front : Front) (state : List ℕ) → IsLaid bytes version region facts forms procedures nodes c → i < length c.nodes
+    → both (number_by (version == 4)) (both word word) (drop (get_or nodes i 0) bytes) ≡ Ok (front, state) → IsLent c i (form_by (version == 4) version (length facts) (form_in forms front.0)) region front state
+node-lent bytes version region facts forms procedures nodes c i front state laid lt right =
+    let s = node-stands bytes version region facts forms procedures nodes c i laid lt in
     let n = s.0 in
     let stands = s.2 in
-    let form : ℕ → Form = λ p. form_by (version == 4) version (length facts) (kept_of counts p) in
+    let form : ℕ → Form = λ p. form_by (version == 4) version (length facts) (form_in forms p) in
     let p = same_pair (front_of n) front stands.rest state (sym stands.front ∙ right) in
     let of_rest : state_in (form n.procedure) (role_of n.procedure) region stands.rest ≡ n.state = ap (read_or (state_of any_core)) stands.state.is_read in
     let there : StateStands (form n.procedure) (role_of n.procedure) region stands.rest (state_in (form n.procedure) (role_of n.procedure) region stands.rest) = subst (λ z. StateStands (form n.procedure) (role_of n.procedure) region stands.rest z) (sym of_rest) stands.state in
@@ -143,14 +151,14 @@ node-lent bytes version region facts counts procedures nodes c i front state lai
 
 -- ---- all nodes
 
-pub nodes-lent : (bytes : List ℕ) (version : ℕ) (region : Region) (facts : List Fact) (counts procedures nodes : List ℕ) (c : Certificate) → IsLaid bytes version region facts counts procedures nodes c → drop (get_or nodes 0 0) bytes ≡ flat_map (spelled.node_by (c.version == 4) c.version) c.nodes
-nodes-lent bytes version region facts counts procedures nodes c laid = by nodes c.nodes laid.spells.is_certificate.some_node laid.nodes_at
+pub nodes-lent : (bytes : List ℕ) (version : ℕ) (region : Region) (facts : List Fact) (forms : List ProcedureForm) (procedures nodes : List ℕ) (c : Certificate) → IsLaid bytes version region facts forms procedures nodes c → drop (get_or nodes 0 0) bytes ≡ spelled.nodes c.version c.region c.procedures c.nodes
+nodes-lent bytes version region facts forms procedures nodes c laid = by (spelled.node_by (c.version == 4) c.version c.region (form_in (procedure_forms c.procedures))) nodes c.nodes laid.spells.is_certificate.some_node laid.nodes_at
   where
-    by : (ps : List ℕ) (xs : List Node) → 0 < length xs → AreAt (spelled.node_by (c.version == 4) c.version) bytes [] ps xs → drop (get_or ps 0 0) bytes ≡ flat_map (spelled.node_by (c.version == 4) c.version) xs
-    by [] [] some h = absurd (omega arith)
-    by (p ∷ ps) (x ∷ xs) some h = h.0 ∙ append-nil (flat_map (spelled.node_by (c.version == 4) c.version) (x ∷ xs))
-    by [] (x ∷ xs) some h = absurd h
-    by (p ∷ ps) [] some h = absurd h
+    by : (write : Node → List ℕ) (ps : List ℕ) (xs : List Node) → 0 < length xs → AreAt write bytes [] ps xs → drop (get_or ps 0 0) bytes ≡ flat_map write xs
+    by write [] [] some h = absurd (omega arith)
+    by write (p ∷ ps) (x ∷ xs) some h = h.0 ∙ append-nil (flat_map write (x ∷ xs))
+    by write [] (x ∷ xs) some h = absurd h
+    by write (p ∷ ps) [] some h = absurd h
 
 -- ---- the order of the nodes
 
@@ -166,9 +174,9 @@ self-not a b e = rw e (same b.0 b.1)
     same : (m n : ℕ) → is_before (m, n) (m, n) ≡ false
     same m n = grind (arith, nat_tests)
 
-order_of : (b : Bool) (version facts : ℕ) (kept : ℕ → ℕ) (region : Region) (procedures : ℕ) (before : ℕ × ℕ) (n : Node) → IsNodeBy b version facts kept region procedures before n → is_from before (key n) ≡ true
-order_of true version facts kept region procedures before n h = h.order
-order_of false version facts kept region procedures before n h = h.order
+order_of : (b : Bool) (version facts : ℕ) (form_of : ℕ → ProcedureForm) (region : Region) (procedures : ℕ) (before : ℕ × ℕ) (n : Node) → IsNodeBy b version facts form_of region procedures before n → is_from before (key n) ≡ true
+order_of true version facts form_of region procedures before n h = h.order
+order_of false version facts form_of region procedures before n h = h.order
 
 chain-from : (good : ℕ × ℕ → Node → Type 0) (before : ℕ × ℕ) (nodes : List Node) (i : ℕ) (k : ℕ × ℕ) → ((s : ℕ × ℕ) (n : Node) → good s n → is_from s (key n) ≡ true) → IsChain good key before nodes → slice_get (map key nodes) i ≡ Some k → is_from before k ≡ true
 chain-from good before [] i k each h e = cc
@@ -184,8 +192,8 @@ in-order good before (n ∷ ns) each h (suc i) (suc j) a b le e f = in-order goo
 
 pub keys-in-order : (c : Certificate) → IsCertificate c → AreInOrder (map key c.nodes)
 keys-in-order c h =
-    in-order (IsNodeBy (c.version == 4) c.version (length c.facts) (kept_of (kept_counts c.procedures)) c.region (length c.procedures)) (0, 0) c.nodes
-    (order_of (c.version == 4) c.version (length c.facts) (kept_of (kept_counts c.procedures)) c.region (length c.procedures)) h.nodes
+    in-order (IsNodeBy (c.version == 4) c.version (length c.facts) (form_in (procedure_forms c.procedures)) c.region (length c.procedures)) (0, 0) c.nodes
+    (order_of (c.version == 4) c.version (length c.facts) (form_in (procedure_forms c.procedures)) c.region (length c.procedures)) h.nodes
 
 pub key-at : (nodes : List Node) (i : ℕ) (n : Node) → slice_get nodes i ≡ Some n → slice_get (map key nodes) i ≡ Some (key n)
 key-at [] i n e = cc

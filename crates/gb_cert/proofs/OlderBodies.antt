@@ -10,6 +10,7 @@ use Rattle.gb_domain.specs.Limits.{rules_of}
 use Rattle.gb_domain.specs.Rules.{IsChain}
 use Rattle.gb_domain.specs.Types.{ProcedureParts}
 use Rattle.gb_domain.specs.Certificate.{Certificate}
+use Rattle.gb_states.specs.declared.form.ProcedureForm.{ProcedureForm}
 use Rattle.gb_states.specs.Below.gb_fields.declared.fault.CertFault.{CertFault}
 use Rattle.gb_states.specs.Below.gb_fields.Format.{go_on}
 use Rattle.gb_states.specs.Below.gb_fields.Limits.{node_limit}
@@ -44,13 +45,13 @@ record IsThere (version : ℕ) (region : Region) (place : List ℕ) (c : Certifi
   pub at : slice_get c.procedures i ≡ Some p
   pub stands : BodyStands version (i == 0) region place p
 
-body-there : (bytes : List ℕ) (version : ℕ) (region : Region) (facts : List Fact) (counts procedures nodes : List ℕ) (c : Certificate) (i : ℕ) → IsLaid bytes version region facts counts procedures nodes c → (c.version == 4) ≡ false → i < length c.procedures → IsThere version region (drop (get_or procedures i 0) bytes) c i
+body-there : (bytes : List ℕ) (version : ℕ) (region : Region) (facts : List Fact) (forms : List ProcedureForm) (procedures nodes : List ℕ) (c : Certificate) (i : ℕ) → IsLaid bytes version region facts forms procedures nodes c → (c.version == 4) ≡ false → i < length c.procedures → IsThere version region (drop (get_or procedures i 0) bytes) c i
 unfolding spelled.procedure spelled.body
-body-there bytes version region facts counts procedures nodes c i laid older lt =
+body-there bytes version region facts forms procedures nodes c i laid older lt =
     let s = some-at c.procedures i lt in
     let p = s.0 in
     let whole_rules = laid.spells.is_certificate in
-    let at = at-each (whole.procedure_by (c.version == 4) c.version) bytes (flat_map (whole.node_by (c.version == 4) c.version) c.nodes) procedures c.procedures i p laid.procedures_at s.1 in
+    let at = at-each (whole.procedure_by (c.version == 4) c.version c.region) bytes (whole.nodes c.version c.region c.procedures c.nodes) procedures c.procedures i p laid.procedures_at s.1 in
     let first = chain-first (c.version == 4) c.version (length c.facts) c.region (length c.nodes) true c.procedures i p whole_rules.procedures s.1 in
     let any = subst (λ (m : Bool). IsProcedureBy (c.version == 4) c.version (length c.facts) c.region (length c.nodes) m p) (is-first i) first in
     let is : IsProcedure (rules_of c.version) c.region (length c.nodes) (i == 0) p = subst (λ (b : Bool). IsProcedureBy b c.version (length c.facts) c.region (length c.nodes) (i == 0) p) older any in
@@ -58,7 +59,7 @@ body-there bytes version region facts counts procedures nodes c i laid older lt 
     let number = number_small c.version p.entry (omega (arith, few, whole_rules.node_count)) in
     let small = last_small c.region.first c.region.last whole_rules.region.area in
     let body : List ℕ = spelled.body (rules_of c.version) p in
-    let parts : drop (get_or procedures i 0) bytes ≡ spelled.procedure c.version p ++ at.tail = at.parts ∙ ap (λ (b : Bool). whole.procedure_by b c.version p ++ at.tail) older in
+    let parts : drop (get_or procedures i 0) bytes ≡ spelled.procedure c.version p ++ at.tail = at.parts ∙ ap (λ (b : Bool). whole.procedure_by b c.version c.region p ++ at.tail) older in
     let made : BodyStands c.version (i == 0) c.region (drop (get_or procedures i 0) bytes) p = record {
       tail = at.tail;
       entry = ap (node_number c.version) (parts ∙ append_assoc (spelled.node_number c.version p.entry) body at.tail) ∙ (IsFormat-node_number c.version).again p.entry (body ++ at.tail) number;
@@ -88,11 +89,11 @@ body-passes version is_main region place body entry p h right =
 
 -- where a procedure's body stands it is before what is left behind it
 pub body-lent :
-    (bytes : List ℕ) (version : ℕ) (region : Region) (facts : List Fact) (counts procedures nodes : List ℕ) (c : Certificate) (i entry : ℕ) (body behind : List ℕ) → IsLaid bytes version region facts counts procedures nodes c → (c.version == 4) ≡ false → i < length c.procedures
+    (bytes : List ℕ) (version : ℕ) (region : Region) (facts : List Fact) (forms : List ProcedureForm) (procedures nodes : List ℕ) (c : Certificate) (i entry : ℕ) (body behind : List ℕ) → IsLaid bytes version region facts forms procedures nodes c → (c.version == 4) ≡ false → i < length c.procedures
     → node_number version (drop (get_or procedures i 0) bytes) ≡ Ok (entry, body) → skipped (body_at (rules_of version) (i == 0) region) body ≡ Ok behind
     → (length behind ≤ length body) × IfSome (slice_get c.procedures i) (λ p. take (length body - length behind) body ≡ spelled.body (rules_of version) p)
-body-lent bytes version region facts counts procedures nodes c i entry body behind laid older lt right e =
-    let s = body-there bytes version region facts counts procedures nodes c i laid older lt in
+body-lent bytes version region facts forms procedures nodes c i entry body behind laid older lt right e =
+    let s = body-there bytes version region facts forms procedures nodes c i laid older lt in
     let p = s.p in
     let k = body-passes version (i == 0) region (drop (get_or procedures i 0) bytes) body entry p s.stands right in
     let same : k.tail ≡ behind = left_is k.tail behind (sym k.passed ∙ e) in
@@ -104,10 +105,10 @@ body-lent bytes version region facts counts procedures nodes c i entry body behi
     (omega (arith, long), subst (λ (o : Option ProcedureParts). IfSome o (λ p. take (length body - length behind) body ≡ spelled.body (rules_of version) p)) (sym s.at) is)
 
 pub body-passed :
-    (bytes : List ℕ) (version : ℕ) (region : Region) (facts : List Fact) (counts procedures nodes : List ℕ) (c : Certificate) (i entry : ℕ) (body : List ℕ) (e : CertFault) → IsLaid bytes version region facts counts procedures nodes c → (c.version == 4) ≡ false → i < length c.procedures
+    (bytes : List ℕ) (version : ℕ) (region : Region) (facts : List Fact) (forms : List ProcedureForm) (procedures nodes : List ℕ) (c : Certificate) (i entry : ℕ) (body : List ℕ) (e : CertFault) → IsLaid bytes version region facts forms procedures nodes c → (c.version == 4) ≡ false → i < length c.procedures
     → node_number version (drop (get_or procedures i 0) bytes) ≡ Ok (entry, body) → skipped (body_at (rules_of version) (i == 0) region) body ≡ Err e → ⊥
-body-passed bytes version region facts counts procedures nodes c i entry body e laid older lt right wrong =
-    let s = body-there bytes version region facts counts procedures nodes c i laid older lt in
+body-passed bytes version region facts forms procedures nodes c i entry body e laid older lt right wrong =
+    let s = body-there bytes version region facts forms procedures nodes c i laid older lt in
     let k = body-passes version (i == 0) region (drop (get_or procedures i 0) bytes) body entry s.p s.stands right in
     no-error k.tail e k.passed wrong
 

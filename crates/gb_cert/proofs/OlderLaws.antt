@@ -22,7 +22,7 @@ use Rattle.gb_states.specs.WholeSpelling as spelled
 use Rattle.std.specs.List.{flat_map}
 use Rattle.gb_states.specs.Reading as simple
 use Rattle.gb_states.specs.Reading.{have_entries_in}
-use Rattle.gb_states.specs.WholeRules.{kept_counts, kept_of, in_order_by, AreFactsBy, IsProcedureBy, IsNodeBy, IsCertificate}
+use Rattle.gb_states.specs.WholeRules.{procedure_forms, form_in, in_order_by, AreFactsBy, IsProcedureBy, IsNodeBy, IsCertificate}
 use Rattle.gb_states.specs.WholeReading.{facts_by, procedure_by, node_by, behind_facts, Parts, procedures_at, nodes_at, entries_fault, entries_fault_in, to_certificate, behind_head, certificate_at, read_certificate, is_fourth, begins_fourth}
 use Rattle.gb_states.proofs.FieldLaws.{same}
 use Rattle.gb_cert.proofs.HeadLaws.{or_either}
@@ -34,7 +34,7 @@ Lists = List ProcedureParts × List Node
 abbrev spelled_by : Bool → Certificate → List ℕ
 spelled_by b c =
     ((0x47 ∷ 0x42 ∷ 0x42 ∷ simple_spelled.letter (any_rules_by b c.version) ∷ c.version ∷ []) ++ (simple_spelled.word c.region.first ++ (simple_spelled.word c.region.last ++ (spelled.procedure_count_by b (length c.procedures) ++ simple_spelled.node_number c.version (length c.nodes)))))
-    ++ (spelled.facts_by b c.facts ++ (flat_map (spelled.procedure_by b c.version) c.procedures ++ flat_map (spelled.node_by b c.version) c.nodes))
+    ++ (spelled.facts_by b c.facts ++ (flat_map (spelled.procedure_by b c.version c.region) c.procedures ++ flat_map (spelled.node_by b c.version c.region (form_in (procedure_forms c.procedures))) c.nodes))
 
 abbrev Older : Type 0
 Older = Head × Lists
@@ -85,16 +85,16 @@ entries-same : (h : Head) (ps : List ProcedureParts) (r : Rest (List Node)) → 
 entries-same h ps (Err e) k = refl
 entries-same h ps (Ok (ns, rest)) k = ap (λ (o : Option CertFault). go_on {X = Parts} (if_faultless o (h, ([], (ps, ns))) rest) (λ x rest. (let q : Rest Certificate = Ok (to_certificate x, rest) in q))) (ap (λ (b : Bool). entries_fault b ps ns 0 ps) k ∙ unordered ps ns 0 ps) ∙ judged-same h ps ns rest (have_entries 0 ps ns)
 
-nodes-same : (h : Head) (ps : List ProcedureParts) (rest : List ℕ) → (h.version == 4) ≡ false → nodes_at h 0 (kept_counts ps) rest ≡ simple.nodes_at (rules_of h.version) h.region h.procedures h.nodes rest
+nodes-same : (h : Head) (ps : List ProcedureParts) (rest : List ℕ) → (h.version == 4) ≡ false → nodes_at h 0 (procedure_forms ps) rest ≡ simple.nodes_at (rules_of h.version) h.region h.procedures h.nodes rest
 unfolding nodes_at simple.nodes_at
-nodes-same h ps rest k = ap (λ (b : Bool). several (node_by b h.version 0 (kept_of (kept_counts ps)) h.region h.procedures) key (0, 0) h.nodes rest) k
+nodes-same h ps rest k = ap (λ (b : Bool). several (node_by b h.version 0 (form_in (procedure_forms ps)) h.region h.procedures) key (0, 0) h.nodes rest) k
 
 procedures-same : (h : Head) (rest : List ℕ) → (h.version == 4) ≡ false → procedures_at h 0 rest ≡ simple.procedures_at h.version h.region h.nodes h.procedures rest
 unfolding procedures_at simple.procedures_at
 procedures-same h rest k = ap (λ (b : Bool). several (procedure_by b h.version 0 h.region h.nodes) is_after true h.procedures rest) k
 
 abbrev any_lists : Head → Rest (List ProcedureParts) → Rest Certificate
-any_lists h r = any_entries (go_on {X = List Fact × Lists} (go_on {X = Lists} (go_on r (λ ps rest. go_on (nodes_at h 0 (kept_counts ps) rest) (λ ns end. Ok ((ps, ns), end)))) (λ y end. Ok (([], y), end))) (λ y end. Ok ((h, y), end)))
+any_lists h r = any_entries (go_on {X = List Fact × Lists} (go_on {X = Lists} (go_on r (λ ps rest. go_on (nodes_at h 0 (procedure_forms ps) rest) (λ ns end. Ok ((ps, ns), end)))) (λ y end. Ok (([], y), end))) (λ y end. Ok ((h, y), end)))
 
 abbrev older_lists : Head → Rest (List ProcedureParts) → Rest Certificate
 older_lists h r = older_entries (go_on {X = Lists} (go_on r (λ ps rest. go_on (simple.nodes_at (rules_of h.version) h.region h.procedures h.nodes rest) (λ ns end. Ok ((ps, ns), end)))) (λ y end. Ok ((h, y), end)))
@@ -187,7 +187,7 @@ any_certificate c h =
       node_count = h.node_count;
       facts = subst (λ (b : Bool). AreFactsBy b c.region c.facts) k h.facts;
       procedures = subst (λ (b : Bool). IsChain (IsProcedureBy b c.version (length c.facts) c.region (length c.nodes)) is_after true c.procedures) k h.procedures;
-      nodes = subst (λ (b : Bool). IsChain (IsNodeBy b c.version (length c.facts) (kept_of (kept_counts c.procedures)) c.region (length c.procedures)) key (0, 0) c.nodes) k h.nodes;
+      nodes = subst (λ (b : Bool). IsChain (IsNodeBy b c.version (length c.facts) (form_in (procedure_forms c.procedures)) c.region (length c.procedures)) key (0, 0) c.nodes) k h.nodes;
       entries = h.entries;
       order = subst (λ (b : Bool). in_order_by b c.procedures c.nodes ≡ true) k refl;
     }
@@ -203,7 +203,7 @@ older_certificate c h k = record {
   some_node = h.some_node;
   node_count = h.node_count;
   procedures = subst (λ (b : Bool). IsChain (IsProcedureBy b c.version (length c.facts) c.region (length c.nodes)) is_after true c.procedures) k h.procedures;
-  nodes = subst (λ (b : Bool). IsChain (IsNodeBy b c.version (length c.facts) (kept_of (kept_counts c.procedures)) c.region (length c.procedures)) key (0, 0) c.nodes) k h.nodes;
+  nodes = subst (λ (b : Bool). IsChain (IsNodeBy b c.version (length c.facts) (form_in (procedure_forms c.procedures)) c.region (length c.procedures)) key (0, 0) c.nodes) k h.nodes;
   entries = h.entries;
   facts = subst (λ (b : Bool). AreFactsBy b c.region c.facts) k h.facts;
 }

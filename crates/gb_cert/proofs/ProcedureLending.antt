@@ -11,6 +11,7 @@ use Rattle.gb_domain.specs.Limits.{rules_of}
 use Rattle.gb_domain.specs.Rules.{IsChain}
 use Rattle.gb_domain.specs.Types.{AbsState, ProcedureParts, state_of}
 use Rattle.gb_domain.specs.Certificate.{Certificate}
+use Rattle.gb_states.specs.declared.form.ProcedureForm.{ProcedureForm}
 use Rattle.gb_states.specs.declared.form.Form.{Form}
 use Rattle.gb_states.specs.declared.form.Form.TheVariants.{Older, Fourth}
 use Rattle.gb_states.specs.declared.role.Role.TheVariants as role
@@ -20,7 +21,7 @@ use Rattle.gb_states.specs.Below.gb_fields.Format.{Read, go_on, if_passes, follo
 use Rattle.gb_states.specs.Below.gb_fields.Reading.{base_at, need_at, node_number, entry_at, is_below, may_return, returns_at, yes_no}
 use Rattle.gb_states.specs.Below.gb_fields.Rules.{usual_base}
 use Rattle.gb_states.specs.Rules.{is_after}
-use Rattle.gb_states.specs.Forms.{form_by, IsFit, IsStateBy, spelled_by, state_by}
+use Rattle.gb_states.specs.Forms.{IsFit, IsStateBy, spelled_by, state_by}
 use Rattle.gb_states.specs.Reading as simple
 use Rattle.gb_states.specs.Reading.{ranges_at}
 use Rattle.gb_states.specs.WholeRules.{IsProcedureBy}
@@ -29,7 +30,7 @@ use Rattle.gb_states.specs.WholeReading.{procedure_by, to_procedure}
 use Rattle.gb_states.specs.WholeSpelling as spelled
 use Rattle.gb_cert.specs.Skipping.{skipped}
 use Rattle.gb_cert.specs.Places.{IsLaid}
-use Rattle.gb_cert.specs.Borrowed.{read_or, any_core, any_body, state_in, exit_by, exit_in, front_at, names_by, named_by, Named, Body, body_by, body_of, procedure_in, StateStands, BodyStands}
+use Rattle.gb_cert.specs.Borrowed.{read_or, any_core, any_body, state_in, exit_by, exit_in, front_at, names_by, exit_form, named_by, Named, needed_by, Body, body_by, body_of, procedure_in, StateStands, BodyStands}
 use Rattle.gb_states.proofs.Formats.{IsBytes, IsFormat, IsFormat-checked, went_on, same_pair}
 use Rattle.gb_states.proofs.FieldLaws.{same, last_small, spelled_flag, IsFormat-yes_no}
 use Rattle.gb_states.proofs.StateLaws.{IsFormat-state}
@@ -149,12 +150,12 @@ record IsThere (version : ℕ) (region : Region) (facts : ℕ) (place : List ℕ
   pub few : length p.kept ≤ 16
   pub stands : ProcedureStands (version == 4) version facts (i == 0) region place p
 
-procedure-there : (bytes : List ℕ) (version : ℕ) (region : Region) (facts : List Fact) (counts procedures nodes : List ℕ) (c : Certificate) (i : ℕ) → IsLaid bytes version region facts counts procedures nodes c → i < length c.procedures → IsThere version region (length facts) (drop (get_or procedures i 0) bytes) c i
-procedure-there bytes version region facts counts procedures nodes c i laid lt =
+procedure-there : (bytes : List ℕ) (version : ℕ) (region : Region) (facts : List Fact) (forms : List ProcedureForm) (procedures nodes : List ℕ) (c : Certificate) (i : ℕ) → IsLaid bytes version region facts forms procedures nodes c → i < length c.procedures → IsThere version region (length facts) (drop (get_or procedures i 0) bytes) c i
+procedure-there bytes version region facts forms procedures nodes c i laid lt =
     let one = some-at c.procedures i lt in
     let p = one.0 in
     let is = laid.spells.is_certificate in
-    let at = at-each (spelled.procedure_by (c.version == 4) c.version) bytes (flat_map (spelled.node_by (c.version == 4) c.version) c.nodes) procedures c.procedures i p laid.procedures_at one.1 in
+    let at = at-each (spelled.procedure_by (c.version == 4) c.version c.region) bytes (spelled.nodes c.version c.region c.procedures c.nodes) procedures c.procedures i p laid.procedures_at one.1 in
     let first = chain-first (c.version == 4) c.version (length c.facts) c.region (length c.nodes) true c.procedures i p is.procedures one.1 in
     let good = subst (λ (m : Bool). IsProcedureBy (c.version == 4) c.version (length c.facts) c.region (length c.nodes) m p) (is-first i) first in
     let small = facts-few (c.version == 4) c.region c.facts is.facts in
@@ -171,10 +172,10 @@ procedure-there bytes version region facts counts procedures nodes c i laid lt =
       stands = subst (λ (fs : List Fact). ProcedureStands (version == 4) version (length fs) (i == 0) region (drop (get_or procedures i 0) bytes) p) (sym laid.facts_are) regioned;
     }
 
-pub procedure-entry : (bytes : List ℕ) (version : ℕ) (region : Region) (facts : List Fact) (counts procedures nodes : List ℕ) (c : Certificate) (i : ℕ) (e : CertFault) → IsLaid bytes version region facts counts procedures nodes c → i < length c.procedures
+pub procedure-entry : (bytes : List ℕ) (version : ℕ) (region : Region) (facts : List Fact) (forms : List ProcedureForm) (procedures nodes : List ℕ) (c : Certificate) (i : ℕ) (e : CertFault) → IsLaid bytes version region facts forms procedures nodes c → i < length c.procedures
     → node_number version (drop (get_or procedures i 0) bytes) ≡ Err e → ⊥
-procedure-entry bytes version region facts counts procedures nodes c i e laid lt wrong =
-    let s = procedure-there bytes version region facts counts procedures nodes c i laid lt in
+procedure-entry bytes version region facts forms procedures nodes c i e laid lt wrong =
+    let s = procedure-there bytes version region facts forms procedures nodes c i laid lt in
     no-error _ _ _ s.stands.entry wrong
 
 -- The procedure that is lent is the certificate's, and all but its entry stands.
@@ -183,19 +184,19 @@ IsLent c i version facts region entry body =
     BodyStands (version == 4) version facts (i == 0) region body (procedure_in (version == 4) version facts (i == 0) entry region body)
     × (slice_get c.procedures i ≡ Some (procedure_in (version == 4) version facts (i == 0) entry region body))
 
-pub procedure-lent : (bytes : List ℕ) (version : ℕ) (region : Region) (facts : List Fact) (counts procedures nodes : List ℕ) (c : Certificate) (i entry : ℕ) (body : List ℕ) → IsLaid bytes version region facts counts procedures nodes c → i < length c.procedures
+pub procedure-lent : (bytes : List ℕ) (version : ℕ) (region : Region) (facts : List Fact) (forms : List ProcedureForm) (procedures nodes : List ℕ) (c : Certificate) (i entry : ℕ) (body : List ℕ) → IsLaid bytes version region facts forms procedures nodes c → i < length c.procedures
     → node_number version (drop (get_or procedures i 0) bytes) ≡ Ok (entry, body) → IsLent c i version (length facts) region entry body
-procedure-lent bytes version region facts counts procedures nodes c i entry body laid lt right =
-    let s = procedure-there bytes version region facts counts procedures nodes c i laid lt in
+procedure-lent bytes version region facts forms procedures nodes c i entry body laid lt right =
+    let s = procedure-there bytes version region facts forms procedures nodes c i laid lt in
     let p = s.p in
     let n = s.stands in
     let q = same_pair p.entry entry n.rest body (sym n.entry ∙ right) in
     let of_rest : procedure_in (version == 4) version (length facts) (i == 0) p.entry region n.rest ≡ p = ap (λ (r : Result (Body × List ℕ) CertFault). to_procedure (p.entry, read_or any_body r)) n.body in
     let made : BodyStands (version == 4) version (length facts) (i == 0) region n.rest p = record {
       tail = n.tail;
-      facts_few = few-facts bytes version region facts counts procedures nodes c laid;
+      facts_few = few-facts bytes version region facts forms procedures nodes c laid;
       kept_few = s.few;
-      last = small-last bytes version region facts counts procedures nodes c laid;
+      last = small-last bytes version region facts forms procedures nodes c laid;
       is_read = n.body;
     } in
     let there = subst (λ z. BodyStands (version == 4) version (length facts) (i == 0) region n.rest z) (sym of_rest) made in
@@ -211,13 +212,12 @@ left_is a b e = cc
 record IsBehind (b : Bool) (version facts : ℕ) (is_main : Bool) (region : Region) (bytes : List ℕ) (p : ProcedureParts) (tail : List ℕ) : Type 0 where
   pub rest : List ℕ
   pub front : skipped (front_at (rules_of version) is_main region) bytes ≡ Ok rest
-  pub named : named_by b version facts is_main region rest ≡ Ok (((p.kept, p.mark), p.exit), tail)
+  pub named : named_by b version facts is_main region p.base rest ≡ Ok (((p.kept, p.mark), p.exit), tail)
 
 behind-front : (b : Bool) (version facts : ℕ) (is_main : Bool) (region : Region) (bytes : List ℕ) (p : ProcedureParts) (h : BodyStands b version facts is_main region bytes p) → IsBehind b version facts is_main region bytes p h.tail
 behind-front b version facts is_main region bytes p h =
-    let rules : Rules = rules_of version in
-    let named : Read Named = named_by b version facts is_main region in
-    let one = both_parts (base_at (rules_of version) is_main region) (both (need_at (rules_of version) is_main region) (both (ranges_at (rules_of version) is_main region) named)) bytes p.base (p.need, (p.ranges, ((p.kept, p.mark), p.exit))) h.tail h.is_read in
+    let named : Read Named = named_by b version facts is_main region p.base in
+    let one = followed_parts (base_at (rules_of version) is_main region) (needed_by b version facts is_main region) bytes p.base (p.need, (p.ranges, ((p.kept, p.mark), p.exit))) h.tail h.is_read in
     let two = both_parts (need_at (rules_of version) is_main region) (both (ranges_at (rules_of version) is_main region) named) one.0 p.need (p.ranges, ((p.kept, p.mark), p.exit)) h.tail one.2 in
     let three = both_parts (ranges_at (rules_of version) is_main region) named two.0 p.ranges ((p.kept, p.mark), p.exit) h.tail two.2 in
     record { rest = three.0; front = rw (one.1, two.1, three.1) refl; named = three.2 }
@@ -226,8 +226,7 @@ behind-front b version facts is_main region bytes p h =
 pub usual-base : (b : Bool) (version facts : ℕ) (is_main : Bool) (region : Region) (bytes : List ℕ) (p : ProcedureParts) → BodyStands b version facts is_main region bytes p → rules_of version ≡ Simple → usual_base is_main region ≡ p.base
 unfolding base_at
 usual-base b version facts is_main region bytes p h simple =
-    let named : Read Named = named_by b version facts is_main region in
-    let one = both_parts (base_at (rules_of version) is_main region) (both (need_at (rules_of version) is_main region) (both (ranges_at (rules_of version) is_main region) named)) bytes p.base (p.need, (p.ranges, ((p.kept, p.mark), p.exit))) h.tail h.is_read in
+    let one = followed_parts (base_at (rules_of version) is_main region) (needed_by b version facts is_main region) bytes p.base (p.need, (p.ranges, ((p.kept, p.mark), p.exit))) h.tail h.is_read in
     (same_pair (usual_base is_main region) p.base bytes one.0 (ap (λ (r : Rules). base_at r is_main region bytes) (sym simple) ∙ one.1)).0
 
 pub front-right : (b : Bool) (version facts : ℕ) (is_main : Bool) (region : Region) (bytes : List ℕ) (p : ProcedureParts) (e : CertFault) → BodyStands b version facts is_main region bytes p → skipped (front_at (rules_of version) is_main region) bytes ≡ Err e → ⊥
@@ -237,21 +236,21 @@ front-right b version facts is_main region bytes p e h wrong = no-error _ _ _ (b
 pub record AreNames (b : Bool) (version facts : ℕ) (is_main : Bool) (region : Region) (rest : List ℕ) (p : ProcedureParts) : Type 0 where
   pub behind : List ℕ
   pub names : names_by b is_main region rest ≡ Ok ((p.kept, p.mark), behind)
-  pub fit : IsFit (form_by b version facts (length p.kept))
-  pub right : is_ok (exit_by (form_by b version facts (length p.kept)) is_main region behind) ≡ true
-  pub exit : exit_in (form_by b version facts (length p.kept)) is_main region behind ≡ p.exit
+  pub fit : IsFit (exit_form b version facts p.base (p.kept, p.mark))
+  pub right : is_ok (exit_by (exit_form b version facts p.base (p.kept, p.mark)) is_main region behind) ≡ true
+  pub exit : exit_in (exit_form b version facts p.base (p.kept, p.mark)) is_main region behind ≡ p.exit
 
-fit-by : (b : Bool) (version facts kept : ℕ) → facts < 65536 → kept ≤ 16 → IsFit (form_by b version facts kept)
-fit-by true version facts kept small few = (small, few)
-fit-by false version facts kept small few = tt
+fit-by : (b : Bool) (version facts base : ℕ) (d : List ℕ × ℕ) → facts < 65536 → length d.0 ≤ 16 → IsFit (exit_form b version facts base d)
+fit-by true version facts base d small few = (small, few)
+fit-by false version facts base d small few = tt
 
 names-behind : (b : Bool) (version facts : ℕ) (is_main : Bool) (region : Region) (bytes rest : List ℕ) (p : ProcedureParts) → BodyStands b version facts is_main region bytes p → skipped (front_at (rules_of version) is_main region) bytes ≡ Ok rest → AreNames b version facts is_main region rest p
 names-behind b version facts is_main region bytes rest p h e =
     let k = behind-front b version facts is_main region bytes p h in
     let at : k.rest ≡ rest = left_is k.rest rest (sym k.front ∙ e) in
-    let read = ap (named_by b version facts is_main region) (sym at) ∙ k.named in
-    let parts = followed_parts (names_by b is_main region) (λ d. exit_by (form_by b version facts (length d.0)) is_main region) rest (p.kept, p.mark) p.exit h.tail read in
-    record { behind = parts.0; names = parts.1; fit = fit-by b version facts (length p.kept) h.facts_few h.kept_few; right = ap is_ok parts.2; exit = ap (read_or None) parts.2 }
+    let read = ap (named_by b version facts is_main region p.base) (sym at) ∙ k.named in
+    let parts = followed_parts (names_by b is_main region) (λ d. exit_by (exit_form b version facts p.base d) is_main region) rest (p.kept, p.mark) p.exit h.tail read in
+    record { behind = parts.0; names = parts.1; fit = fit-by b version facts p.base (p.kept, p.mark) h.facts_few h.kept_few; right = ap is_ok parts.2; exit = ap (read_or None) parts.2 }
 
 pub names-right : (b : Bool) (version facts : ℕ) (is_main : Bool) (region : Region) (bytes rest : List ℕ) (p : ProcedureParts) (e : CertFault) → BodyStands b version facts is_main region bytes p → skipped (front_at (rules_of version) is_main region) bytes ≡ Ok rest → names_by b is_main region rest ≡ Err e → ⊥
 names-right b version facts is_main region bytes rest p e h front wrong = no-error _ _ _ (names-behind b version facts is_main region bytes rest p h front).names wrong
@@ -266,19 +265,20 @@ pub record AreRead (form : Form) (is_main : Bool) (region : Region) (behind : Li
   pub exit : exit_in form is_main region behind ≡ p.exit
 
 pub names-read : (b : Bool) (version facts : ℕ) (is_main : Bool) (region : Region) (bytes rest : List ℕ) (p : ProcedureParts) (kept : List ℕ) (mark : ℕ) (behind : List ℕ) → BodyStands b version facts is_main region bytes p → skipped (front_at (rules_of version) is_main region) bytes ≡ Ok rest
-    → names_by b is_main region rest ≡ Ok ((kept, mark), behind) → AreRead (form_by b version facts (length kept)) is_main region behind p kept mark
+    → names_by b is_main region rest ≡ Ok ((kept, mark), behind) → AreRead (exit_form b version facts p.base (kept, mark)) is_main region behind p kept mark
 names-read b version facts is_main region bytes rest p kept mark behind h front read =
     let n = names-behind b version facts is_main region bytes rest p h front in
     let q = same_pair (p.kept, p.mark) (kept, mark) n.behind behind (sym n.names ∙ read) in
     let k : p.kept ≡ kept = ap (λ (x : List ℕ × ℕ). x.0) q.0 in
     let m : p.mark ≡ mark = ap (λ (x : List ℕ × ℕ). x.1) q.0 in
+    let form : List ℕ × ℕ → Form = λ d. exit_form b version facts p.base d in
     record {
       kept_is = sym k;
       mark_is = sym m;
       few = subst (λ (a : List ℕ). length a ≤ 16) k h.kept_few;
-      fit = subst (λ (a : List ℕ). IsFit (form_by b version facts (length a))) k n.fit;
-      right = subst (λ (a : List ℕ). is_ok (exit_by (form_by b version facts (length a)) is_main region behind) ≡ true) k (ap (λ (z : List ℕ). is_ok (exit_by (form_by b version facts (length p.kept)) is_main region z)) (sym q.1) ∙ n.right);
-      exit = subst (λ (a : List ℕ). exit_in (form_by b version facts (length a)) is_main region behind ≡ p.exit) k (ap (λ (z : List ℕ). exit_in (form_by b version facts (length p.kept)) is_main region z) (sym q.1) ∙ n.exit);
+      fit = subst (λ (d : List ℕ × ℕ). IsFit (form d)) q.0 n.fit;
+      right = subst (λ (d : List ℕ × ℕ). is_ok (exit_by (form d) is_main region behind) ≡ true) q.0 (ap (λ (z : List ℕ). is_ok (exit_by (form (p.kept, p.mark)) is_main region z)) (sym q.1) ∙ n.right);
+      exit = subst (λ (d : List ℕ × ℕ). exit_in (form d) is_main region behind ≡ p.exit) q.0 (ap (λ (z : List ℕ). exit_in (form (p.kept, p.mark)) is_main region z) (sym q.1) ∙ n.exit);
     }
 
 -- The exit's form was found, and its bytes.
@@ -288,19 +288,19 @@ pub record IsExit (form : Form) (is_main : Bool) (region : Region) (behind : Lis
   pub exit : exit_in form is_main region behind ≡ p.exit
 
 -- how the exit's state is spelled, behind the names
-abbrev pub form_at : Bool → ℕ → ℕ → Bool → Region → Read Form
-form_at b version facts is_main region = mapped (λ d. form_by b version facts (length d.0)) (names_by b is_main region)
+abbrev pub form_at : Bool → ℕ → ℕ → ℕ → Bool → Region → Read Form
+form_at b version facts base is_main region = mapped (exit_form b version facts base) (names_by b is_main region)
 
 pub exit-found : (b : Bool) (version facts : ℕ) (is_main : Bool) (region : Region) (bytes rest : List ℕ) (p : ProcedureParts) (form : Form) (behind : List ℕ) → BodyStands b version facts is_main region bytes p → skipped (front_at (rules_of version) is_main region) bytes ≡ Ok rest
-    → form_at b version facts is_main region rest ≡ Ok (form, behind) → IsExit form is_main region behind p
+    → form_at b version facts p.base is_main region rest ≡ Ok (form, behind) → IsExit form is_main region behind p
 exit-found b version facts is_main region bytes rest p form behind h front read =
-    let m = mapped_parts (λ (d : List ℕ × ℕ). form_by b version facts (length d.0)) (names_by b is_main region rest) form behind read in
+    let m = mapped_parts (λ (d : List ℕ × ℕ). exit_form b version facts p.base d) (names_by b is_main region rest) form behind read in
     let n = names-read b version facts is_main region bytes rest p m.0.0 m.0.1 behind h front m.1 in
-    let made : IsExit (form_by b version facts (length m.0.0)) is_main region behind p = record { fit = n.fit; right = n.right; exit = n.exit } in
+    let made : IsExit (exit_form b version facts p.base m.0) is_main region behind p = record { fit = n.fit; right = n.right; exit = n.exit } in
     subst (λ (f : Form). IsExit f is_main region behind p) m.2 made
 
-pub exit-right : (b : Bool) (version facts : ℕ) (is_main : Bool) (region : Region) (bytes rest : List ℕ) (p : ProcedureParts) (e : CertFault) → BodyStands b version facts is_main region bytes p → skipped (front_at (rules_of version) is_main region) bytes ≡ Ok rest → form_at b version facts is_main region rest ≡ Err e → ⊥
-exit-right b version facts is_main region bytes rest p e h front wrong = no-error _ _ _ (ap (λ (r : Result ((List ℕ × ℕ) × List ℕ) CertFault). go_on r (λ d rest. (let q : Result (Form × List ℕ) CertFault = Ok (form_by b version facts (length d.0), rest) in q))) (names-behind b version facts is_main region bytes rest p h front).names) wrong
+pub exit-right : (b : Bool) (version facts : ℕ) (is_main : Bool) (region : Region) (bytes rest : List ℕ) (p : ProcedureParts) (e : CertFault) → BodyStands b version facts is_main region bytes p → skipped (front_at (rules_of version) is_main region) bytes ≡ Ok rest → form_at b version facts p.base is_main region rest ≡ Err e → ⊥
+exit-right b version facts is_main region bytes rest p e h front wrong = no-error _ _ _ (ap (λ (r : Result ((List ℕ × ℕ) × List ℕ) CertFault). go_on r (λ d rest. (let q : Result (Form × List ℕ) CertFault = Ok (exit_form b version facts p.base d, rest) in q))) (names-behind b version facts is_main region bytes rest p h front).names) wrong
 
 pub unequal : (n : ℕ) → (n ≡ 4 → ⊥) → (n == 4) ≡ false
 unequal n h = by (n == 4) (λ e. h (same n 4 e))
@@ -339,9 +339,9 @@ behind-flag : (is_main : Bool) (bytes rest : List ℕ) (returns : Bool) → IsBy
 unfolding returns_at
 behind-flag is_main bytes rest returns i h = ((IsFormat-checked fault.Field (may_return is_main) yes_no spelled_flag (λ b. Unit {0}) IsFormat-yes_no).takes bytes returns rest i h).are_bytes
 
-IsFormat-state_by : (form : Form) (region : Region) → IsFit form → IsFormat (state_by form role.Exit region) (spelled_by form) (IsStateBy form role.Exit region)
+IsFormat-state_by : (form : Form) (region : Region) → IsFit form → IsFormat (state_by form role.Exit region) (spelled_by form region) (IsStateBy form role.Exit region)
 IsFormat-state_by (Older rules) region fit = IsFormat-state rules role.Exit region
-IsFormat-state_by (Fourth facts kept) region fit = fourth.IsFormat-state facts kept role.Exit region fit.0 fit.1
+IsFormat-state_by (Fourth facts form) region fit = fourth.IsFormat-state facts form role.Exit region fit.0 fit.1
 
 -- What stands behind the byte that says whether a procedure returns.
 abbrev pub ExitIs : Form → Bool → Region → List ℕ → List ℕ → Bool → Type 0

@@ -13,7 +13,7 @@ use Rattle.gb_domain.specs.declared.rules.Rules.{Rules}
 use Rattle.gb_domain.specs.declared.rules.Rules.TheVariants.{Simple, Extended}
 use Rattle.gb_domain.specs.declared.relations.Relations.{Relations}
 use Rattle.gb_domain.specs.Limits.{item_room, cell_room}
-use Rattle.gb_domain.specs.RelationRules.{has_place, compared, test_alone, IsRelations}
+use Rattle.gb_domain.specs.RelationRules.{compared, test_alone, IsRelations}
 use Rattle.gb_domain.specs.Summaries.{SummaryParts, no_summary}
 use Rattle.gb_domain.specs.Types.{AbsState, state_of, are_all_kept}
 use Rattle.gb_states.specs.declared.form.Form.{Form}
@@ -24,7 +24,9 @@ use Rattle.gb_states.specs.Below.gb_fields.Format.{go_on}
 use Rattle.gb_states.specs.Below.gb_fields.Limits.{unit, item_limit}
 use Rattle.gb_states.specs.RelationSpelling as told
 use Rattle.gb_states.specs.Rules.{is_whole, is_sayable, are_sayable, is_all_or_none, is_core_sayable, is_cell_sayable, is_silent, is_unshadowed, is_state_sayable, IsState}
-use Rattle.gb_states.specs.WholeRules.{may_be_aside}
+use Rattle.gb_states.specs.WholeRules.{may_be_aside, stack_bytes}
+use Rattle.gb_domain.specs.Areas.{is_free_byte, is_place_at}
+use Rattle.gb_states.specs.declared.form.ProcedureForm.{ProcedureForm}
 use Rattle.gb_states.specs.Forms.{is_fourth, IsFit, IsStateBy, spelled_by}
 use Rattle.gb_states.specs.Checked.{kept_in, core_in, test_in, begins_with_zero, begins_with_zeros, are_three_zeros, are_none, listed_items, listed_cells}
 use Rattle.gb_states.specs.Spelling as simple
@@ -32,9 +34,9 @@ use Rattle.gb_states.specs.WholeSpelling as spelled
 use Rattle.gb_cert.specs.Borrowed.{item_width, older_kept, told_by, StateStands}
 use Rattle.gb_states.proofs.Formats.{same_pair}
 use Rattle.gb_states.proofs.FieldLaws.{and_both, both_and, same}
-use Rattle.gb_states.proofs.RelationLaws.{compared-small, is-alone, is-told, nothing-told, IsFormat-relations_by}
+use Rattle.gb_states.proofs.RelationLaws.{compared-small, is-alone, is-told, nothing-known, nothing-told, IsFormat-relations_by}
 use Rattle.gb_states.proofs.SummaryLaws.{silent-is}
-use Rattle.gb_states.proofs.WholeStateLaws.{IsFormat-told}
+use Rattle.gb_states.proofs.WholeStateLaws.{named-few, IsFormat-told}
 use Rattle.gb_states.proofs.CheckedLaws as again
 use Rattle.gb_states.proofs.CheckedLaws.{IsAgain, AreAgain, IsCellAgain, core_by}
 
@@ -42,17 +44,17 @@ use Rattle.gb_states.proofs.CheckedLaws.{IsAgain, AreAgain, IsCellAgain, core_by
 
 abbrev kept_number_by : Form → KeptBanks → ℕ
 kept_number_by (Older rules) k = simple.all_number k
-kept_number_by (Fourth facts kept) k = spelled.kept_number k
+kept_number_by (Fourth facts form) k = spelled.kept_number k
 
 -- the number that so many items are counted by
 abbrev count_by : Form → ℕ → ℕ
 count_by (Older rules) n = n / unit rules
-count_by (Fourth facts kept) n = n
+count_by (Fourth facts form) n = n
 
 -- what is known of several parts together and said of the whole program
-abbrev told_of : Form → AbsState → List ℕ
-told_of (Older rules) s = told.relations_by rules s.relations
-told_of (Fourth facts kept) s = spelled.told (s.relations, s.summary)
+abbrev told_of : Form → Region → AbsState → List ℕ
+told_of (Older rules) region s = told.relations_by rules s.relations
+told_of (Fourth facts form) region s = spelled.told region form.base (s.relations, s.summary)
 
 abbrev core_of : Form → AbsState → List ℕ
 core_of form s = core_by (λ k. kept_number_by form k) s.core (compared s.relations.byte.test)
@@ -62,11 +64,11 @@ abbrev cells_then : AbsState → List ℕ → List ℕ
 cells_then s tail = length s.cells ∷ (flat_map spelled.cell s.cells ++ tail)
 
 -- what stands behind its core
-abbrev items_then : Form → AbsState → List ℕ → List ℕ
-items_then form s tail = count_by form (length s.items) ∷ (flat_map spelled.val s.items ++ (told_of form s ++ cells_then s tail))
+abbrev items_then : Form → Region → AbsState → List ℕ → List ℕ
+items_then form region s tail = count_by form (length s.items) ∷ (flat_map spelled.val s.items ++ (told_of form region s ++ cells_then s tail))
 
 -- Its values can be read again, and this is its spelling.
-record IsReadable (form : Form) (s : AbsState) : Type 0 where
+record IsReadable (form : Form) (region : Region) (s : AbsState) : Type 0 where
   pub kept : kept_in (is_fourth form) (kept_number_by form s.core.ctl.kept) ≡ s.core.ctl.kept
   pub values : AreAgain s.core
   pub items : AllByRecursion IsAgain s.items
@@ -74,7 +76,7 @@ record IsReadable (form : Form) (s : AbsState) : Type 0 where
   pub few_items : length s.items ≤ 255
   pub few_cells : length s.cells ≤ 64
   pub counted : length (flat_map spelled.val s.items) ≡ item_width form * count_by form (length s.items)
-  pub spelling : spelled_by form s ≡ core_of form s ++ ((count_by form (length s.items) ∷ flat_map spelled.val s.items) ++ (told_of form s ++ (length s.cells ∷ flat_map spelled.cell s.cells)))
+  pub spelling : spelled_by form region s ≡ core_of form s ++ ((count_by form (length s.items) ∷ flat_map spelled.val s.items) ++ (told_of form region s ++ (length s.cells ∷ flat_map spelled.cell s.cells)))
 
 -- the parts of what versions 1 to 3 can say
 sayable-parts : (rules : Rules) (s : AbsState) → is_state_sayable rules s ≡ true → (is_core_sayable rules s.core ≡ true) × ((list_all (is_sayable rules) s.items ≡ true) × ((list_all (is_cell_sayable rules) s.cells ≡ true) × (is_silent s.summary ≡ true)))
@@ -113,11 +115,11 @@ older-spelling rules s h =
     let p = sayable-parts rules s h in
     rw (again.older-core rules s.core (compared s.relations.byte.test) p.0, again.older-vals rules s.items p.1.0, again.older-cells rules s.cells p.1.1.0) refl
 
-fourth-spelling : (facts kept : ℕ) (s : AbsState) → spelled.state s ≡ core_of (Fourth facts kept) s ++ ((length s.items ∷ flat_map spelled.val s.items) ++ (spelled.told (s.relations, s.summary) ++ (length s.cells ∷ flat_map spelled.cell s.cells)))
+fourth-spelling : (facts : ℕ) (form : ProcedureForm) (region : Region) (s : AbsState) → spelled.state region form.base s ≡ core_of (Fourth facts form) s ++ ((length s.items ∷ flat_map spelled.val s.items) ++ (spelled.told region form.base (s.relations, s.summary) ++ (length s.cells ∷ flat_map spelled.cell s.cells)))
 unfolding spelled.state
-fourth-spelling facts kept s = rw (again.fourth-core s.core (compared s.relations.byte.test)) refl
+fourth-spelling facts form region s = rw (again.fourth-core s.core (compared s.relations.byte.test)) refl
 
-readable : (form : Form) (role : Role) (region : Region) (s : AbsState) → IsFit form → IsStateBy form role region s → IsReadable form s
+readable : (form : Form) (role : Role) (region : Region) (s : AbsState) → IsFit form → IsStateBy form role region s → IsReadable form region s
 readable (Older rules) role region s fit h =
     let p = sayable-parts rules s h.sayable in
     let a = items-few rules in
@@ -134,23 +136,23 @@ readable (Older rules) role region s fit h =
       counted = items-long rules s.items h.whole;
       spelling = older-spelling rules s h.sayable;
     }
-readable (Fourth facts kept) role region s fit h =
+readable (Fourth facts form) role region s fit h =
     let a = limit-few in
     let b = h.item_count in
     let c = cells-few Extended in
     let d = h.cell_count in
     record {
       kept = again.fourth-kept s.core;
-      values = again.fourth-values kept s.core fit.1 h.core;
-      items = again.fourth-items-again kept s.items fit.1 h.items;
-      cells = again.fourth-cells-again kept region 0 s.cells fit.1 h.cells;
+      values = again.fourth-values form.kept s.core fit.1 h.core;
+      items = again.fourth-items-again form.kept s.items fit.1 h.items;
+      cells = again.fourth-cells-again form.kept region 0 s.cells fit.1 h.cells;
       few_items = omega (arith, a, b);
       few_cells = omega (arith, c, d);
       counted = again.vals-long s.items;
-      spelling = fourth-spelling facts kept s;
+      spelling = fourth-spelling facts form region s;
     }
 
-of-state : (form : Form) (role : Role) (region : Region) (bytes : List ℕ) (s : AbsState) → StateStands form role region bytes s → IsReadable form s
+of-state : (form : Form) (role : Role) (region : Region) (bytes : List ℕ) (s : AbsState) → StateStands form role region bytes s → IsReadable form region s
 of-state form role region bytes s h = readable form role region s h.fit h.is_state
 
 laid-out : (core items told cells : List ℕ) (n m : ℕ) (tail : List ℕ) → (core ++ ((n ∷ items) ++ (told ++ (m ∷ cells)))) ++ tail ≡ core ++ (n ∷ (items ++ (told ++ (m ∷ (cells ++ tail)))))
@@ -158,9 +160,9 @@ laid-out core items told cells n m tail =
     append_assoc core ((n ∷ items) ++ (told ++ (m ∷ cells))) tail
     ∙ ap (λ (b : List ℕ). core ++ b) (append_assoc (n ∷ items) (told ++ (m ∷ cells)) tail ∙ ap (λ (b : List ℕ). (n ∷ items) ++ b) (append_assoc told (m ∷ cells) tail))
 
-front-of : (form : Form) (role : Role) (region : Region) (bytes : List ℕ) (s : AbsState) (h : StateStands form role region bytes s) → bytes ≡ core_of form s ++ items_then form s h.tail
+front-of : (form : Form) (role : Role) (region : Region) (bytes : List ℕ) (s : AbsState) (h : StateStands form role region bytes s) → bytes ≡ core_of form s ++ items_then form region s h.tail
 front-of form role region bytes s h =
-    h.parts ∙ ap (λ (b : List ℕ). b ++ h.tail) (of-state form role region bytes s h).spelling ∙ laid-out (core_of form s) (flat_map spelled.val s.items) (told_of form s) (flat_map spelled.cell s.cells) (count_by form (length s.items)) (length s.cells) h.tail
+    h.parts ∙ ap (λ (b : List ℕ). b ++ h.tail) (of-state form role region bytes s h).spelling ∙ laid-out (core_of form s) (flat_map spelled.val s.items) (told_of form region s) (flat_map spelled.cell s.cells) (count_by form (length s.items)) (length s.cells) h.tail
 
 -- ---- cores
 
@@ -168,11 +170,11 @@ front-of form role region bytes s h =
 pub core-stands : (form : Form) (role : Role) (region : Region) (bytes : List ℕ) (s : AbsState) → StateStands form role region bytes s → core_in (is_fourth form) bytes ≡ s.core
 core-stands form role region bytes s h =
     let k = of-state form role region bytes s h in
-    ap (λ (b : List ℕ). core_in (is_fourth form) b) (front-of form role region bytes s h) ∙ again.core-again (is_fourth form) (λ k. kept_number_by form k) s.core (compared s.relations.byte.test) (items_then form s h.tail) k.kept k.values
+    ap (λ (b : List ℕ). core_in (is_fourth form) b) (front-of form role region bytes s h) ∙ again.core-again (is_fourth form) (λ k. kept_number_by form k) s.core (compared s.relations.byte.test) (items_then form region s h.tail) k.kept k.values
 
 -- and its test
 pub test-stands : (form : Form) (role : Role) (region : Region) (bytes : List ℕ) (s : AbsState) → StateStands form role region bytes s → test_in bytes ≡ compared s.relations.byte.test
-test-stands form role region bytes s h = ap (λ (b : List ℕ). test_in b) (front-of form role region bytes s h) ∙ again.test-again (λ k. kept_number_by form k) s.core (compared s.relations.byte.test) (items_then form s h.tail)
+test-stands form role region bytes s h = ap (λ (b : List ℕ). test_in b) (front-of form role region bytes s h) ∙ again.test-again (λ k. kept_number_by form k) s.core (compared s.relations.byte.test) (items_then form region s h.tail)
 
 core_of-long : (form : Form) (s : AbsState) → length (core_of form s) ≡ 40
 core_of-long form s = again.core-long (λ k. kept_number_by form k) s.core (compared s.relations.byte.test)
@@ -180,12 +182,12 @@ core_of-long form s = again.core-long (λ k. kept_number_by form k) s.core (comp
 -- it has 40 bytes
 pub core-fits : (form : Form) (role : Role) (region : Region) (bytes : List ℕ) (s : AbsState) → StateStands form role region bytes s → 40 ≤ length bytes
 core-fits form role region bytes s h =
-    let e : length bytes ≡ length (core_of form s) + length (items_then form s h.tail) = ap (λ (b : List ℕ). length b) (front-of form role region bytes s h) ∙ length-append (core_of form s) (items_then form s h.tail) in
+    let e : length bytes ≡ length (core_of form s) + length (items_then form region s h.tail) = ap (λ (b : List ℕ). length b) (front-of form role region bytes s h) ∙ length-append (core_of form s) (items_then form region s h.tail) in
     omega (arith, e, core_of-long form s)
 
 taken-core : (form : Form) (role : Role) (region : Region) (bytes : List ℕ) (s : AbsState) → StateStands form role region bytes s → take 40 bytes ≡ core_of form s
 taken-core form role region bytes s h =
-    ap (λ (n : ℕ). take n bytes) (sym (core_of-long form s)) ∙ ap (λ (b : List ℕ). take (length (core_of form s)) b) (front-of form role region bytes s h) ∙ take-append_seam (core_of form s) (items_then form s h.tail)
+    ap (λ (n : ℕ). take n bytes) (sym (core_of-long form s)) ∙ ap (λ (b : List ℕ). take (length (core_of form s)) b) (front-of form role region bytes s h) ∙ take-append_seam (core_of form s) (items_then form region s h.tail)
 
 pub core-taken : (form : Form) (role : Role) (region : Region) (bytes : List ℕ) (s : AbsState) → StateStands form role region bytes s → 40 ≡ length (take 40 bytes)
 core-taken form role region bytes s h = sym (ap (λ (b : List ℕ). length b) (taken-core form role region bytes s h) ∙ core_of-long form s)
@@ -218,7 +220,7 @@ bits-again k h = by k.bank k.second k.gate k.mode k.high_bank h
 
 older-number : (form : Form) (k : KeptBanks) → is_all_or_none k ≡ true → older_kept (kept_number_by form k) ≡ simple.all_number k
 older-number (Older rules) k h = flag-again (are_all_kept k)
-older-number (Fourth facts kept) k h = bits-again k h
+older-number (Fourth facts form) k h = bits-again k h
 
 -- the core as versions 1 to 3 spell it, where they can say it
 pub older-core : (form : Form) (role : Role) (region : Region) (bytes : List ℕ) (s : AbsState) → StateStands form role region bytes s → is_core_sayable Extended s.core ≡ true
@@ -233,20 +235,20 @@ older-core form role region bytes s h said =
 -- ---- lists
 
 -- behind a state's core: its items behind their number, what is known and said, and its cells behind their number
-lists-behind : (form : Form) (role : Role) (region : Region) (bytes : List ℕ) (s : AbsState) (h : StateStands form role region bytes s) → drop 40 bytes ≡ items_then form s h.tail
+lists-behind : (form : Form) (role : Role) (region : Region) (bytes : List ℕ) (s : AbsState) (h : StateStands form role region bytes s) → drop 40 bytes ≡ items_then form region s h.tail
 lists-behind form role region bytes s h =
     ap (λ (b : List ℕ). drop 40 b) (front-of form role region bytes s h)
-    ∙ ap (λ (n : ℕ). drop n (core_of form s ++ items_then form s h.tail)) (sym (core_of-long form s))
-    ∙ drop-append_seam (core_of form s) (items_then form s h.tail)
+    ∙ ap (λ (n : ℕ). drop n (core_of form s ++ items_then form region s h.tail)) (sym (core_of-long form s))
+    ∙ drop-append_seam (core_of form s) (items_then form region s h.tail)
 
 -- so many bytes behind their number, and what is behind them
 abbrev pub CountsOff : ℕ → List ℕ → List ℕ → List ℕ → Type 0
 CountsOff width from first second = (n : ℕ) (xs rest : List ℕ) → from ≡ n ∷ (xs ++ rest) → length xs ≡ width * n → (first ≡ xs) × (second ≡ rest)
 
 pub items-lent : (form : Form) (role : Role) (region : Region) (bytes first second : List ℕ) (s : AbsState) (h : StateStands form role region bytes s) → CountsOff (item_width form) (drop 40 bytes) first second
-    → (first ≡ flat_map spelled.val s.items) × (second ≡ told_of form s ++ cells_then s h.tail)
+    → (first ≡ flat_map spelled.val s.items) × (second ≡ told_of form region s ++ cells_then s h.tail)
 items-lent form role region bytes first second s h f =
-    f (count_by form (length s.items)) (flat_map spelled.val s.items) (told_of form s ++ cells_then s h.tail) (lists-behind form role region bytes s h) (of-state form role region bytes s h).counted
+    f (count_by form (length s.items)) (flat_map spelled.val s.items) (told_of form region s ++ cells_then s h.tail) (lists-behind form role region bytes s h) (of-state form role region bytes s h).counted
 
 -- What bytes that are a state's items say.
 pub record AreItems (bytes : List ℕ) (vs : List Val) : Type 0 where
@@ -268,26 +270,31 @@ items-are form role region bytes first second s h f =
 
 -- ---- what is known and said
 
-told-again : (form : Form) (role : Role) (region : Region) (s : AbsState) (rest : List ℕ) → IsFit form → IsStateBy form role region s → told_by form role region s.core (compared s.relations.byte.test) (told_of form s ++ rest) ≡ Ok ((s.relations, s.summary), rest)
+told-again : (form : Form) (role : Role) (region : Region) (s : AbsState) (rest : List ℕ) → IsFit form → IsStateBy form role region s → told_by form role region (length s.items) s.core (compared s.relations.byte.test) (told_of form region s ++ rest) ≡ Ok ((s.relations, s.summary), rest)
 told-again (Older rules) role region s rest fit h =
     let test : Option ℕ = compared s.relations.byte.test in
     let read = (IsFormat-relations_by rules region (compared s.relations.byte.test) (compared-small s.relations.byte.test h.relations.byte.test)).again s.relations rest (is-told rules region s.relations h.relations h.known) in
     ap (λ (r : Result (Relations × List ℕ) CertFault). go_on r (λ x rest. (let q : Result ((Relations × SummaryParts) × List ℕ) CertFault = Ok ((x, no_summary), rest) in q))) read
     ∙ ap (λ (m : SummaryParts). (let q : Result ((Relations × SummaryParts) × List ℕ) CertFault = Ok ((s.relations, m), rest) in q)) (sym (says-nothing rules role region s h))
-told-again (Fourth facts kept) role region s rest fit h =
-    (IsFormat-told facts region (may_be_aside role s.core) (compared s.relations.byte.test) fit.0 (compared-small s.relations.byte.test h.relations.byte.test)).again (s.relations, s.summary) rest ((h.relations, refl), h.summary)
+told-again (Fourth facts form) role region s rest fit h =
+    (IsFormat-told facts (stack_bytes form role region (length s.items)) (may_be_aside role s.core) (compared s.relations.byte.test) fit.0 (named-few form role region (length s.items) h.item_count) (compared-small s.relations.byte.test h.relations.byte.test)).again (s.relations, s.summary) rest ((h.relations, refl), h.summary)
+
+-- the number of items, by their bytes
+count-lent : (form : Form) (role : Role) (region : Region) (bytes first second : List ℕ) (s : AbsState) → StateStands form role region bytes s → CountsOff (item_width form) (drop 40 bytes) first second → length first / 3 ≡ length s.items
+count-lent form role region bytes first second s h f = let long = (items-are form role region bytes first second s h f).long in omega (arith, long)
 
 told-lent : (form : Form) (role : Role) (region : Region) (bytes first second : List ℕ) (s : AbsState) (h : StateStands form role region bytes s) → CountsOff (item_width form) (drop 40 bytes) first second
-    → told_by form role region (core_in (is_fourth form) bytes) (test_in bytes) second ≡ Ok ((s.relations, s.summary), cells_then s h.tail)
+    → told_by form role region (length first / 3) (core_in (is_fourth form) bytes) (test_in bytes) second ≡ Ok ((s.relations, s.summary), cells_then s h.tail)
 told-lent form role region bytes first second s h f =
-    ap (λ (c : Core). told_by form role region c (test_in bytes) second) (core-stands form role region bytes s h)
-    ∙ ap (λ (t : Option ℕ). told_by form role region s.core t second) (test-stands form role region bytes s h)
-    ∙ ap (λ (b : List ℕ). told_by form role region s.core (compared s.relations.byte.test) b) (items-lent form role region bytes first second s h f).1
+    ap (λ (n : ℕ). told_by form role region n (core_in (is_fourth form) bytes) (test_in bytes) second) (count-lent form role region bytes first second s h f)
+    ∙ ap (λ (c : Core). told_by form role region (length s.items) c (test_in bytes) second) (core-stands form role region bytes s h)
+    ∙ ap (λ (t : Option ℕ). told_by form role region (length s.items) s.core t second) (test-stands form role region bytes s h)
+    ∙ ap (λ (b : List ℕ). told_by form role region (length s.items) s.core (compared s.relations.byte.test) b) (items-lent form role region bytes first second s h f).1
     ∙ told-again form role region s (cells_then s h.tail) h.fit h.is_state
 
 pub told-right : (form : Form) (role : Role) (region : Region) (bytes first second : List ℕ) (s : AbsState) (e : CertFault) → StateStands form role region bytes s → CountsOff (item_width form) (drop 40 bytes) first second
-    → told_by form role region (core_in (is_fourth form) bytes) (test_in bytes) second ≡ Err e → ⊥
-told-right form role region bytes first second s e h f wrong = not_both (told_by form role region (core_in (is_fourth form) bytes) (test_in bytes) second) (told-lent form role region bytes first second s h f) wrong
+    → told_by form role region (length first / 3) (core_in (is_fourth form) bytes) (test_in bytes) second ≡ Err e → ⊥
+told-right form role region bytes first second s e h f wrong = not_both (told_by form role region (length first / 3) (core_in (is_fourth form) bytes) (test_in bytes) second) (told-lent form role region bytes first second s h f) wrong
   where
     not_both : {X : Type 0} {x : X} (r : Result X CertFault) → r ≡ Ok x → r ≡ Err e → ⊥
     not_both r f g = cc
@@ -302,7 +309,7 @@ pub record IsTold (s : AbsState) (r : Relations) (m : SummaryParts) (cells : Lis
   pub older : list_all (is_cell_sayable Extended) s.cells ≡ true → cells ≡ flat_map simple.cell s.cells
 
 pub told-is : (form : Form) (role : Role) (region : Region) (bytes first second behind cells after : List ℕ) (r : Relations) (m : SummaryParts) (s : AbsState) → StateStands form role region bytes s → CountsOff (item_width form) (drop 40 bytes) first second
-    → told_by form role region (core_in (is_fourth form) bytes) (test_in bytes) second ≡ Ok ((r, m), behind) → CountsOff 5 behind cells after → IsTold s r m cells
+    → told_by form role region (length first / 3) (core_in (is_fourth form) bytes) (test_in bytes) second ≡ Ok ((r, m), behind) → CountsOff 5 behind cells after → IsTold s r m cells
 told-is form role region bytes first second behind cells after r m s h f e g =
     let p = same_pair (s.relations, s.summary) (r, m) (cells_then s h.tail) behind (sym (told-lent form role region bytes first second s h f) ∙ e) in
     let k = of-state form role region bytes s h in
@@ -332,17 +339,17 @@ no-cells (x ∷ xs) h = absurd (omega (arith, eqb-true (length (x ∷ xs)) 0 h))
 abbrev rest_none : Form → List ℕ → Bool
 rest_none (Older Simple) b = begins_with_zero b
 rest_none (Older Extended) b = begins_with_zeros b
-rest_none (Fourth facts kept) b = are_three_zeros b
+rest_none (Fourth facts form) b = are_three_zeros b
 
 none-parts : (form : Form) (n : ℕ) (rest : List ℕ) → are_none form (n ∷ rest) ≡ true → (n ≡ 0) × (rest_none form rest ≡ true)
 none-parts (Older Simple) n rest h = let k = and_both (n == 0) (begins_with_zero rest) h in (eqb-true n 0 k.0, k.1)
 none-parts (Older Extended) n rest h = let k = and_both (n == 0) (begins_with_zeros rest) h in (eqb-true n 0 k.0, k.1)
-none-parts (Fourth facts kept) n rest h = let k = and_both (n == 0) (are_three_zeros rest) h in (eqb-true n 0 k.0, k.1)
+none-parts (Fourth facts form) n rest h = let k = and_both (n == 0) (are_three_zeros rest) h in (eqb-true n 0 k.0, k.1)
 
 -- a number of no items
 no-units : (form : Form) (role : Role) (region : Region) (s : AbsState) → IsStateBy form role region s → (n : ℕ) → length s.items ≡ suc n → count_by form (suc n) ≡ 0 → ⊥
 no-units (Older rules) role region s h n long none = some-units rules n (ap (λ (m : ℕ). is_whole rules m) (sym long) ∙ h.whole) none
-no-units (Fourth facts kept) role region s h n long none = omega (arith, none)
+no-units (Fourth facts form) role region s h n long none = omega (arith, none)
 
 counted-none : (form : Form) (xs : List Val) (behind : List ℕ) → ((n : ℕ) → length xs ≡ suc n → count_by form (suc n) ≡ 0 → ⊥) → are_none form (count_by form (length xs) ∷ (flat_map spelled.val xs ++ behind)) ≡ true → (xs ≡ []) × (rest_none form behind ≡ true)
 counted-none form [] behind some e = (refl, (none-parts form (count_by form 0) behind e).1)
@@ -356,21 +363,22 @@ pub record IsPlain (s : AbsState) : Type 0 where
   pub relations : s.relations ≡ test_alone (compared s.relations.byte.test)
   pub summary : s.summary ≡ no_summary
 
-alone : (region : Region) (r : Relations) → IsRelations region r → told.present_number (told.present_in r) ≡ 0 → r ≡ test_alone (compared r.byte.test)
-alone region r is none =
-    let nothing = (nothing-told region r is none).0 in
+alone : (may_be : ℕ → Bool) (address : Bool) (r : Relations) → IsRelations may_be r → told.present_number (told.present_by address r) ≡ 0 → r ≡ test_alone (compared r.byte.test)
+alone may_be address r is none =
+    let nothing = nothing-known may_be address r is none in
     nothing ∙ sym (ap (λ (s : Relations). test_alone (compared s.byte.test)) nothing)
 
-no-flags : (a b c : Bool) → 4 * simple.flag a + 2 * simple.flag b + simple.flag c ≡ 0 → (a ≡ false) × ((b ≡ false) × (c ≡ false))
-no-flags true b c e = absurd (omega (arith, e))
-no-flags false true c e = absurd (omega (arith, e))
-no-flags false false true e = absurd (omega (arith, e))
-no-flags false false false e = (refl, (refl, refl))
+no-flags : (d a b c : Bool) → 8 * simple.flag d + 4 * simple.flag a + 2 * simple.flag b + simple.flag c ≡ 0 → (a ≡ false) × ((b ≡ false) × (c ≡ false))
+no-flags d true b c e = absurd (omega (arith, e))
+no-flags d false true c e = absurd (omega (arith, e))
+no-flags d false false true e = absurd (omega (arith, e))
+no-flags d false false false e = (refl, (refl, refl))
 
 -- What declares no part says nothing.
-undeclared : (s : SummaryParts) → spelled.declared_number (spelled.declared_in s) ≡ 0 → s ≡ no_summary
-undeclared s e =
-    let none = no-flags (spelled.declared_in s).aside (spelled.declared_in s).levels (spelled.declared_in s).shadows e in
+undeclared : (item : Bool) (s : SummaryParts) → spelled.declared_number (spelled.declared_in item s) ≡ 0 → s ≡ no_summary
+undeclared item s e =
+    let d = spelled.declared_in item s in
+    let none = no-flags d.item d.aside d.levels d.shadows e in
     let places = and_both (is_unshadowed s.shadows.first) (is_unshadowed s.shadows.second) (not-not (is_unshadowed s.shadows.first && is_unshadowed s.shadows.second) none.1.1) in
     let levels = and_both (s.level == 0) (length s.fills == 0) (not-not (s.level == 0 && length s.fills == 0) none.1.0) in
     silent-is s (both_and _ _ levels.0 (both_and _ _ levels.1 (both_and _ _ places.0 (both_and _ _ places.1 (nowhere s.aside none.0)))))
@@ -383,42 +391,47 @@ undeclared s e =
     nowhere None h = refl
     nowhere (Some x) h = cc
 
+-- Where nothing is known no part is spelled.
+no-parts : (region : Region) (base : ℕ) → told.parts_by (spelled.memory region base (test_alone None).byte.address) (test_alone None) ≡ []
+unfolding told.pairs
+no-parts region base = refl
+
 nothing-said : spelled.summary no_summary ≡ []
 unfolding spelled.summary
 nothing-said = refl
 
-told-none : (form : Form) (role : Role) (region : Region) (s : AbsState) (behind : List ℕ) → IsStateBy form role region s → rest_none form (told_of form s ++ (length s.cells ∷ behind)) ≡ true
+told-none : (form : Form) (role : Role) (region : Region) (s : AbsState) (behind : List ℕ) → IsStateBy form role region s → rest_none form (told_of form region s ++ (length s.cells ∷ behind)) ≡ true
     → (s.cells ≡ []) × ((s.relations ≡ test_alone (compared s.relations.byte.test)) × (s.summary ≡ no_summary))
 unfolding told.relations spelled.told
 told-none (Older Simple) role region s behind is h = (no-cells s.cells h, (is-alone s.relations is.known, says-nothing Simple role region s is))
 told-none (Older Extended) role region s behind is h =
     let r = s.relations in
     let p = told.present_number (told.present_in r) in
-    let parts : List ℕ = told.where_there (has_place r.byte) (told.places r.byte) ++ (told.optional told.pair r.zero ++ told.pairs r.pairs) in
-    let k = and_both (p == 0) (begins_with_zero (parts ++ (length s.cells ∷ behind))) h in
-    let none = nothing-told region s.relations is.relations (eqb-true p 0 k.0) in
+    let k = and_both (p == 0) (begins_with_zero (told.parts r ++ (length s.cells ∷ behind))) h in
+    let none = nothing-told (is_free_byte region) s.relations is.relations (eqb-true p 0 k.0) in
     let rest : rest_none (Older Extended) ((0 ∷ []) ++ (length s.cells ∷ behind)) ≡ true = ap (λ (b : List ℕ). rest_none (Older Extended) (b ++ (length s.cells ∷ behind))) (sym none.1) ∙ h in
-    (no-cells s.cells (and_both true (length s.cells == 0) rest).1, (alone region s.relations is.relations (eqb-true p 0 k.0), says-nothing Extended role region s is))
-told-none (Fourth facts kept) role region s behind is h =
-    let p = told.present_number (told.present_in s.relations) in
-    let d = spelled.declared_number (spelled.declared_in s.summary) in
-    let after : List ℕ = (told.parts s.relations ++ spelled.summary s.summary) ++ (length s.cells ∷ behind) in
+    (no-cells s.cells (and_both true (length s.cells == 0) rest).1, (alone (is_free_byte region) (is_some r.byte.address) s.relations is.relations (eqb-true p 0 k.0), says-nothing Extended role region s is))
+told-none (Fourth facts form) role region s behind is h =
+    let place = spelled.place_in region s.relations.byte.address in
+    let may_be = is_place_at (stack_bytes form role region (length s.items)) in
+    let address = spelled.is_address place in
+    let p = told.present_number (told.present_by address s.relations) in
+    let d = spelled.declared_number (spelled.declared_in (spelled.is_item place) s.summary) in
+    let parts : List ℕ = told.parts_by (spelled.memory region form.base s.relations.byte.address) s.relations in
+    let after : List ℕ = (parts ++ spelled.summary s.summary) ++ (length s.cells ∷ behind) in
     let k = and_both (p == 0) (begins_with_zeros (d ∷ after)) h in
     let l = and_both (d == 0) (begins_with_zero after) k.1 in
-    let related = alone region s.relations is.relations (eqb-true p 0 k.0) in
-    let silent = undeclared s.summary (eqb-true d 0 l.0) in
-    let parts : told.parts s.relations ≡ [] = no-parts (told.parts s.relations) p (eqb-true p 0 k.0) (nothing-told region s.relations is.relations (eqb-true p 0 k.0)).1 in
+    let nothing = nothing-known may_be address s.relations is.relations (eqb-true p 0 k.0) in
+    let silent = undeclared (spelled.is_item place) s.summary (eqb-true d 0 l.0) in
+    let none : parts ≡ [] = ap (λ (r : Relations). told.parts_by (spelled.memory region form.base r.byte.address) r) nothing ∙ no-parts region form.base in
     let summary : spelled.summary s.summary ≡ [] = ap spelled.summary silent ∙ nothing-said in
-    let rest : begins_with_zero (length s.cells ∷ behind) ≡ true = ap (λ (b : List ℕ). begins_with_zero (b ++ (length s.cells ∷ behind))) (sym (ap (λ (b : List ℕ). b ++ spelled.summary s.summary) parts ∙ summary)) ∙ l.1 in
-    (no-cells s.cells rest, (related, silent))
-  where
-    no-parts : (parts : List ℕ) (p : ℕ) → p ≡ 0 → p ∷ parts ≡ 0 ∷ [] → parts ≡ []
-    no-parts parts p z e = cc
+    let rest : begins_with_zero (length s.cells ∷ behind) ≡ true = ap (λ (b : List ℕ). begins_with_zero (b ++ (length s.cells ∷ behind))) (sym (ap (λ (b : List ℕ). b ++ spelled.summary s.summary) none ∙ summary)) ∙ l.1 in
+    (no-cells s.cells rest, (alone may_be address s.relations is.relations (eqb-true p 0 k.0), silent))
 
 -- where zeros stand behind the core the state is plain
 pub is-plain : (form : Form) (role : Role) (region : Region) (bytes : List ℕ) (s : AbsState) → StateStands form role region bytes s → are_none form (drop 40 bytes) ≡ true → IsPlain s
 is-plain form role region bytes s h zeros =
-    let behind : List ℕ = told_of form s ++ cells_then s h.tail in
+    let behind : List ℕ = told_of form region s ++ cells_then s h.tail in
     let items = counted-none form s.items behind (no-units form role region s h.is_state) (sym (ap (λ (b : List ℕ). are_none form b) (lists-behind form role region bytes s h)) ∙ zeros) in
     let rest = told-none form role region s (flat_map spelled.cell s.cells ++ h.tail) h.is_state items.1 in
     record { items = items.0; cells = rest.0; relations = rest.1.0; summary = rest.1.1 }

@@ -10,6 +10,7 @@ use Rattle.gb_states.specs.Below.gb_fields.declared.head.Head.{Head}
 use Rattle.gb_states.specs.Below.gb_fields.Limits.{procedure_limit, procedure_limit_by, node_limit}
 use Rattle.gb_domain.specs.Types.{ProcedureParts, Node}
 use Rattle.gb_domain.specs.Certificate.{Certificate}
+use Rattle.gb_states.specs.declared.form.ProcedureForm.{ProcedureForm}
 use Rattle.gb_domain.specs.declared.summary.Fact.{Fact}
 use Rattle.gb_states.specs.Below.gb_fields.Format.{Read, both, checked, faultless, followed, byte}
 use Rattle.gb_domain.specs.declared.rules.Rules.{Rules}
@@ -19,7 +20,7 @@ use Rattle.gb_domain.specs.Rules.{IsChain}
 use Rattle.gb_states.specs.Below.gb_fields.Rules.{is_any_version, is_any_version_of, any_rules_of}
 use Rattle.gb_states.specs.Below.gb_fields.Reading.{word, magic_at, is_any, to_head, region_at, node_count_at, any_version_at, procedure_count_by, procedure_count_at, any_head_at}
 use Rattle.gb_states.specs.Rules.{is_after, key, is_of, have_entries}
-use Rattle.gb_states.specs.WholeRules.{is_in_order, is_uncrowded, are_in_order, in_order_by, kept_counts, kept_of, AreKept, AreFactsBy, IsProcedureBy, IsNodeBy, IsCertificate}
+use Rattle.gb_states.specs.WholeRules.{is_in_order, is_uncrowded, are_in_order, in_order_by, procedure_forms, form_in, AreKept, AreFactsBy, IsProcedureBy, IsNodeBy, IsCertificate}
 use Rattle.gb_states.specs.WholeReading.{facts_by, procedure_by, node_by, procedures_at, nodes_at, fault_by, entry_fault, or_else, entries_fault, Parts, entries_fault_in, to_certificate, behind_facts, behind_head, certificate_at, read_certificate}
 use Rattle.gb_states.specs.Spelling as simple
 use Rattle.gb_states.specs.WholeSpelling as spelled
@@ -151,29 +152,29 @@ facts-few true region facts h = let few = h.few in omega (arith, few)
 facts-few false region facts h = rw h (omega arith)
 
 pub IsFormat-procedure_by : (b : Bool) (version facts : ℕ) (region : Region) (nodes : ℕ) (is_main : Bool) → (version == 4) ≡ b → facts < 65536 → nodes ≤ node_limit version → region.last < 65535
-    → IsFormat (procedure_by b version facts region nodes is_main) (spelled.procedure_by b version) (IsProcedureBy b version facts region nodes is_main)
+    → IsFormat (procedure_by b version facts region nodes is_main) (spelled.procedure_by b version region) (IsProcedureBy b version facts region nodes is_main)
 IsFormat-procedure_by true version facts region nodes is_main e small few last =
     whole.IsFormat-procedure facts region nodes is_main small (subst (λ v. nodes ≤ node_limit v) (same version 4 e) few) last
 IsFormat-procedure_by false version facts region nodes is_main e small few last = IsFormat-procedure version region nodes is_main few last
 
-pub IsFormat-node_by : (b : Bool) (version facts : ℕ) (kept : ℕ → ℕ) (region : Region) (procedures : ℕ) (before : ℕ × ℕ) → facts < 65536 → ((p : ℕ) → (b ≡ true) → kept p ≤ 16) → procedures ≤ procedure_limit_by b
-    → IsFormat (node_by b version facts kept region procedures before) (spelled.node_by b version) (IsNodeBy b version facts kept region procedures before)
-IsFormat-node_by true version facts kept region procedures before small few many = let le : procedures ≤ 65536 = omega (arith, many) in whole.IsFormat-node facts kept region procedures before small (λ p. few p refl) le
-IsFormat-node_by false version facts kept region procedures before small few many = let le : procedures ≤ 256 = omega (arith, many) in IsFormat-node (rules_of version) region procedures before le
+pub IsFormat-node_by : (b : Bool) (version facts : ℕ) (form_of : ℕ → ProcedureForm) (region : Region) (procedures : ℕ) (before : ℕ × ℕ) → facts < 65536 → ((p : ℕ) → (b ≡ true) → (form_of p).kept ≤ 16) → procedures ≤ procedure_limit_by b
+    → IsFormat (node_by b version facts form_of region procedures before) (spelled.node_by b version region form_of) (IsNodeBy b version facts form_of region procedures before)
+IsFormat-node_by true version facts form_of region procedures before small few many = let le : procedures ≤ 65536 = omega (arith, many) in whole.IsFormat-node facts form_of region procedures before small (λ p. few p refl) le
+IsFormat-node_by false version facts form_of region procedures before small few many = let le : procedures ≤ 256 = omega (arith, many) in IsFormat-node (rules_of version) region procedures before le
 
 abbrev pub AreProcedures : Head → ℕ → List ProcedureParts → Type 0
 AreProcedures h facts = AreSoMany (IsProcedureBy (h.version == 4) h.version facts h.region h.nodes) is_after true h.procedures
 
-abbrev pub AreNodes : Head → ℕ → List ℕ → List Node → Type 0
-AreNodes h facts counts = AreSoMany (IsNodeBy (h.version == 4) h.version facts (kept_of counts) h.region h.procedures) key (0, 0) h.nodes
+abbrev pub AreNodes : Head → ℕ → List ProcedureForm → List Node → Type 0
+AreNodes h facts forms = AreSoMany (IsNodeBy (h.version == 4) h.version facts (form_in forms) h.region h.procedures) key (0, 0) h.nodes
 
 pub last-of : (h : Head) → IsHead h → h.region.last < 65535
 last-of h is = last_small h.region.first h.region.last is.region.area
 
-pub IsFormat-procedures : (h : Head) (facts : ℕ) → IsHead h → facts < 65536 → IsFormat (procedures_at h facts) (flat_map (spelled.procedure_by (h.version == 4) h.version)) (AreProcedures h facts)
+pub IsFormat-procedures : (h : Head) (facts : ℕ) → IsHead h → facts < 65536 → IsFormat (procedures_at h facts) (flat_map (spelled.procedure_by (h.version == 4) h.version h.region)) (AreProcedures h facts)
 unfolding procedures_at
 IsFormat-procedures h facts is small =
-    IsFormat-several (procedure_by (h.version == 4) h.version facts h.region h.nodes) is_after (spelled.procedure_by (h.version == 4) h.version) (IsProcedureBy (h.version == 4) h.version facts h.region h.nodes) true h.procedures
+    IsFormat-several (procedure_by (h.version == 4) h.version facts h.region h.nodes) is_after (spelled.procedure_by (h.version == 4) h.version h.region) (IsProcedureBy (h.version == 4) h.version facts h.region h.nodes) true h.procedures
     (λ is_main. IsFormat-procedure_by (h.version == 4) h.version facts h.region h.nodes is_main refl small is.few_nodes (last-of h is))
 
 -- a procedure names at most 16 addresses to be kept
@@ -181,44 +182,44 @@ pub room_few : (is_main : Bool) (region : Region) (addresses : List ℕ) → Are
 room_few true region addresses h = let few = h.few in omega (arith, few)
 room_few false region addresses h = h.few
 
-pub few-kept : (b : Bool) (version facts : ℕ) (region : Region) (nodes : ℕ) (is_main : Bool) (ps : List ProcedureParts) → IsChain (IsProcedureBy b version facts region nodes) is_after is_main ps → (p : ℕ) → b ≡ true → kept_of (kept_counts ps) p ≤ 16
+pub few-kept : (b : Bool) (version facts : ℕ) (region : Region) (nodes : ℕ) (is_main : Bool) (ps : List ProcedureParts) → IsChain (IsProcedureBy b version facts region nodes) is_after is_main ps → (p : ℕ) → b ≡ true → (form_in (procedure_forms ps) p).kept ≤ 16
 few-kept true version facts region nodes is_main [] h p e = omega arith
 few-kept true version facts region nodes is_main (x ∷ xs) h zero e = room_few is_main region x.kept h.0.kept
 few-kept true version facts region nodes is_main (x ∷ xs) h (suc p) e = few-kept true version facts region nodes false xs h.1 p e
 few-kept false version facts region nodes is_main ps h p e = cc
 
--- so it is where they are counted
-abbrev pub AreFew : Bool → List ℕ → Type 0
-AreFew b counts = (p : ℕ) → b ≡ true → kept_of counts p ≤ 16
+-- so it is of these forms
+abbrev pub AreFew : Bool → List ProcedureForm → Type 0
+AreFew b forms = (p : ℕ) → b ≡ true → (form_in forms p).kept ≤ 16
 
-pub few-counts : (h : Head) (facts : ℕ) (ps : List ProcedureParts) → AreProcedures h facts ps → AreFew (h.version == 4) (kept_counts ps)
-few-counts h facts ps are = few-kept (h.version == 4) h.version facts h.region h.nodes true ps are.1
+pub few-forms : (h : Head) (facts : ℕ) (ps : List ProcedureParts) → AreProcedures h facts ps → AreFew (h.version == 4) (procedure_forms ps)
+few-forms h facts ps are = few-kept (h.version == 4) h.version facts h.region h.nodes true ps are.1
 
-pub IsFormat-nodes : (h : Head) (facts : ℕ) (counts : List ℕ) → IsHead h → facts < 65536 → AreFew (h.version == 4) counts → IsFormat (nodes_at h facts counts) (flat_map (spelled.node_by (h.version == 4) h.version)) (AreNodes h facts counts)
+pub IsFormat-nodes : (h : Head) (facts : ℕ) (forms : List ProcedureForm) → IsHead h → facts < 65536 → AreFew (h.version == 4) forms → IsFormat (nodes_at h facts forms) (flat_map (spelled.node_by (h.version == 4) h.version h.region (form_in forms))) (AreNodes h facts forms)
 unfolding nodes_at
-IsFormat-nodes h facts counts is small few =
-    IsFormat-several (node_by (h.version == 4) h.version facts (kept_of counts) h.region h.procedures) key (spelled.node_by (h.version == 4) h.version) (IsNodeBy (h.version == 4) h.version facts (kept_of counts) h.region h.procedures) (0, 0) h.nodes
-    (λ before. IsFormat-node_by (h.version == 4) h.version facts (kept_of counts) h.region h.procedures before small few is.few_procedures)
+IsFormat-nodes h facts forms is small few =
+    IsFormat-several (node_by (h.version == 4) h.version facts (form_in forms) h.region h.procedures) key (spelled.node_by (h.version == 4) h.version h.region (form_in forms)) (IsNodeBy (h.version == 4) h.version facts (form_in forms) h.region h.procedures) (0, 0) h.nodes
+    (λ before. IsFormat-node_by (h.version == 4) h.version facts (form_in forms) h.region h.procedures before small few is.few_procedures)
 
 abbrev Body : Type 0
 Body = List Fact × (List ProcedureParts × List Node)
 
 abbrev AreBody : Head → Body → Type 0
-AreBody h b = AreFactsBy (h.version == 4) h.region b.0 × (AreProcedures h (length b.0) b.1.0 × AreNodes h (length b.0) (kept_counts b.1.0) b.1.1)
+AreBody h b = AreFactsBy (h.version == 4) h.region b.0 × (AreProcedures h (length b.0) b.1.0 × AreNodes h (length b.0) (procedure_forms b.1.0) b.1.1)
 
-abbrev spelled_lists : ℕ → List ProcedureParts × List Node → List ℕ
-spelled_lists version b = flat_map (spelled.procedure_by (version == 4) version) b.0 ++ flat_map (spelled.node_by (version == 4) version) b.1
+abbrev spelled_lists : ℕ → Region → List ProcedureParts × List Node → List ℕ
+spelled_lists version region b = flat_map (spelled.procedure_by (version == 4) version region) b.0 ++ spelled.nodes version region b.0 b.1
 
-abbrev spelled_body : ℕ → Body → List ℕ
-spelled_body version b = spelled.facts_by (version == 4) b.0 ++ spelled_lists version b.1
+abbrev spelled_body : ℕ → Region → Body → List ℕ
+spelled_body version region b = spelled.facts_by (version == 4) b.0 ++ spelled_lists version region b.1
 
-IsFormat-lists : (h : Head) (facts : ℕ) → IsHead h → facts < 65536 → IsFormat (behind_facts h facts) (spelled_lists h.version) (λ b. AreProcedures h facts b.0 × AreNodes h facts (kept_counts b.0) b.1)
+IsFormat-lists : (h : Head) (facts : ℕ) → IsHead h → facts < 65536 → IsFormat (behind_facts h facts) (spelled_lists h.version h.region) (λ b. AreProcedures h facts b.0 × AreNodes h facts (procedure_forms b.0) b.1)
 IsFormat-lists h facts is small =
-    IsFormat-followed (procedures_at h facts) (λ ps. nodes_at h facts (kept_counts ps)) (flat_map (spelled.procedure_by (h.version == 4) h.version)) (λ ps. flat_map (spelled.node_by (h.version == 4) h.version)) (AreProcedures h facts) (λ ps. AreNodes h facts (kept_counts ps)) (IsFormat-procedures h facts is small) (λ ps are. IsFormat-nodes h facts (kept_counts ps) is small (few-counts h facts ps are))
+    IsFormat-followed (procedures_at h facts) (λ ps. nodes_at h facts (procedure_forms ps)) (flat_map (spelled.procedure_by (h.version == 4) h.version h.region)) (λ ps. spelled.nodes h.version h.region ps) (AreProcedures h facts) (λ ps. AreNodes h facts (procedure_forms ps)) (IsFormat-procedures h facts is small) (λ ps are. IsFormat-nodes h facts (procedure_forms ps) is small (few-forms h facts ps are))
 
-IsFormat-body : (h : Head) → IsHead h → IsFormat (behind_head h) (spelled_body h.version) (AreBody h)
+IsFormat-body : (h : Head) → IsHead h → IsFormat (behind_head h) (spelled_body h.version h.region) (AreBody h)
 IsFormat-body h is =
-    IsFormat-followed (facts_by (h.version == 4) h.region) (λ fs. behind_facts h (length fs)) (spelled.facts_by (h.version == 4)) (λ fs. spelled_lists h.version) (AreFactsBy (h.version == 4) h.region) (λ fs b. AreProcedures h (length fs) b.0 × AreNodes h (length fs) (kept_counts b.0) b.1)
+    IsFormat-followed (facts_by (h.version == 4) h.region) (λ fs. behind_facts h (length fs)) (spelled.facts_by (h.version == 4)) (λ fs. spelled_lists h.version h.region) (AreFactsBy (h.version == 4) h.region) (λ fs b. AreProcedures h (length fs) b.0 × AreNodes h (length fs) (procedure_forms b.0) b.1)
     (IsFormat-facts_by (h.version == 4) h.region) (λ fs are. IsFormat-lists h (length fs) is (facts-few (h.version == 4) h.region fs are))
 
 -- ---- the entries
@@ -342,9 +343,9 @@ is-certificate c a = (
 IsFormat-certificate : IsFormat certificate_at spelled.spelling IsCertificate
 unfolding certificate_at from_certificate head_of from_head spelled.spelling spelled.head
 IsFormat-certificate =
-    IsFormat-onto to_certificate from_certificate (faultless entries_fault_in (followed any_head_at behind_head)) (λ p. spelled_head p.0 ++ spelled_body p.0.version p.1) AreParts IsCertificate (λ p a. (certificate-there p a, read-is p a)) (λ c h. (is-certificate c h, refl))
-    (IsFormat-faultless entries_fault_in (followed any_head_at behind_head) (λ p. spelled_head p.0 ++ spelled_body p.0.version p.1) (λ p. IsHead p.0 × AreBody p.0 p.1)
-    (IsFormat-followed any_head_at behind_head spelled_head (λ h. spelled_body h.version) IsHead AreBody IsFormat-head IsFormat-body))
+    IsFormat-onto to_certificate from_certificate (faultless entries_fault_in (followed any_head_at behind_head)) (λ p. spelled_head p.0 ++ spelled_body p.0.version p.0.region p.1) AreParts IsCertificate (λ p a. (certificate-there p a, read-is p a)) (λ c h. (is-certificate c h, refl))
+    (IsFormat-faultless entries_fault_in (followed any_head_at behind_head) (λ p. spelled_head p.0 ++ spelled_body p.0.version p.0.region p.1) (λ p. IsHead p.0 × AreBody p.0 p.1)
+    (IsFormat-followed any_head_at behind_head spelled_head (λ h. spelled_body h.version h.region) IsHead AreBody IsFormat-head IsFormat-body))
 
 -- ---- all of the bytes
 

@@ -1,5 +1,5 @@
 -- What is written of a certificate, part by part, and that a certificate keeps each limit.
-use Rattle.std.proofs.Common.{◌≡◌, ℕ, ◌≤◌, ◌%◌, Bool, true, false, not, ◌&&◌, ◌||◌, ◌==◌, nat_lt, nat_le, List, [], ◌∷◌, ◌++◌, length, map, Option, Some, None, IfSome, refl, sym, ap, subst, ◌∙◌, append_assoc, arith}
+use Rattle.std.proofs.Common.{◌≡◌, ℕ, zero, suc, ◌≤◌, ◌<◌, get_or, ◌%◌, Bool, true, false, not, ◌&&◌, ◌||◌, ◌==◌, nat_lt, nat_le, List, [], ◌∷◌, ◌++◌, length, map, Option, Some, None, IfSome, refl, sym, ap, subst, ◌∙◌, append_assoc, arith}
 use Rattle.std.proofs.lemmas.Bool.Decides.{nat_tests}
 use Rattle.std.specs.List.{AllByRecursion, flat_map, list_all, list_any}
 use Rattle.std.proofs.lemmas.List.{length-map}
@@ -15,12 +15,13 @@ use Rattle.gb_domain.specs.declared.summary.Fact.{Fact}
 use Rattle.gb_domain.specs.Rules.{IsChain, after_cell}
 use Rattle.gb_domain.specs.Limits.{rules_of, item_room, cell_room}
 use Rattle.gb_domain.specs.Types.{AbsState}
+use Rattle.gb_states.specs.declared.form.ProcedureForm.{ProcedureForm}
 use Rattle.gb_states.specs.Below.gb_fields.Limits.{node_limit, procedure_limit_by, range_limit, range_room, item_limit, unit}
 use Rattle.gb_states.specs.Below.gb_fields.Rules.{usual_base}
 use Rattle.gb_states.specs.declared.role.Role.{Role}
 use Rattle.gb_states.specs.declared.role.Role.TheVariants as role
 use Rattle.gb_states.specs.Rules.{IsState, IsProcedure, is_base_of, is_whole, is_after, key, role_of, is_state_sayable, may_be_known}
-use Rattle.gb_states.specs.WholeRules.{kept_for, kept_of, kept_counts, IsValIn, IsCellIn, IsStateIn, AreFactsBy, IsProcedureBy, IsNodeBy, IsCertificate}
+use Rattle.gb_states.specs.WholeRules.{kept_for, no_form, procedure_form, IsValIn, IsCellIn, IsStateIn, AreFactsBy, IsProcedureBy, IsNodeBy, IsCertificate}
 use Rattle.gb_states.specs.WholeSpelling as spelled
 use Rattle.gb_states.specs.WholeSpelling.{spelling}
 use Rattle.gb_cert.specs.declared.writer.Version.{Version}
@@ -31,7 +32,7 @@ use Rattle.gb_cert.specs.declared.writer.CertificatePlan.{CertificatePlan}
 use Rattle.gb_cert.specs.declared.writer.WriteFault.{WriteFault}
 use Rattle.gb_cert.specs.declared.writer.WriteFault.TheVariants as fault
 use Rattle.gb_cert.specs.Spelled as by_version
-use Rattle.gb_cert.specs.Written.{number_of, is_fourth, rules_in, procedure_of, node_of, certificate_of, exit_of, fact_room_by, is_tagged, says_state, is_half, has_many_items, has_many_cells, is_related, has_unsayable, exit_has, returns_with, stands_with, have_states, has_half_need, says_base, say_base, is_wide, is_deep, has_no_entry, has_no_owner, names_many, has_mark, IsProcedureFault, IsNodeFault, IsWriteFault}
+use Rattle.gb_cert.specs.Written.{number_of, is_fourth, rules_in, procedure_of, form_of, node_of, certificate_of, exit_of, fact_room_by, is_tagged, says_state, is_half, has_many_items, has_many_cells, is_related, has_unsayable, exit_has, returns_with, stands_with, have_states, has_half_need, says_base, say_base, is_wide, is_deep, has_no_entry, has_no_owner, names_many, has_mark, IsProcedureFault, IsNodeFault, IsWriteFault}
 use Rattle.gb_cert.proofs.Refusing.{Says}
 use Rattle.gb_cert.proofs.SpelledLaws.{procedure-is, node-is}
 use Rattle.gb_cert.proofs.WholeCertificateLaws.{few-kept, room_few}
@@ -46,26 +47,32 @@ flat_map-same : {X : Type 0} (f g : X → List ℕ) (xs : List X) → ((x : X) �
 flat_map-same f g [] same = refl
 flat_map-same f g (x ∷ xs) same = rw (same x, flat_map-same f g xs same) refl
 
-procedures-written : (v : Version) (ps : List ProcedurePlan) → flat_map (λ p. by_version.procedure v (procedure_of p)) ps ≡ flat_map (spelled.procedure_by (is_fourth v) (number_of v)) (map procedure_of ps)
-procedures-written v ps =
-    flat_map-same (λ p. by_version.procedure v (procedure_of p)) (λ p. spelled.procedure_by (is_fourth v) (number_of v) (procedure_of p)) ps (λ p. procedure-is v (procedure_of p))
-    ∙ sym (flat_map-map (spelled.procedure_by (is_fourth v) (number_of v)) procedure_of ps)
+procedures-written : (v : Version) (region : Region) (ps : List ProcedurePlan) → flat_map (λ p. by_version.procedure v region (procedure_of p)) ps ≡ flat_map (spelled.procedure_by (is_fourth v) (number_of v) region) (map procedure_of ps)
+procedures-written v region ps =
+    flat_map-same (λ p. by_version.procedure v region (procedure_of p)) (λ p. spelled.procedure_by (is_fourth v) (number_of v) region (procedure_of p)) ps (λ p. procedure-is v region (procedure_of p))
+    ∙ sym (flat_map-map (spelled.procedure_by (is_fourth v) (number_of v) region) procedure_of ps)
 
-nodes-written : (v : Version) (ns : List NodePlan) → flat_map (λ n. by_version.node v (node_of n)) ns ≡ flat_map (spelled.node_by (is_fourth v) (number_of v)) (map node_of ns)
-nodes-written v ns =
-    flat_map-same (λ n. by_version.node v (node_of n)) (λ n. spelled.node_by (is_fourth v) (number_of v) (node_of n)) ns (λ n. node-is v (node_of n))
-    ∙ sym (flat_map-map (spelled.node_by (is_fourth v) (number_of v)) node_of ns)
+nodes-written : (v : Version) (region : Region) (of : ℕ → ProcedureForm) (ns : List NodePlan) → flat_map (λ n. by_version.node v region of (node_of n)) ns ≡ flat_map (spelled.node_by (is_fourth v) (number_of v) region of) (map node_of ns)
+nodes-written v region of ns =
+    flat_map-same (λ n. by_version.node v region of (node_of n)) (λ n. spelled.node_by (is_fourth v) (number_of v) region of (node_of n)) ns (λ n. node-is v region of (node_of n))
+    ∙ sym (flat_map-map (spelled.node_by (is_fourth v) (number_of v) region of) node_of ns)
+
+-- the form of the procedure with this number has its base
+pub form_there : (ps : List ProcedurePlan) (number : ℕ) (p : ProcedurePlan) → number < length ps → p ≡ get_or ps number p → p.base ≡ (form_of ps number).base
+form_there [] number p lt e = absurd (omega arith)
+form_there (q ∷ qs) zero p lt e = ap (λ (r : ProcedurePlan). r.base) e
+form_there (q ∷ qs) (suc number) p lt e = form_there qs number p (omega arith) e
 
 -- a head, then facts, then procedures, then nodes
 pub certificate_written : (old first second third new : List ℕ) (plan : CertificatePlan)
     → first ≡ old ++ spelled.head (certificate_of plan)
     → second ≡ first ++ spelled.facts_by (is_fourth plan.version) plan.facts.now
-    → third ≡ second ++ flat_map (λ p. by_version.procedure plan.version (procedure_of p)) plan.procedures.now
-    → new ≡ third ++ flat_map (λ n. by_version.node plan.version (node_of n)) plan.nodes.now
+    → third ≡ second ++ flat_map (λ p. by_version.procedure plan.version plan.region (procedure_of p)) plan.procedures.now
+    → new ≡ third ++ flat_map (λ n. by_version.node plan.version plan.region (form_of plan.procedures.now) (node_of n)) plan.nodes.now
     → new ≡ old ++ spelled.spelling (certificate_of plan)
 unfolding spelling
 certificate_written old first second third new plan a b c d =
-    rw (d, c, b, a, procedures-written plan.version plan.procedures.now, nodes-written plan.version plan.nodes.now)
+    rw (d, c, b, a, procedures-written plan.version plan.region plan.procedures.now, nodes-written plan.version plan.region (form_of plan.procedures.now) plan.nodes.now)
     (append_assoc ((old ++ spelled.head (certificate_of plan)) ++ spelled.facts_by (is_fourth plan.version) plan.facts.now) _ _ ∙ (append_assoc (old ++ spelled.head (certificate_of plan)) _ _ ∙ append_assoc old _ _))
 
 -- ---- what a certificate gives of each state
@@ -123,32 +130,32 @@ all_true : (ie a b c d e h l items cells : Bool) → ie ≡ true → a ≡ true 
     → ((true && (ie && (a && (b && (c && (d && (e && (h && l)))))))) && (items && (cells && true))) ≡ true
 all_true ie a b c d e h l items cells h1 h2 h3 h4 h5 h6 h7 h8 h9 h10 = rw (h1, h2, h3, h4, h5, h6, h7, h8, h9, h10) refl
 
-fourth_said : (facts kept : ℕ) (role : Role) (region : Region) (s : AbsState) → kept ≤ 16 → IsStateIn facts kept role region s → says_state version.Four s ≡ true
-fourth_said facts kept role region s few h =
-    let value : (r : Register) → is_tagged (get r s.core.registers) ≡ true = λ r. tagged kept (get r s.core.registers) few (h.core.registers r) in
+fourth_said : (facts : ℕ) (form : ProcedureForm) (role : Role) (region : Region) (s : AbsState) → form.kept ≤ 16 → IsStateIn facts form role region s → says_state version.Four s ≡ true
+fourth_said facts form role region s few h =
+    let value : (r : Register) → is_tagged (get r s.core.registers) ≡ true = λ r. tagged form.kept (get r s.core.registers) few (h.core.registers r) in
     all_true (is_tagged s.core.ie) (is_tagged s.core.registers.a) (is_tagged s.core.registers.b) (is_tagged s.core.registers.c) (is_tagged s.core.registers.d) (is_tagged s.core.registers.e) (is_tagged s.core.registers.h) (is_tagged s.core.registers.l) (list_all is_tagged s.items) (list_all (λ (c : Cell). is_tagged c.val) s.cells)
-    (tagged kept s.core.ie few h.core.ie) (value register.A) (value register.B) (value register.C) (value register.D) (value register.E) (value register.H) (value register.L) (vals_tagged kept s.items few h.items) (cells_tagged kept region 0 s.cells few h.cells)
+    (tagged form.kept s.core.ie few h.core.ie) (value register.A) (value register.B) (value register.C) (value register.D) (value register.E) (value register.H) (value register.L) (vals_tagged form.kept s.items few h.items) (cells_tagged form.kept region 0 s.cells few h.cells)
 
-fourth_says : (facts kept : ℕ) (role : Role) (region : Region) (s : AbsState) → kept ≤ 16 → IsStateIn facts kept role region s → Says version.Four s
+fourth_says : (facts : ℕ) (form : ProcedureForm) (role : Role) (region : Region) (s : AbsState) → form.kept ≤ 16 → IsStateIn facts form role region s → Says version.Four s
 unfolding item_room item_limit cell_room
-fourth_says facts kept role region s few h = record {
+fourth_says facts form role region s few h = record {
   half = not_is (is_whole Extended (length s.items)) (bytes_whole (length s.items));
   items = not_more 255 (length s.items) h.item_count;
   cells = not_more 64 (length s.cells) h.cell_count;
   related = refl;
-  unsayable = not_is (says_state version.Four s) (fourth_said facts kept role region s few h);
+  unsayable = not_is (says_state version.Four s) (fourth_said facts form role region s few h);
 }
 
 -- of a state of any version
-abbrev IsStateBy : Bool → ℕ → ℕ → ℕ → Role → Region → AbsState → Type 0
-IsStateBy true n facts kept role region s = (kept ≤ 16) × IsStateIn facts kept role region s
-IsStateBy false n facts kept role region s = IsState (rules_of n) role region s
+abbrev IsStateBy : Bool → ℕ → ℕ → ProcedureForm → Role → Region → AbsState → Type 0
+IsStateBy true n facts form role region s = (form.kept ≤ 16) × IsStateIn facts form role region s
+IsStateBy false n facts form role region s = IsState (rules_of n) role region s
 
-state_says : (v : Version) (facts kept : ℕ) (role : Role) (region : Region) (s : AbsState) → IsStateBy (is_fourth v) (number_of v) facts kept role region s → Says v s
-state_says version.One facts kept role region s h = let o = older_says (rules_of 1) role region s h in record { half = o.half; items = o.items; cells = o.cells; related = o.related; unsayable = o.unsayable }
-state_says version.Two facts kept role region s h = let o = older_says (rules_of 2) role region s h in record { half = o.half; items = o.items; cells = o.cells; related = o.related; unsayable = o.unsayable }
-state_says version.Three facts kept role region s h = let o = older_says (rules_of 3) role region s h in record { half = o.half; items = o.items; cells = o.cells; related = o.related; unsayable = o.unsayable }
-state_says version.Four facts kept role region s h = fourth_says facts kept role region s h.0 h.1
+state_says : (v : Version) (facts : ℕ) (form : ProcedureForm) (role : Role) (region : Region) (s : AbsState) → IsStateBy (is_fourth v) (number_of v) facts form role region s → Says v s
+state_says version.One facts form role region s h = let o = older_says (rules_of 1) role region s h in record { half = o.half; items = o.items; cells = o.cells; related = o.related; unsayable = o.unsayable }
+state_says version.Two facts form role region s h = let o = older_says (rules_of 2) role region s h in record { half = o.half; items = o.items; cells = o.cells; related = o.related; unsayable = o.unsayable }
+state_says version.Three facts form role region s h = let o = older_says (rules_of 3) role region s h in record { half = o.half; items = o.items; cells = o.cells; related = o.related; unsayable = o.unsayable }
+state_says version.Four facts form role region s h = fourth_says facts form role region s h.0 h.1
 
 -- ---- what a certificate gives of each procedure
 
@@ -169,13 +176,13 @@ range_few Simple false = omega arith
 range_few Extended true = omega arith
 range_few Extended false = omega arith
 
-exit_says : (v : Version) (facts kept : ℕ) (region : Region) (o : Option AbsState) → IfSome o (IsStateBy (is_fourth v) (number_of v) facts kept role.Exit region) → IfSome o (Says v)
-exit_says v facts kept region None h = tt
-exit_says v facts kept region (Some s) h = state_says v facts kept role.Exit region s h
+exit_says : (v : Version) (facts : ℕ) (form : ProcedureForm) (region : Region) (o : Option AbsState) → IfSome o (IsStateBy (is_fourth v) (number_of v) facts form role.Exit region) → IfSome o (Says v)
+exit_says v facts form region None h = tt
+exit_says v facts form region (Some s) h = state_says v facts form role.Exit region s h
 
-with_few : (facts kept : ℕ) (region : Region) (o : Option AbsState) → kept ≤ 16 → IfSome o (IsStateIn facts kept role.Exit region) → IfSome o (IsStateBy true 4 facts kept role.Exit region)
-with_few facts kept region None few h = tt
-with_few facts kept region (Some s) few h = (few, h)
+with_few : (facts : ℕ) (form : ProcedureForm) (region : Region) (o : Option AbsState) → form.kept ≤ 16 → IfSome o (IsStateIn facts form role.Exit region) → IfSome o (IsStateBy true 4 facts form role.Exit region)
+with_few facts form region None few h = tt
+with_few facts form region (Some s) few h = (few, h)
 
 -- of versions 1 to 3
 record OlderFits (rules : Rules) (nodes : ℕ) (p : ProcedurePlan) : Type 0 where
@@ -197,9 +204,9 @@ older_fits rules region nodes is_main p h = record {
 }
 
 fits : (v : Version) (facts : ℕ) (region : Region) (nodes : ℕ) (is_main : Bool) (p : ProcedurePlan) → IsProcedureBy (is_fourth v) (number_of v) facts region nodes is_main (procedure_of p) → Fits v nodes p
-fits version.One facts region nodes is_main p h = let o = older_fits (rules_of 1) region nodes is_main p h in record { wide = o.wide; deep = o.deep; entry = o.entry; half = o.half; kept = o.kept; mark = o.mark; exit = exit_says version.One facts 0 region (exit_of p.exit) h.exit }
-fits version.Two facts region nodes is_main p h = let o = older_fits (rules_of 2) region nodes is_main p h in record { wide = o.wide; deep = o.deep; entry = o.entry; half = o.half; kept = o.kept; mark = o.mark; exit = exit_says version.Two facts 0 region (exit_of p.exit) h.exit }
-fits version.Three facts region nodes is_main p h = let o = older_fits (rules_of 3) region nodes is_main p h in record { wide = o.wide; deep = o.deep; entry = o.entry; half = o.half; kept = o.kept; mark = o.mark; exit = exit_says version.Three facts 0 region (exit_of p.exit) h.exit }
+fits version.One facts region nodes is_main p h = let o = older_fits (rules_of 1) region nodes is_main p h in record { wide = o.wide; deep = o.deep; entry = o.entry; half = o.half; kept = o.kept; mark = o.mark; exit = exit_says version.One facts no_form region (exit_of p.exit) h.exit }
+fits version.Two facts region nodes is_main p h = let o = older_fits (rules_of 2) region nodes is_main p h in record { wide = o.wide; deep = o.deep; entry = o.entry; half = o.half; kept = o.kept; mark = o.mark; exit = exit_says version.Two facts no_form region (exit_of p.exit) h.exit }
+fits version.Three facts region nodes is_main p h = let o = older_fits (rules_of 3) region nodes is_main p h in record { wide = o.wide; deep = o.deep; entry = o.entry; half = o.half; kept = o.kept; mark = o.mark; exit = exit_says version.Three facts no_form region (exit_of p.exit) h.exit }
 fits version.Four facts region nodes is_main p h =
     let few = room_few is_main region p.kept.now h.kept in
     record {
@@ -209,7 +216,7 @@ fits version.Four facts region nodes is_main p h =
       half = not_is (is_whole Extended p.need) (bytes_whole p.need);
       kept = not_more 16 (length p.kept.now) few;
       mark = refl;
-      exit = exit_says version.Four facts (length p.kept.now) region (exit_of p.exit) (with_few facts (length p.kept.now) region (exit_of p.exit) few h.exit);
+      exit = exit_says version.Four facts (procedure_form (procedure_of p)) region (exit_of p.exit) (with_few facts (procedure_form (procedure_of p)) region (exit_of p.exit) few h.exit);
     }
 
 all_fit : (v : Version) (facts : ℕ) (region : Region) (nodes : ℕ) (is_main : Bool) (ps : List ProcedurePlan) → IsChain (IsProcedureBy (is_fourth v) (number_of v) facts region nodes) is_after is_main (map procedure_of ps) → AllByRecursion (Fits v nodes) ps
@@ -254,16 +261,16 @@ record Stands (v : Version) (procedures : ℕ) (n : NodePlan) : Type 0 where
   owner : has_no_owner procedures n ≡ false
   state : Says v n.state.now
 
-stands : (v : Version) (facts : ℕ) (kept : ℕ → ℕ) (region : Region) (procedures : ℕ) (before : ℕ × ℕ) (n : NodePlan) → ((p : ℕ) → is_fourth v ≡ true → kept p ≤ 16) → IsNodeBy (is_fourth v) (number_of v) facts kept region procedures before (node_of n) → Stands v procedures n
-stands version.One facts kept region procedures before n few h = record { owner = grind (arith, nat_tests, h.procedure); state = state_says version.One facts 0 (role_of n.procedure) region n.state.now h.state }
-stands version.Two facts kept region procedures before n few h = record { owner = grind (arith, nat_tests, h.procedure); state = state_says version.Two facts 0 (role_of n.procedure) region n.state.now h.state }
-stands version.Three facts kept region procedures before n few h = record { owner = grind (arith, nat_tests, h.procedure); state = state_says version.Three facts 0 (role_of n.procedure) region n.state.now h.state }
-stands version.Four facts kept region procedures before n few h = record { owner = grind (arith, nat_tests, h.procedure); state = state_says version.Four facts (kept n.procedure) (role_of n.procedure) region n.state.now (few n.procedure refl, h.state) }
+stands : (v : Version) (facts : ℕ) (of : ℕ → ProcedureForm) (region : Region) (procedures : ℕ) (before : ℕ × ℕ) (n : NodePlan) → ((p : ℕ) → is_fourth v ≡ true → (of p).kept ≤ 16) → IsNodeBy (is_fourth v) (number_of v) facts of region procedures before (node_of n) → Stands v procedures n
+stands version.One facts of region procedures before n few h = record { owner = grind (arith, nat_tests, h.procedure); state = state_says version.One facts no_form (role_of n.procedure) region n.state.now h.state }
+stands version.Two facts of region procedures before n few h = record { owner = grind (arith, nat_tests, h.procedure); state = state_says version.Two facts no_form (role_of n.procedure) region n.state.now h.state }
+stands version.Three facts of region procedures before n few h = record { owner = grind (arith, nat_tests, h.procedure); state = state_says version.Three facts no_form (role_of n.procedure) region n.state.now h.state }
+stands version.Four facts of region procedures before n few h = record { owner = grind (arith, nat_tests, h.procedure); state = state_says version.Four facts (of n.procedure) (role_of n.procedure) region n.state.now (few n.procedure refl, h.state) }
 
-all_stand : (v : Version) (facts : ℕ) (kept : ℕ → ℕ) (region : Region) (procedures : ℕ) (before : ℕ × ℕ) (ns : List NodePlan) → ((p : ℕ) → is_fourth v ≡ true → kept p ≤ 16) → IsChain (IsNodeBy (is_fourth v) (number_of v) facts kept region procedures) key before (map node_of ns)
+all_stand : (v : Version) (facts : ℕ) (of : ℕ → ProcedureForm) (region : Region) (procedures : ℕ) (before : ℕ × ℕ) (ns : List NodePlan) → ((p : ℕ) → is_fourth v ≡ true → (of p).kept ≤ 16) → IsChain (IsNodeBy (is_fourth v) (number_of v) facts of region procedures) key before (map node_of ns)
     → AllByRecursion (Stands v procedures) ns
-all_stand v facts kept region procedures before [] few h = tt
-all_stand v facts kept region procedures before (n ∷ ns) few h = (stands v facts kept region procedures before n few h.0, all_stand v facts kept region procedures (key (node_of n)) ns few h.1)
+all_stand v facts of region procedures before [] few h = tt
+all_stand v facts of region procedures before (n ∷ ns) few h = (stands v facts of region procedures before n few h.0, all_stand v facts of region procedures (key (node_of n)) ns few h.1)
 
 -- ---- certificates keep each limit
 
@@ -278,11 +285,11 @@ fits_all plan h =
     let owners = length-map plan.procedures.now procedure_of in
     let v = plan.version in
     let facts = length plan.facts.now in
-    let counts = kept_counts (map procedure_of plan.procedures.now) in
-    let few : (p : ℕ) → is_fourth plan.version ≡ true → kept_of counts p ≤ 16 = few-kept (is_fourth plan.version) (number_of plan.version) facts plan.region (length (map node_of plan.nodes.now)) true (map procedure_of plan.procedures.now) h.procedures in
+    let of : ℕ → ProcedureForm = form_of plan.procedures.now in
+    let few : (p : ℕ) → is_fourth plan.version ≡ true → (of p).kept ≤ 16 = few-kept (is_fourth plan.version) (number_of plan.version) facts plan.region (length (map node_of plan.nodes.now)) true (map procedure_of plan.procedures.now) h.procedures in
     record {
       procedures = all_fit plan.version facts plan.region (length plan.nodes.now) true plan.procedures.now (subst (λ n. IsChain (IsProcedureBy (is_fourth plan.version) (number_of plan.version) facts plan.region n) is_after true (map procedure_of plan.procedures.now)) count h.procedures);
-      nodes = all_stand plan.version facts (kept_of counts) plan.region (length plan.procedures.now) (0, 0) plan.nodes.now few (subst (λ n. IsChain (IsNodeBy (is_fourth plan.version) (number_of plan.version) facts (kept_of counts) plan.region n) key (0, 0) (map node_of plan.nodes.now)) owners h.nodes);
+      nodes = all_stand plan.version facts of plan.region (length plan.procedures.now) (0, 0) plan.nodes.now few (subst (λ n. IsChain (IsNodeBy (is_fourth plan.version) (number_of plan.version) facts of plan.region n) key (0, 0) (map node_of plan.nodes.now)) owners h.nodes);
     }
 
 -- a test that fails on each state that the version can say

@@ -11,6 +11,7 @@ use Rattle.gb_domain.specs.Summaries.{SummaryParts, no_summary}
 use Rattle.gb_domain.specs.Types.{AbsState, ProcedureParts, all_or_none, any_val, state_of}
 use Rattle.gb_states.specs.declared.form.Form.{Form}
 use Rattle.gb_states.specs.declared.form.Form.TheVariants.{Older, Fourth}
+use Rattle.gb_states.specs.declared.form.ProcedureForm.{ProcedureForm}
 use Rattle.gb_states.specs.declared.role.Role.{Role}
 use Rattle.gb_states.specs.declared.role.Role.TheVariants as role
 use Rattle.gb_states.specs.Below.gb_fields.Format.{Read, followed, both, mapped, optional, byte}
@@ -19,7 +20,7 @@ use Rattle.gb_states.specs.Below.gb_fields.Reading.{base_at, need_at, returns_at
 use Rattle.gb_states.specs.Numbers.{flag}
 use Rattle.gb_states.specs.RelationReading.{relations_by}
 use Rattle.gb_states.specs.Reading.{ranges_at}
-use Rattle.gb_states.specs.WholeRules.{may_be_aside}
+use Rattle.gb_states.specs.WholeRules.{may_be_aside, stack_bytes}
 use Rattle.gb_states.specs.WholeReading.{told_at, kept_addresses_at, to_procedure}
 use Rattle.gb_states.specs.Forms.{form_by, IsFit, IsStateBy, spelled_by, state_by}
 
@@ -50,23 +51,23 @@ state_in form role region bytes = read_or (state_of any_core) (state_by form rol
 pub record StateStands (form : Form) (role : Role) (region : Region) (bytes : List ℕ) (s : AbsState) : Type 0 where
   pub tail : List ℕ
   pub fit : IsFit form
-  pub parts : bytes ≡ spelled_by form s ++ tail
+  pub parts : bytes ≡ spelled_by form region s ++ tail
   pub is_state : IsStateBy form role region s
   pub is_read : state_by form role region bytes ≡ Ok (s, tail)
 
 -- how many bytes spell one of what items are counted in
 abbrev pub item_width : Form → ℕ
 item_width (Older rules) = 3 * unit rules
-item_width (Fourth facts kept) = 3
+item_width (Fourth facts form) = 3
 
 -- what is kept of the controller, where it is all or nothing, as versions 1 to 3 spell it
 abbrev pub older_kept : ℕ → ℕ
 older_kept n = flag (not (n == 0))
 
--- what is known of several parts together and said of the whole program, behind the items; the core is known
-abbrev pub told_by : Form → Role → Region → Core → Option ℕ → Read (Relations × SummaryParts)
-told_by (Older rules) role region core test = mapped (λ r. (r, no_summary)) (relations_by rules region test)
-told_by (Fourth facts kept) role region core test = told_at facts region (may_be_aside role core) test
+-- what is known of several parts together and said of the whole program, behind so many items; the core is known
+abbrev pub told_by : Form → Role → Region → ℕ → Core → Option ℕ → Read (Relations × SummaryParts)
+told_by (Older rules) role region count core test = mapped (λ r. (r, no_summary)) (relations_by rules region test)
+told_by (Fourth facts form) role region count core test = told_at facts (stack_bytes form role region count) (may_be_aside role core) test
 
 -- ---- procedures
 
@@ -91,16 +92,24 @@ names_by false is_main region = nothing ([], 0)
 abbrev pub Named : Type 0
 Named = (List ℕ × ℕ) × Option AbsState
 
--- An exit's state may name the addresses that are to be kept.
-abbrev pub named_by : Bool → ℕ → ℕ → Bool → Region → Read Named
-named_by fourth version facts is_main region = followed (names_by fourth is_main region) (λ d. exit_by (form_by fourth version facts (length d.0)) is_main region)
+-- how the state of an exit is spelled, of a procedure that has this base and these names
+abbrev pub exit_form : Bool → ℕ → ℕ → ℕ → List ℕ × ℕ → Form
+exit_form fourth version facts base d = form_by fourth version facts (record { kept = length d.0; base = base })
+
+-- An exit's state may name the addresses that are to be kept; the base is known.
+abbrev pub named_by : Bool → ℕ → ℕ → Bool → Region → ℕ → Read Named
+named_by fourth version facts is_main region base = followed (names_by fourth is_main region) (λ d. exit_by (exit_form fourth version facts base d) is_main region)
+
+-- a need, ranges, names and an exit
+abbrev pub needed_by : Bool → ℕ → ℕ → Bool → Region → ℕ → Read (ℕ × (List Range × Named))
+needed_by fourth version facts is_main region base = both (need_at (rules_of version) is_main region) (both (ranges_at (rules_of version) is_main region) (named_by fourth version facts is_main region base))
 
 -- all of a procedure but its entry
 abbrev pub Body : Type 0
 Body = ℕ × (ℕ × (List Range × Named))
 
 abbrev pub body_by : Bool → ℕ → ℕ → Bool → Region → Read Body
-body_by fourth version facts is_main region = both (base_at (rules_of version) is_main region) (both (need_at (rules_of version) is_main region) (both (ranges_at (rules_of version) is_main region) (named_by fourth version facts is_main region)))
+body_by fourth version facts is_main region = followed (base_at (rules_of version) is_main region) (needed_by fourth version facts is_main region)
 
 -- it stands where there is no procedure
 abbrev pub any_body : Body

@@ -1,5 +1,5 @@
 -- Where in the bytes of a certificate its parts stand.
-use Rattle.std.specs.Prelude.{◌≡◌, ℕ, ◌==◌, if◌then◌else◌, List, [], ◌∷◌, ◌++◌, drop, Result, Ok, Err}
+use Rattle.std.specs.Prelude.{◌≡◌, ℕ, ◌==◌, Bool, true, false, if◌then◌else◌, List, [], ◌∷◌, ◌++◌, drop, map, Result, Ok, Err}
 use Rattle.std.specs.List.{flat_map}
 use Rattle.gb_ops.specs.declared.machine.Region.{Region}
 use Rattle.gb_domain.specs.declared.summary.Fact.{Fact}
@@ -7,7 +7,8 @@ use Rattle.gb_domain.specs.Types.{ProcedureParts}
 use Rattle.gb_domain.specs.Certificate.{Certificate}
 use Rattle.gb_states.specs.Below.gb_fields.declared.fault.CertFault.{CertFault}
 use Rattle.gb_states.specs.Below.gb_fields.declared.fault.CertFault.TheVariants as fault
-use Rattle.gb_states.specs.WholeRules.{kept_counts}
+use Rattle.gb_states.specs.declared.form.ProcedureForm.{ProcedureForm}
+use Rattle.gb_states.specs.WholeRules.{procedure_form, procedure_forms, no_form, form_in}
 use Rattle.gb_states.specs.WholeReading.{read_certificate}
 use Rattle.gb_states.specs.WholeSpelling as spelled
 use Rattle.gb_states.specs.WholeSpelling.{Spells}
@@ -40,10 +41,18 @@ abbrev pub FindsUnlessMemory : {X Y : Type 0} → (X → Type 0) → Result X Ce
 FindsUnlessMemory right (Ok x) read = right x
 FindsUnlessMemory right (Err e) read = (e ≡ fault.Memory → ⊥) → read ≡ Err e
 
--- What reading gives are procedures at these places, and each names so many addresses to be kept.
-pub record AreCounted (write : ProcedureParts → List ℕ) (bytes : List ℕ) (read : Result (List ProcedureParts × List ℕ) CertFault) (places counts rest : List ℕ) : Type 0 where
+-- what of a procedure the spelling of its states depends on: versions 1 to 3 ask for nothing
+abbrev pub form_if : Bool → ProcedureParts → ProcedureForm
+form_if true p = procedure_form p
+form_if false p = no_form
+
+abbrev pub forms_if : Bool → List ProcedureParts → List ProcedureForm
+forms_if fourth procedures = map (form_if fourth) procedures
+
+-- What reading gives are procedures at these places, of these forms.
+pub record AreFormed (fourth : Bool) (write : ProcedureParts → List ℕ) (bytes : List ℕ) (read : Result (List ProcedureParts × List ℕ) CertFault) (places : List ℕ) (forms : List ProcedureForm) (rest : List ℕ) : Type 0 where
   pub placed : ArePlaced write bytes read places rest
-  pub counts_are : counts ≡ kept_counts placed.items
+  pub forms_are : forms ≡ forms_if fourth placed.items
 
 -- ---- certificates
 
@@ -60,21 +69,21 @@ no_certificate = record { version = 0; procedures = []; nodes = []; region = rec
 abbrev pub certificate_in : List ℕ → Certificate
 certificate_in bytes = ok_or no_certificate (read_certificate bytes)
 
--- The bytes spell a certificate of this version and region, which says these facts; its procedures and nodes are at these places, and of the
--- procedures each names so many addresses to be kept.
-pub record IsLaid (bytes : List ℕ) (version : ℕ) (region : Region) (facts : List Fact) (counts procedures nodes : List ℕ) (c : Certificate) : Type 0 where
+-- The bytes spell a certificate of this version and region, which says these facts; its procedures and nodes are at these places, and the
+-- procedures have these forms.
+pub record IsLaid (bytes : List ℕ) (version : ℕ) (region : Region) (facts : List Fact) (forms : List ProcedureForm) (procedures nodes : List ℕ) (c : Certificate) : Type 0 where
   pub spells : Spells bytes c
   pub version_is : version ≡ c.version
   pub region_is : region ≡ c.region
   pub facts_are : facts ≡ c.facts
-  pub counts_are : counts ≡ kept_counts c.procedures
-  pub procedures_at : AreAt (spelled.procedure_by (c.version == 4) c.version) bytes (flat_map (spelled.node_by (c.version == 4) c.version) c.nodes) procedures c.procedures
-  pub nodes_at : AreAt (spelled.node_by (c.version == 4) c.version) bytes [] nodes c.nodes
+  pub forms_are : forms ≡ forms_if (c.version == 4) c.procedures
+  pub procedures_at : AreAt (spelled.procedure_by (c.version == 4) c.version c.region) bytes (spelled.nodes c.version c.region c.procedures c.nodes) procedures c.procedures
+  pub nodes_at : AreAt (spelled.node_by (c.version == 4) c.version c.region (form_in (procedure_forms c.procedures))) bytes [] nodes c.nodes
 
 -- Reading gives this certificate, and its parts were found.
-pub record IsFound (bytes : List ℕ) (version : ℕ) (region : Region) (facts : List Fact) (counts procedures nodes : List ℕ) : Type 0 where
+pub record IsFound (bytes : List ℕ) (version : ℕ) (region : Region) (facts : List Fact) (forms : List ProcedureForm) (procedures nodes : List ℕ) : Type 0 where
   pub is_read : read_certificate bytes ≡ Ok (certificate_in bytes)
-  pub is_laid : IsLaid bytes version region facts counts procedures nodes (certificate_in bytes)
+  pub is_laid : IsLaid bytes version region facts forms procedures nodes (certificate_in bytes)
 
 -- a version whose numbers of nodes have four bytes, by the same rules: 2 in place of 1
 unfoldable pub upgraded_version : ℕ → ℕ

@@ -17,7 +17,8 @@ use Rattle.gb_domain.specs.Certificate.{Certificate}
 use Rattle.gb_states.specs.Below.gb_fields.Limits.{procedure_limit_by, node_limit, range_limit, fact_limit, kept_limit, unit}
 use Rattle.gb_states.specs.Below.gb_fields.Rules.{any_rules_of, usual_base}
 use Rattle.gb_states.specs.Rules.{is_whole, is_silent, may_be_known, is_sayable, is_all_or_none}
-use Rattle.gb_states.specs.WholeRules.{is_origin_in}
+use Rattle.gb_states.specs.declared.form.ProcedureForm.{ProcedureForm}
+use Rattle.gb_states.specs.WholeRules.{is_origin_in, procedure_forms, form_in}
 use Rattle.gb_cert.specs.declared.writer.Version.{Version}
 use Rattle.gb_cert.specs.declared.writer.Version.TheVariants as version
 use Rattle.gb_cert.specs.declared.writer.ProcedurePlan.{ProcedurePlan}
@@ -50,6 +51,10 @@ exit_of (Some s) = Some s.now
 
 abbrev pub procedure_of : ProcedurePlan → ProcedureParts
 procedure_of p = record { entry = p.entry; base = p.base; need = p.need; ranges = p.ranges.now; kept = p.kept.now; mark = p.mark; exit = exit_of p.exit }
+
+-- what the spelling of a state of the procedure with this number depends on
+abbrev pub form_of : List ProcedurePlan → ℕ → ProcedureForm
+form_of procedures number = form_in (procedure_forms (map procedure_of procedures)) number
 
 abbrev pub node_of : NodePlan → Node
 node_of n = record { procedure = n.procedure; address = n.address; bank = n.bank; state = n.state.now }

@@ -1,7 +1,6 @@
 //! Certificates, in the bytes of their files.
 
 ghost use Rattle.std.specs.Prelude.{◌≡◌, ◌==◌, ◌<◌, ◌≤◌, ◌-◌, true, false, ℕ, List, length, take, slice_get, Some, Ok, IfSome, IfOk};
-ghost use Rattle.std.specs.List.{flat_map};
 ghost use Rattle.gb_domain.specs.Certificate.{Certificate};
 ghost use Rattle.gb_domain.specs.Limits.{rules_of};
 ghost use Rattle.gb_cert.specs.Places.{upgraded_version};
@@ -10,7 +9,7 @@ ghost use Rattle.gb_states.specs.Below.gb_fields.Reading.{word};
 ghost use Rattle.gb_states.specs.Forms.{form_by};
 ghost use Rattle.gb_states.specs.Rules as older;
 ghost use Rattle.gb_states.specs.Spelling as spelled;
-ghost use Rattle.gb_states.specs.WholeRules.{IsCertificate, kept_of};
+ghost use Rattle.gb_states.specs.WholeRules.{IsCertificate, form_in};
 ghost use Rattle.gb_states.specs.WholeReading.{number_by, read_certificate};
 ghost use Rattle.gb_states.specs.WholeSpelling as whole;
 ghost use Rattle.gb_states.specs.WholeSpelling.{Spells};
@@ -18,18 +17,18 @@ ghost use Rattle.gb_states.specs.WholeSpelling.{Spells};
 use crate::node::NodeRef;
 use crate::parse::{Walked, walk};
 use crate::procedure::ProcedureRef;
-use crate::walk::{kept_of, skip_body};
+use crate::walk::{form_in, skip_body};
 use gb_domain::summary::Fact;
 use gb_domain::types::Rules;
 use gb_ops::machine::Region;
 use gb_states::form::procedure_at;
 use gb_states::numbers::word;
-use gb_states::{CertFault, Form, from_place, front_at, node_number};
+use gb_states::{CertFault, Form, ProcedureForm, from_place, front_at, node_number};
 use std::alloc::{AllocError, Global};
 use std::marker::Model;
 
 /// A certificate of version 1, 2, 3 or 4, in the bytes of its file, which it borrows. It keeps its facts, where each procedure
-/// and each node stands, and how many addresses each procedure names to be kept. Contracts see its version, its procedures, its
+/// and each node stands, and what the spelling of each procedure's states depends on. Contracts see its version, its procedures, its
 /// nodes, its stack region and its facts.
 #[derive(Drop)]
 pub struct Cert<'a> {
@@ -37,7 +36,7 @@ pub struct Cert<'a> {
     version: u8,
     region: Region,
     facts: Vec<Fact>,
-    counts: Vec<u8>,
+    forms: Vec<ProcedureForm>,
     procedures: Vec<usize>,
     nodes: Vec<usize>,
 }
@@ -51,7 +50,7 @@ impl<'a> Model for Cert<'a> {
 
     ghost view = { λ c. certificate_in c.bytes.now };
 
-    ghost invariant = { λ c. IsLaid c.bytes.now c.version c.region c.facts.items c.counts.items c.procedures.items c.nodes.items (certificate_in c.bytes.now) };
+    ghost invariant = { λ c. IsLaid c.bytes.now c.version c.region c.facts.items c.forms.items c.procedures.items c.nodes.items (certificate_in c.bytes.now) };
 }
 
 /// The procedure, the address and the bank of a node.
@@ -70,14 +69,14 @@ fn front_by(version: u8, bytes: &[u8]) -> Result<((u16, (u16, u16)), &[u8]), Cer
     }
 }
 
-/// How the states of the procedure with this number are spelled; each names so many addresses to be kept.
+/// How the states of the procedure with this number are spelled, by all procedures' forms.
 #[inline(always)]
-fn form_of(version: u8, facts: &[Fact], counts: &[u8], procedure: u16) -> Form
+fn form_of(version: u8, facts: &[Fact], forms: &[ProcedureForm], procedure: u16) -> Form
     requires { length facts.now < 65536 }
-    ensures { result ≡ form_by (version == 4) version (length facts.now) (kept_of counts.now procedure) }
+    ensures { result ≡ form_by (version == 4) version (length facts.now) (form_in forms.now procedure) }
 {
     if version == 4 {
-        Form::Fourth(facts.len() as u16, kept_of(counts, procedure))
+        Form::Fourth(facts.len() as u16, form_in(forms, procedure))
     } else {
         Form::Older(Rules::of(version))
     }
@@ -96,14 +95,14 @@ impl<'a> Cert<'a> {
 
     /// The certificate in these bytes, its parts as they were found.
     fn of_parts(bytes: &'a [u8], found: Walked) -> Cert<'a>
-        requires { IsFound bytes.now found.version found.region found.facts.items found.counts.items found.procedures.items found.nodes.items }
+        requires { IsFound bytes.now found.version found.region found.facts.items found.forms.items found.procedures.items found.nodes.items }
         ensures { result ≡ certificate_in bytes.now }
     {
         let Walked {
             version,
             region,
             facts,
-            counts,
+            forms,
             procedures,
             nodes,
         } = found;
@@ -112,7 +111,7 @@ impl<'a> Cert<'a> {
             version,
             region,
             facts,
-            counts,
+            forms,
             procedures,
             nodes,
         }
@@ -176,10 +175,10 @@ impl<'a> Cert<'a> {
     {
         let place = self.nodes[i as usize];
         let facts = self.facts.as_slice();
-        let counts = self.counts.as_slice();
+        let forms = self.forms.as_slice();
         match front_by(self.version, from_place(self.bytes, place)) {
             Ok((front, state)) => {
-                let form = form_of(self.version, facts, counts, front.0);
+                let form = form_of(self.version, facts, forms, front.0);
                 NodeRef::of_parts(form, front.0, front.1.0, front.1.1, self.region, state)
             }
             Err(_) => unreachable!(),
@@ -228,7 +227,7 @@ impl<'a> Cert<'a> {
 
     /// The bytes of all its nodes.
     pub fn node_bytes(&self) -> &'a [u8]
-        ensures { result.now ≡ flat_map (whole.node_by (self.now.version == 4) self.now.version) self.now.nodes }
+        ensures { result.now ≡ whole.nodes self.now.version self.now.region self.now.procedures self.now.nodes }
     {
         let place = self.nodes[0];
         from_place(self.bytes, place)

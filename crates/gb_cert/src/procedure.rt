@@ -1,10 +1,10 @@
 //! A procedure of a certificate, in the bytes of its file.
 
-ghost use Rattle.std.specs.Prelude.{◌≡◌, ◌<◌, ◌==◌, true, length, is_ok};
+ghost use Rattle.std.specs.Prelude.{◌≡◌, ◌<◌, ◌==◌, true, is_ok};
 ghost use Rattle.gb_states.specs.Below.gb_fields.Format.{Gives, mapped};
 ghost use Rattle.gb_states.specs.Below.gb_fields.Rules.{usual_base};
-ghost use Rattle.gb_states.specs.Forms.{form_by, IsFit};
-ghost use Rattle.gb_cert.specs.Borrowed.{exit_by, exit_in, names_by};
+ghost use Rattle.gb_states.specs.Forms.{IsFit};
+ghost use Rattle.gb_cert.specs.Borrowed.{exit_by, exit_in, names_by, exit_form};
 
 use crate::state::StateRef;
 use crate::walk::{skip_base, skip_front};
@@ -14,7 +14,7 @@ use gb_ops::machine::Region;
 use gb_states::role::Role;
 use gb_states::states::ranges_at;
 use gb_states::whole::kept_addresses_at;
-use gb_states::{CertFault, Form, base_at, byte, need_at, returns_at};
+use gb_states::{CertFault, Form, ProcedureForm, base_at, byte, need_at, returns_at};
 use std::marker::Model;
 
 /// A procedure: where it begins, above which address its items end, how many bytes of stack it needs, what it may write, which
@@ -84,18 +84,23 @@ fn names_by(
     }
 }
 
-/// How the state of an exit is spelled, which may name the addresses that are to be kept, and the exit's bytes.
+/// How the state of an exit is spelled, which may name the addresses that are to be kept, and the exit's bytes; the base is known.
 fn exit_form(
     version: u8,
     facts: u16,
+    base: u16,
     is_main: bool,
     region: Region,
     bytes: &[u8],
 ) -> Result<(Form, &[u8]), CertFault>
-    ensures { Gives (λ x. (x.0, x.1.now)) result (mapped (λ d. form_by (version == 4) version facts (length d.0)) (names_by (version == 4) is_main region) bytes.now) }
+    ensures { Gives (λ x. (x.0, x.1.now)) result (mapped (exit_form (version == 4) version facts base) (names_by (version == 4) is_main region) bytes.now) }
 {
     let ((kept, _mark), rest) = names_by(version, is_main, region, bytes)?;
-    Ok((Form::of(version, facts, kept.len() as u8), rest))
+    let form = ProcedureForm {
+        kept: kept.len() as u8,
+        base,
+    };
+    Ok((Form::of(version, facts, form), rest))
 }
 
 impl<'a> ProcedureRef<'a> {
@@ -220,7 +225,14 @@ impl<'a> ProcedureRef<'a> {
         let Ok(rest) = skip_front(rules, self.is_main, self.region, self.body) else {
             unreachable!();
         };
-        let exit = exit_form(self.version, self.facts, self.is_main, self.region, rest);
+        let exit = exit_form(
+            self.version,
+            self.facts,
+            self.base(),
+            self.is_main,
+            self.region,
+            rest,
+        );
         let Ok((form, rest)) = exit else {
             unreachable!();
         };

@@ -12,6 +12,7 @@ use crate::writer::Version;
 use gb_domain::relations::Relations;
 use gb_domain::summary::Summary;
 use gb_domain::types::{Abs, Cell, Core, Ctl, Flg, ImeSet, KeptBanks, May, Origin, Rules, Val};
+use gb_ops::machine::Region;
 use gb_ops::registers::Registers;
 use std::alloc::AllocError;
 
@@ -252,29 +253,37 @@ fn put_cells(version: Version, cells: &[Cell], out: &mut Vec<u8>) -> Result<(), 
 /// Adds what is known of several parts together, and in version 4 what is said of the whole program: nothing in versions 1 and 2.
 fn put_told_by(
     version: Version,
+    region: Region,
+    base: u16,
     relations: &Relations,
     summary: &Summary,
     out: &mut Vec<u8>,
 ) -> Result<(), AllocError>
-    ensures { OnOk result (out.new.items ≡ out.old.items ++ by_version.told_by (is_fourth version) (rules_in version) (relations.now, summary.now)) }
+    ensures { OnOk result (out.new.items ≡ out.old.items ++ by_version.told_by (is_fourth version) (rules_in version) region base (relations.now, summary.now)) }
 {
     if version.is_fourth() {
-        put_told(relations, summary, out)
+        put_told(region, base, relations, summary, out)
     } else {
         put_relations_by(version.rules(), relations, out)
     }
 }
 
-/// Adds a state: its core with its test, its items, what is known of several parts together and said of the whole program as far as
-/// the version says it, and its cells.
+/// Adds a state of a procedure with this base: its core with its test, its items, what is known of several parts together and said of
+/// the whole program as far as the version says it, and its cells.
 #[tactic(auto, unfolding(crate::specs::Spelled::state))]
-pub(crate) fn put_state(version: Version, state: &Abs, out: &mut Vec<u8>) -> Result<(), AllocError>
+pub(crate) fn put_state(
+    version: Version,
+    region: Region,
+    base: u16,
+    state: &Abs,
+    out: &mut Vec<u8>,
+) -> Result<(), AllocError>
     requires { IsStateSaid version state.now }
-    ensures { OnOk result (out.new.items ≡ out.old.items ++ by_version.state version state.now) }
+    ensures { OnOk result (out.new.items ≡ out.old.items ++ by_version.state version region base state.now) }
 {
     let relations = state.relations();
     put_core(version, state.core(), compared(relations.byte.test), out)?;
     put_items(version, state.items(), out)?;
-    put_told_by(version, relations, state.summary(), out)?;
+    put_told_by(version, region, base, relations, state.summary(), out)?;
     put_cells(version, state.cells(), out)
 }

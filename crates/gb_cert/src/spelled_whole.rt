@@ -12,14 +12,16 @@ ghost use Rattle.gb_states.specs.WholeRules.{is_said, is_origin_in};
 ghost use Rattle.gb_states.specs.WholeSpelling as spelled;
 
 use crate::spelled::{flag, origin_number, put, word};
-use crate::told::{present_in, present_number, put_address, put_parts, registers_number};
+use crate::told::{present_by, present_number, put_address, put_parts, registers_number};
 use gb_domain::pairs::Bounds;
 use gb_domain::relations::Relations;
 use gb_domain::summary::{
     BankShadows, Fact, Fill, FillEnd, Reach, Shadows, Summary, is_unshadowed,
 };
 use gb_domain::types::{KeptBanks, Origin, Val};
+use gb_ops::machine::Region;
 use gb_ops::op::Pointer;
+use gb_states::InMemory;
 use gb_states::whole::Declared;
 use std::alloc::AllocError;
 
@@ -204,21 +206,25 @@ fn put_bank_shadows(shadows: &BankShadows, out: &mut Vec<u8>) -> Result<(), Allo
 
 // ---- what a state says of the whole program
 
-/// Which parts there are.
-fn declared_in(summary: &Summary) -> Declared
-    ensures { result ≡ spelled.declared_in summary.now }
+/// Which parts there are, where an item is among the places of the one byte or not.
+fn declared_in(item: bool, summary: &Summary) -> Declared
+    ensures { result ≡ spelled.declared_in item summary.now }
 {
     Declared {
         shadows: has_shadows(&summary.shadows()),
         levels: has_levels(summary),
         aside: summary.aside().is_some(),
+        item,
     }
 }
 
 fn declared_number(declared: Declared) -> u8
     ensures { result ≡ spelled.declared_number declared }
 {
-    4 * flag(declared.aside) + 2 * flag(declared.levels) + flag(declared.shadows)
+    8 * flag(declared.item)
+        + 4 * flag(declared.aside)
+        + 2 * flag(declared.levels)
+        + flag(declared.shadows)
 }
 
 /// Adds where SP points while the stack is put aside, where it is.
@@ -244,19 +250,51 @@ fn put_summary(summary: &Summary, out: &mut Vec<u8>) -> Result<(), AllocError>
     put_aside(summary.aside(), out)
 }
 
-/// Adds what is known of several parts together and what is said of the whole program: which there is of both, and then this.
-#[tactic(auto, unfolding(gb_states::specs::WholeSpelling::told))]
-pub(crate) fn put_told(
+/// The number of the item that lies at an address.
+fn item_number(base: u16, address: u16) -> u8
+    ensures { result ≡ spelled.item_number base address }
+{
+    (base.saturating_sub(1).saturating_sub(address) % 256) as u8
+}
+
+/// Adds which parts there are of both, and these parts; these bytes spell the one byte's place in memory.
+fn put_told_by(
+    place: InMemory,
+    memory: &[u8],
     relations: &Relations,
     summary: &Summary,
     out: &mut Vec<u8>,
 ) -> Result<(), AllocError>
-    ensures { OnOk result (out.new.items ≡ out.old.items ++ spelled.told (relations.now, summary.now)) }
+    ensures { OnOk result (out.new.items ≡ out.old.items ++ spelled.told_by place memory.now (relations.now, summary.now)) }
 {
-    let present = present_number(present_in(relations));
-    put(&[present, declared_number(declared_in(summary))], out)?;
-    put_parts(relations, out)?;
+    let present = present_by(matches!(place, InMemory::Address), relations);
+    let declared = declared_in(matches!(place, InMemory::Item), summary);
+    put(&[present_number(present), declared_number(declared)], out)?;
+    put_parts(memory, relations, out)?;
     put_summary(summary, out)
+}
+
+/// Adds what is known of several parts together and what is said of the whole program, in a procedure with this base: an address in
+/// the region is that of an item.
+#[tactic(auto, unfolding(gb_states::specs::WholeSpelling::told))]
+pub(crate) fn put_told(
+    region: Region,
+    base: u16,
+    relations: &Relations,
+    summary: &Summary,
+    out: &mut Vec<u8>,
+) -> Result<(), AllocError>
+    ensures { OnOk result (out.new.items ≡ out.old.items ++ spelled.told region base (relations.now, summary.now)) }
+{
+    let Some(address) = relations.byte.address else {
+        return put_told_by(InMemory::Nowhere, &[], relations, summary, out);
+    };
+    if address <= region.last && region.first <= address {
+        let number = item_number(base, address);
+        put_told_by(InMemory::Item, &[number], relations, summary, out)
+    } else {
+        put_told_by(InMemory::Address, &word(address), relations, summary, out)
+    }
 }
 
 // ---- what a procedure names

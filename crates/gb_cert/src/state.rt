@@ -21,7 +21,7 @@ use gb_states::form::are_none;
 use gb_states::listed::{append_cells, append_items};
 use gb_states::relations::relations_by;
 use gb_states::role::Role;
-use gb_states::whole_states::{may_be_aside, told_at};
+use gb_states::whole_states::{may_be_aside, stack_bytes, told_at};
 use gb_states::{CertFault, Form, counted, from_place};
 use std::marker::Model;
 
@@ -58,17 +58,18 @@ fn older_kept(number: u8) -> u8
     u8::from(number != 0)
 }
 
-/// What is known of several parts of a state together and what it says of the whole program, after its items; its core is known.
+/// What is known of several parts of a state together and what it says of the whole program, after so many items; its core is known.
 #[inline(always)]
 fn told_by<'b>(
     form: Form,
     role: Role,
     region: Region,
+    count: u8,
     core: &[u8],
     bytes: &'b [u8],
 ) -> Result<((Relations, Summary), &'b [u8]), CertFault>
     requires { 40 ≤ length core.now }
-    ensures { Gives (λ x. ((x.0.0, x.0.1), x.1.now)) result (told_by form role region (checked.core_in (is_fourth form) core.now) (checked.test_in core.now) bytes.now) }
+    ensures { Gives (λ x. ((x.0.0, x.0.1), x.1.now)) result (told_by form role region count (checked.core_in (is_fourth form) core.now) (checked.test_in core.now) bytes.now) }
 {
     let test = test_in(core);
     match form {
@@ -76,10 +77,11 @@ fn told_by<'b>(
             let (relations, rest) = relations_by(rules, region, test, bytes)?;
             Ok(((relations, Summary::none()), rest))
         }
-        Form::Fourth(facts, _) => {
-            // Only this version asks whether the stack may be put aside.
+        Form::Fourth(facts, form) => {
+            // Only this version asks whether the stack may be put aside, and names items.
             let may_be_aside = may_be_aside(role, &core_in(true, core));
-            told_at(facts, region, may_be_aside, test, bytes)
+            let stack = stack_bytes(form, role, region, count);
+            told_at(facts, stack, may_be_aside, test, bytes)
         }
     }
 }
@@ -217,8 +219,9 @@ impl<'a> StateRef<'a> {
         // What versions 1 to 3 can say has the same bytes in all versions.
         ensures older { list_all (is_cell_sayable Extended) self.now.cells ≡ true → result.cells.now ≡ flat_map spelled.cell self.now.cells }
     {
-        let (_, behind) = counted(from_place(self.bytes, CORE), item_width(self.form));
-        let told = told_by(self.form, self.role, self.region, self.bytes, behind);
+        let (items, behind) = counted(from_place(self.bytes, CORE), item_width(self.form));
+        let count = (items.len() / VAL) as u8;
+        let told = told_by(self.form, self.role, self.region, count, self.bytes, behind);
         let Ok((said, cells)) = told else {
             unreachable!();
         };

@@ -42,13 +42,13 @@ pub(crate) fn is_known(facts: &PairFacts) -> bool
     facts.link.is_some() || !(facts.bounds.first == 0 && facts.bounds.last == 0xFFFF)
 }
 
-/// Which parts there are.
-pub(crate) fn present_in(relations: &Relations) -> Present
-    ensures { result ≡ told.present_in relations.now }
+/// Which parts there are, where an address is among them or not.
+pub(crate) fn present_by(address: bool, relations: &Relations) -> Present
+    ensures { result ≡ told.present_by address relations.now }
 {
     Present {
         byte: has_place(&relations.byte),
-        address: relations.byte.address.is_some(),
+        address,
         bits: bits_of(relations.byte.test).is_some(),
         zero: relations.zero.is_some(),
         bc: is_known(&relations.pairs.bc),
@@ -103,21 +103,22 @@ fn put_bits(bits: Option<u8>, out: &mut Vec<u8>) -> Result<(), AllocError>
     }
 }
 
-#[tactic(auto, unfolding(gb_states::specs::RelationSpelling::places))]
-fn put_places(byte: &OneByte, out: &mut Vec<u8>) -> Result<(), AllocError>
-    ensures { OnOk result (out.new.items ≡ out.old.items ++ told.places byte.now) }
+/// Adds the places that hold one byte; these bytes spell the one in memory.
+#[tactic(auto, unfolding(gb_states::specs::RelationSpelling::places_by))]
+fn put_places(memory: &[u8], byte: &OneByte, out: &mut Vec<u8>) -> Result<(), AllocError>
+    ensures { OnOk result (out.new.items ≡ out.old.items ++ told.places_by memory.now byte.now) }
 {
     put(&[registers_number(&byte.registers)], out)?;
-    put_address(byte.address, out)?;
+    put(memory, out)?;
     put_bits(bits_of(byte.test), out)
 }
 
 /// Adds the places that hold one byte, where there are some.
-fn put_byte(byte: &OneByte, out: &mut Vec<u8>) -> Result<(), AllocError>
-    ensures { OnOk result (out.new.items ≡ out.old.items ++ told.where_there (has_place byte.now) (told.places byte.now)) }
+fn put_byte(memory: &[u8], byte: &OneByte, out: &mut Vec<u8>) -> Result<(), AllocError>
+    ensures { OnOk result (out.new.items ≡ out.old.items ++ told.where_there (has_place byte.now) (told.places_by memory.now byte.now)) }
 {
     if has_place(byte) {
-        put_places(byte, out)
+        put_places(memory, byte, out)
     } else {
         Ok(())
     }
@@ -207,11 +208,15 @@ fn put_pairs(pairs: &Pairs, out: &mut Vec<u8>) -> Result<(), AllocError>
 
 // ---- all of them
 
-/// Adds the parts that there are.
-pub(crate) fn put_parts(relations: &Relations, out: &mut Vec<u8>) -> Result<(), AllocError>
-    ensures { OnOk result (out.new.items ≡ out.old.items ++ told.parts relations.now) }
+/// Adds the parts that there are; these bytes spell the one byte's place in memory.
+pub(crate) fn put_parts(
+    memory: &[u8],
+    relations: &Relations,
+    out: &mut Vec<u8>,
+) -> Result<(), AllocError>
+    ensures { OnOk result (out.new.items ≡ out.old.items ++ told.parts_by memory.now relations.now) }
 {
-    put_byte(&relations.byte, out)?;
+    put_byte(memory, &relations.byte, out)?;
     put_zero(relations.zero, out)?;
     put_pairs(&relations.pairs, out)
 }
@@ -220,8 +225,15 @@ pub(crate) fn put_parts(relations: &Relations, out: &mut Vec<u8>) -> Result<(), 
 fn put_relations(relations: &Relations, out: &mut Vec<u8>) -> Result<(), AllocError>
     ensures { OnOk result (out.new.items ≡ out.old.items ++ told.relations relations.now) }
 {
-    put(&[present_number(present_in(relations))], out)?;
-    put_parts(relations, out)
+    let address = relations.byte.address;
+    put(
+        &[present_number(present_by(address.is_some(), relations))],
+        out,
+    )?;
+    match address {
+        None => put_parts(&[], relations, out),
+        Some(address) => put_parts(&word(address), relations, out),
+    }
 }
 
 /// Adds what is known of several parts together: nothing in versions 1 and 2.

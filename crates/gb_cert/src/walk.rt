@@ -4,16 +4,18 @@ ghost use Rattle.std.specs.Prelude.{◌≡◌, ◌==◌, ◌≤◌};
 ghost use Rattle.gb_states.specs.Below.gb_fields.Format.{Gives, both, mapped, several};
 ghost use Rattle.gb_states.specs.Below.gb_fields.Reading.{base_at, need_at};
 ghost use Rattle.gb_cert.specs.Borrowed.{front_at};
-ghost use Rattle.gb_cert.specs.Skipping.{skipped, count_named};
+ghost use Rattle.gb_cert.specs.Places.{form_if};
+ghost use Rattle.gb_cert.specs.Skipping.{skipped, form_named, count_items};
 ghost use Rattle.gb_domain.specs.Rules.{after_cell};
 ghost use Rattle.gb_states.specs.Rules.{after_range, key};
 ghost use Rattle.gb_states.specs.RelationReading.{relations_by};
 ghost use Rattle.gb_states.specs.Reading.{items_at, cells_at, state_at, range_at, ranges_at, exit_at, needed_at, body_at, procedure_at};
 ghost use Rattle.gb_states.specs.Forms.{cell_by, vals_by, state_by};
-ghost use Rattle.gb_states.specs.WholeRules.{kept_count, kept_of};
+ghost use Rattle.gb_states.specs.WholeRules.{stack_bytes, form_in, procedure_form};
 ghost use Rattle.gb_states.specs.WholeReading as whole;
 ghost use Rattle.gb_states.specs.WholeReading.{told_at, named_at, procedure_by, node_by};
 
+use gb_domain::places::StackBytes;
 use gb_domain::types::Rules;
 use gb_ops::machine::Region;
 use gb_states::fields::pass_core;
@@ -22,11 +24,14 @@ use gb_states::relations::relations_by;
 use gb_states::role::Role;
 use gb_states::states::{item_count_at, range_at};
 use gb_states::whole::kept_addresses_at;
-use gb_states::whole_states::told_at;
+use gb_states::whole_states::{stack_bytes, told_at};
 use gb_states::{
-    AnyHead, CertFault, Form, base_at, byte, cell_limit, count_within, entry_at, item_bytes,
-    need_at, range_room, returns_at, word_between,
+    AnyHead, CertFault, Form, ProcedureForm, base_at, byte, cell_limit, count_within, entry_at,
+    item_bytes, need_at, range_room, returns_at, word_between,
 };
+
+/// The form that is taken if a procedure's own isn't known.
+const NO_FORM: ProcedureForm = ProcedureForm { kept: 0, base: 0 };
 
 /// Passes over so many bytes of the stack.
 #[inline(always)]
@@ -230,54 +235,57 @@ pub fn skip_procedure(
 
 // ---- version 4
 
-#[tactic(auto, unfolding(gb_states::specs::WholeReading::items_at))]
+/// Passes over the items: how many there are.
+#[tactic(auto, using(crate::proofs::FourthSkipping::skip_items))]
 fn skip_fourth_items(
-    kept: u8,
+    form: ProcedureForm,
     role: Role,
     stack_set: bool,
     bytes: &[u8],
-) -> Result<&[u8], CertFault>
-    ensures { Gives (λ x. x.now) result (skipped (whole.items_at kept role stack_set) bytes.now) }
+) -> Result<(u8, &[u8]), CertFault>
+    ensures { Gives (λ x. (x.0, x.1.now)) result (mapped count_items (whole.items_at form.kept role stack_set) bytes.now) }
 {
     let (count, rest) = item_count_at(Rules::Extended, role, stack_set, bytes)?;
-    skip_some_items(Form::Fourth(0, kept), count, rest)
+    let after = skip_some_items(Form::Fourth(0, form), count, rest)?;
+    Ok((count, after))
 }
 
 #[tactic(auto, unfolding(gb_states::specs::WholeReading::cells_at))]
-fn skip_fourth_cells(kept: u8, region: Region, bytes: &[u8]) -> Result<&[u8], CertFault>
-    ensures { Gives (λ x. x.now) result (skipped (whole.cells_at kept region) bytes.now) }
+fn skip_fourth_cells(form: ProcedureForm, region: Region, bytes: &[u8]) -> Result<&[u8], CertFault>
+    ensures { Gives (λ x. x.now) result (skipped (whole.cells_at form.kept region) bytes.now) }
 {
     let (count, rest) = count_within(cell_limit(Rules::Extended), bytes)?;
-    skip_some_cells(Form::Fourth(0, kept), region, count, rest)
+    skip_some_cells(Form::Fourth(0, form), region, count, rest)
 }
 
 /// Passes over what is known of several parts together and said of the whole program, and over the cells.
 fn skip_fourth_told(
     facts: u16,
-    kept: u8,
-    region: Region,
+    form: ProcedureForm,
+    stack: StackBytes,
     aside: (bool, Option<u8>),
     bytes: &[u8],
 ) -> Result<&[u8], CertFault>
-    ensures { Gives (λ x. x.now) result (skipped (both (told_at facts region aside.0 aside.1) (whole.cells_at kept region)) bytes.now) }
+    ensures { Gives (λ x. x.now) result (skipped (both (told_at facts stack aside.0 aside.1) (whole.cells_at form.kept stack.region)) bytes.now) }
 {
-    let (_told, rest) = told_at(facts, region, aside.0, aside.1, bytes)?;
-    skip_fourth_cells(kept, region, rest)
+    let (_told, rest) = told_at(facts, stack, aside.0, aside.1, bytes)?;
+    skip_fourth_cells(form, stack.region, rest)
 }
 
 #[tactic(auto, using(crate::proofs::FourthSkipping::skip_state))]
 fn skip_fourth_state(
     facts: u16,
-    kept: u8,
+    form: ProcedureForm,
     role: Role,
     region: Region,
     bytes: &[u8],
 ) -> Result<&[u8], CertFault>
-    ensures { Gives (λ x. x.now) result (skipped (whole.state_at facts kept role region) bytes.now) }
+    ensures { Gives (λ x. x.now) result (skipped (whole.state_at facts form role region) bytes.now) }
 {
-    let ((stack_set, aside), rest) = pass_fourth_core(kept, role, bytes)?;
-    let rest = skip_fourth_items(kept, role, stack_set, rest)?;
-    skip_fourth_told(facts, kept, region, aside, rest)
+    let ((stack_set, aside), rest) = pass_fourth_core(form.kept, role, bytes)?;
+    let (count, rest) = skip_fourth_items(form, role, stack_set, rest)?;
+    let stack = stack_bytes(form, role, region, count);
+    skip_fourth_told(facts, form, stack, aside, rest)
 }
 
 /// Passes over a state of any version.
@@ -286,46 +294,51 @@ fn skip_state_by(form: Form, role: Role, region: Region, bytes: &[u8]) -> Result
 {
     match form {
         Form::Older(rules) => skip_state(rules, role, region, bytes),
-        Form::Fourth(facts, kept) => skip_fourth_state(facts, kept, role, region, bytes),
+        Form::Fourth(facts, form) => skip_fourth_state(facts, form, role, region, bytes),
     }
 }
 
 #[tactic(auto, using(crate::proofs::FourthSkipping::skip_exit))]
 fn skip_fourth_exit(
     facts: u16,
-    kept: u8,
+    form: ProcedureForm,
     is_main: bool,
     region: Region,
     bytes: &[u8],
 ) -> Result<&[u8], CertFault>
-    ensures { Gives (λ x. x.now) result (skipped (whole.exit_at facts kept is_main region) bytes.now) }
+    ensures { Gives (λ x. x.now) result (skipped (whole.exit_at facts form is_main region) bytes.now) }
 {
     let (returns, rest) = returns_at(is_main, bytes)?;
     if returns {
-        skip_fourth_state(facts, kept, Role::Exit, region, rest)
+        skip_fourth_state(facts, form, Role::Exit, region, rest)
     } else {
         Ok(rest)
     }
 }
 
-/// Passes over the addresses to be kept, the mark and the exit: how many addresses there are.
+/// Passes over the addresses to be kept, the mark and the exit of a procedure with this base: what the spelling of its states depends
+/// on.
 #[tactic(auto, using(crate::proofs::FourthSkipping::skip_named))]
 fn skip_named(
     facts: u16,
+    base: u16,
     is_main: bool,
     region: Region,
     bytes: &[u8],
-) -> Result<(u8, &[u8]), CertFault>
-    ensures { Gives (λ x. (x.0, x.1.now)) result (mapped count_named (named_at facts is_main region) bytes.now) }
+) -> Result<(ProcedureForm, &[u8]), CertFault>
+    ensures { Gives (λ x. (x.0, x.1.now)) result (mapped (form_named base) (named_at facts base is_main region) bytes.now) }
 {
     let (kept, rest) = kept_addresses_at(is_main, region, bytes)?;
     let (_mark, rest) = byte(rest)?;
-    let count = kept.len() as u8;
-    let after = skip_fourth_exit(facts, count, is_main, region, rest)?;
-    Ok((count, after))
+    let form = ProcedureForm {
+        kept: kept.len() as u8,
+        base,
+    };
+    let after = skip_fourth_exit(facts, form, is_main, region, rest)?;
+    Ok((form, after))
 }
 
-/// Passes over a procedure of version 4: how many addresses it names to be kept.
+/// Passes over a procedure of version 4: what the spelling of its states depends on.
 #[tactic(auto, using(crate::proofs::FourthSkipping::skip_procedure))]
 fn skip_fourth_procedure(
     facts: u16,
@@ -333,19 +346,20 @@ fn skip_fourth_procedure(
     nodes: u32,
     is_main: bool,
     bytes: &[u8],
-) -> Result<(u8, &[u8]), CertFault>
-    ensures { Gives (λ x. (x.0, x.1.now)) result (mapped kept_count (whole.procedure_at facts region nodes is_main) bytes.now) }
+) -> Result<(ProcedureForm, &[u8]), CertFault>
+    ensures { Gives (λ x. (x.0, x.1.now)) result (mapped procedure_form (whole.procedure_at facts region nodes is_main) bytes.now) }
 {
     let (_entry, rest) = entry_at(4, nodes, bytes)?;
-    let (_base, rest) = base_at(is_main, region, rest)?;
+    let (base, rest) = base_at(is_main, region, rest)?;
     let (_need, rest) = need_at(Rules::Extended, is_main, region, rest)?;
     let rest = skip_ranges(Rules::Extended, is_main, region, rest)?;
-    skip_named(facts, is_main, region, rest)
+    skip_named(facts, base, is_main, region, rest)
 }
 
 // ---- any version
 
-/// A procedure that begins at one of so many nodes, in a certificate of so many facts: how many addresses it names to be kept.
+/// A procedure that begins at one of so many nodes, in a certificate of so many facts: what the spelling of its states depends on, which
+/// is nothing in versions 1 to 3.
 #[tactic(auto, using(crate::proofs::FourthSkipping::skip_older_procedure))]
 pub fn skip_procedure_by(
     version: u8,
@@ -354,23 +368,24 @@ pub fn skip_procedure_by(
     nodes: u32,
     is_main: bool,
     bytes: &[u8],
-) -> Result<(u8, &[u8]), CertFault>
-    ensures { Gives (λ x. (x.0, x.1.now)) result (mapped kept_count (procedure_by (version == 4) version facts region nodes is_main) bytes.now) }
+) -> Result<(ProcedureForm, &[u8]), CertFault>
+    ensures { Gives (λ x. (x.0, x.1.now)) result (mapped (form_if (version == 4)) (procedure_by (version == 4) version facts region nodes is_main) bytes.now) }
 {
     if version == 4 {
         return skip_fourth_procedure(facts, region, nodes, is_main, bytes);
     }
     let rest = skip_procedure(version, region, nodes, is_main, bytes)?;
-    Ok((0, rest))
+    Ok((NO_FORM, rest))
 }
 
-/// How many addresses the procedure with this number names to be kept.
-pub fn kept_of(counts: &[u8], number: u16) -> u8
-    ensures { result ≡ kept_of counts.now number }
+/// The form of the procedure with this number.
+#[inline(always)]
+pub fn form_in(forms: &[ProcedureForm], number: u16) -> ProcedureForm
+    ensures { result ≡ form_in forms.now number }
 {
-    match counts.get(number as usize) {
-        Some(count) => *count,
-        None => 0,
+    match forms.get(number as usize) {
+        Some(form) => *form,
+        None => NO_FORM,
     }
 }
 
@@ -379,15 +394,15 @@ pub fn kept_of(counts: &[u8], number: u16) -> u8
 pub fn skip_node<'a>(
     head: AnyHead,
     facts: u16,
-    kept: &[u8],
+    forms: &[ProcedureForm],
     before: (u16, u16),
     bytes: &'a [u8],
 ) -> Result<((u16, u16), &'a [u8]), CertFault>
-    ensures { Gives (λ x. (x.0, x.1.now)) result (mapped key (node_by (head.version == 4) head.version facts (kept_of kept.now) head.region head.procedures before) bytes.now) }
+    ensures { Gives (λ x. (x.0, x.1.now)) result (mapped key (node_by (head.version == 4) head.version facts (form_in forms.now) head.region head.procedures before) bytes.now) }
 {
     let (key, rest) = key_by(head.version, head.procedures, before, bytes)?;
     let (_bank, state) = word_between(0, 511, rest)?;
-    let form = Form::of(head.version, facts, kept_of(kept, key.0));
+    let form = Form::of(head.version, facts, form_in(forms, key.0));
     let after = skip_state_by(form, Role::of(key.0), head.region, state)?;
     Ok((key, after))
 }

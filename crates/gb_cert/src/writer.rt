@@ -10,7 +10,7 @@ ghost use Rattle.gb_states.specs.WholeSpelling as spelled;
 ghost use Rattle.gb_states.specs.WholeSpelling.{Spells};
 ghost use Rattle.gb_cert.specs.declared.writer.WriteFault.TheVariants.{Memory};
 ghost use Rattle.gb_cert.specs.Spelled as by_version;
-ghost use Rattle.gb_cert.specs.Written.{number_of, is_fourth, rules_in, exit_of, procedure_of, node_of, certificate_of, fact_room_by, kept_room_by, is_mark_by, is_wide, is_deep, has_no_entry, has_no_owner, names_many, has_mark, exit_has, returns_with, stands_with, has_unsayable, says_state, IsProcedureFault, ProceduresKeepLimits, IsNodeFault, IsWriteFault, KeepsLimits};
+ghost use Rattle.gb_cert.specs.Written.{number_of, is_fourth, rules_in, exit_of, procedure_of, form_of, node_of, certificate_of, fact_room_by, kept_room_by, is_mark_by, is_wide, is_deep, has_no_entry, has_no_owner, names_many, has_mark, exit_has, returns_with, stands_with, has_unsayable, says_state, IsProcedureFault, ProceduresKeepLimits, IsNodeFault, IsWriteFault, KeepsLimits};
 
 use crate::spellable::check;
 use crate::spelled::{put, put_state, units, word};
@@ -280,15 +280,21 @@ fn put_ranges(ranges: &[Range], out: &mut Vec<u8>) -> Result<(), AllocError>
 
 /// Adds whether a procedure returns, and in what state.
 #[tactic(auto, using(crate::proofs::Refusing::state_said), unfolding(crate::specs::Spelled::exit))]
-fn put_exit(version: Version, exit: Option<&Abs>, out: &mut Vec<u8>) -> Result<(), AllocError>
+fn put_exit(
+    version: Version,
+    region: Region,
+    base: u16,
+    exit: Option<&Abs>,
+    out: &mut Vec<u8>,
+) -> Result<(), AllocError>
     requires { exit_has (has_unsayable version) (exit_of exit) ≡ false }
-    ensures { OnOk result (out.new.items ≡ out.old.items ++ by_version.exit version (exit_of exit.entry)) }
+    ensures { OnOk result (out.new.items ≡ out.old.items ++ by_version.exit version region base (exit_of exit.entry)) }
 {
     match exit {
         None => put(&[0], out),
         Some(state) => {
             put(&[1], out)?;
-            put_state(version, state, out)
+            put_state(version, region, base, state, out)
         }
     }
 }
@@ -324,26 +330,28 @@ fn put_named(
 #[tactic(auto, unfolding(crate::specs::Spelled::body))]
 fn put_body(
     version: Version,
+    region: Region,
     procedure: &ProcedurePlan<'_>,
     out: &mut Vec<u8>,
 ) -> Result<(), AllocError>
     requires ranges { length procedure.now.ranges.now ≤ 8 }
     requires kept { length procedure.now.kept.now ≤ kept_room_by (is_fourth version) }
     requires said { returns_with (has_unsayable version) procedure.now ≡ false }
-    ensures { OnOk result (out.new.items ≡ out.old.items ++ by_version.body version (procedure_of procedure.now)) }
+    ensures { OnOk result (out.new.items ≡ out.old.items ++ by_version.body version region (procedure_of procedure.now)) }
 {
     let rules = version.rules();
     put_base(rules, procedure.base, out)?;
     put(&word(units(rules, procedure.need)), out)?;
     put_ranges(procedure.ranges, out)?;
     put_named(version, procedure, out)?;
-    put_exit(version, procedure.exit, out)
+    put_exit(version, region, procedure.base, procedure.exit, out)
 }
 
 /// Adds a procedure.
 #[tactic(auto, unfolding(crate::specs::Spelled::procedure))]
 fn put_procedure(
     version: Version,
+    region: Region,
     procedure: &ProcedurePlan<'_>,
     out: &mut Vec<u8>,
 ) -> Result<(), AllocError>
@@ -351,43 +359,61 @@ fn put_procedure(
     requires ranges { length procedure.now.ranges.now ≤ 8 }
     requires kept { length procedure.now.kept.now ≤ kept_room_by (is_fourth version) }
     requires said { returns_with (has_unsayable version) procedure.now ≡ false }
-    ensures { OnOk result (out.new.items ≡ out.old.items ++ by_version.procedure version (procedure_of procedure.now)) }
+    ensures { OnOk result (out.new.items ≡ out.old.items ++ by_version.procedure version region (procedure_of procedure.now)) }
 {
     put_node_number(version, procedure.entry, out)?;
-    put_body(version, procedure, out)
+    put_body(version, region, procedure, out)
 }
 
-/// Adds a node.
+/// The base of the procedure with this number, or 0 if there is no such procedure.
+fn base_of(procedures: &[ProcedurePlan<'_>], number: u16) -> u16
+    ensures { result ≡ (form_of procedures.now number).base }
+{
+    match procedures.get(number as usize) {
+        Some(procedure) => procedure.base,
+        None => 0,
+    }
+}
+
+/// Adds a node of one of these procedures.
 #[tactic(auto, using(crate::proofs::Refusing::state_said), unfolding(crate::specs::Spelled::node))]
-fn put_node(version: Version, node: &NodePlan<'_>, out: &mut Vec<u8>) -> Result<(), AllocError>
+fn put_node(
+    version: Version,
+    region: Region,
+    procedures: &[ProcedurePlan<'_>],
+    node: &NodePlan<'_>,
+    out: &mut Vec<u8>,
+) -> Result<(), AllocError>
     requires procedure { node.now.procedure ≤ procedure_limit_by (is_fourth version) }
     requires said { stands_with (has_unsayable version) node.now ≡ false }
-    ensures { OnOk result (out.new.items ≡ out.old.items ++ by_version.node version (node_of node.now)) }
+    ensures { OnOk result (out.new.items ≡ out.old.items ++ by_version.node version region (form_of procedures.now) (node_of node.now)) }
 {
     put_procedure_number(version, node.procedure, out)?;
     put(&word(node.address), out)?;
     put(&word(node.bank), out)?;
-    put_state(version, node.state, out)
+    let base = base_of(procedures, node.procedure);
+    put_state(version, region, base, node.state, out)
 }
 
-/// Adds all nodes, where each belongs to one of so many procedures.
+/// Adds all nodes, where each belongs to one of these procedures.
 fn put_nodes(
     version: Version,
-    procedures: u16,
+    region: Region,
+    procedures: &[ProcedurePlan<'_>],
     nodes: &[NodePlan<'_>],
     out: &mut Vec<u8>,
 ) -> Result<(), WriteFault>
-    requires few { procedures ≤ procedure_limit_by (is_fourth version) }
+    requires few { length procedures.now ≤ procedure_limit_by (is_fourth version) }
     requires said { list_any (stands_with (has_unsayable version)) nodes.now ≡ false }
-    ensures written { OnOk result (out.new.items ≡ out.old.items ++ flat_map (λ n. by_version.node version (node_of n)) nodes.now) }
-    ensures owners { OnOk result (list_any (has_no_owner procedures) nodes.now ≡ false) }
-    ensures fault { IfErr result (IsNodeFault procedures nodes.now) }
+    ensures written { OnOk result (out.new.items ≡ out.old.items ++ flat_map (λ n. by_version.node version region (form_of procedures.now) (node_of n)) nodes.now) }
+    ensures owners { OnOk result (list_any (has_no_owner (length procedures.now)) nodes.now ≡ false) }
+    ensures fault { IfErr result (IsNodeFault (length procedures.now) nodes.now) }
 {
     for node in nodes {
-        if node.procedure >= procedures {
+        if node.procedure as usize >= procedures.len() {
             return Err(WriteFault::Owner);
         }
-        put_node(version, node, out)?;
+        put_node(version, region, procedures, node, out)?;
     }
     Ok(())
 }
@@ -422,19 +448,20 @@ fn check_procedure(
 /// Adds all procedures, where they keep their limits.
 fn put_procedures(
     version: Version,
+    region: Region,
     nodes: u32,
     procedures: &[ProcedurePlan<'_>],
     out: &mut Vec<u8>,
 ) -> Result<(), WriteFault>
     requires few { nodes ≤ node_limit (number_of version) }
     requires said { list_any (returns_with (has_unsayable version)) procedures.now ≡ false }
-    ensures written { OnOk result (out.new.items ≡ out.old.items ++ flat_map (λ p. by_version.procedure version (procedure_of p)) procedures.now) }
+    ensures written { OnOk result (out.new.items ≡ out.old.items ++ flat_map (λ p. by_version.procedure version region (procedure_of p)) procedures.now) }
     ensures kept { OnOk result (ProceduresKeepLimits version nodes procedures.now) }
     ensures fault { IfErr result (IsProcedureFault version nodes procedures.now) }
 {
     for procedure in procedures {
         check_procedure(version, nodes, procedure)?;
-        put_procedure(version, procedure, out)?;
+        put_procedure(version, region, procedure, out)?;
     }
     Ok(())
 }
@@ -455,8 +482,9 @@ fn put_certificate(plan: &CertificatePlan<'_>, out: &mut Vec<u8>) -> Result<(), 
     let version = plan.version;
     put_head(plan, out)?;
     put_facts_by(version, plan.facts, out)?;
-    put_procedures(version, plan.nodes.len() as u32, plan.procedures, out)?;
-    put_nodes(version, plan.procedures.len() as u16, plan.nodes, out)?;
+    let count = plan.nodes.len() as u32;
+    put_procedures(version, plan.region, count, plan.procedures, out)?;
+    put_nodes(version, plan.region, plan.procedures, plan.nodes, out)?;
     Ok(())
 }
 

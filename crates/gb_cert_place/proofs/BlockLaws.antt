@@ -1,6 +1,7 @@
 -- Each block is read from left to right.
 use Rattle.std.proofs.Common.{◌≡◌, ℕ, ◌==◌, Bool, List, Option, Err, refl}
 use Rattle.gb_ops.specs.declared.machine.Region.{Region}
+use Rattle.gb_domain.specs.declared.places.StackBytes.{StackBytes}
 use Rattle.gb_domain.specs.declared.rules.Rules.{Rules}
 use Rattle.gb_domain.specs.declared.rules.Rules.TheVariants.{Extended}
 use Rattle.gb_domain.specs.Limits.{cell_room}
@@ -43,7 +44,7 @@ IsLocal-block (block.Core form role) = IsLocal-mapped forget _ (IsLocal-core_by 
 IsLocal-block (block.ItemCount rules role stack_set) = IsLocal-mapped forget _ (IsLocal-item_count rules role stack_set)
 IsLocal-block (block.Item form index) = IsLocal-mapped forget _ (IsLocal-val_by form)
 IsLocal-block (block.Told region test) = IsLocal-mapped forget _ (IsLocal-relations region test)
-IsLocal-block (block.ToldWhole facts region may_be_aside test) = IsLocal-mapped forget _ (IsLocal-told facts region may_be_aside test)
+IsLocal-block (block.ToldWhole facts k may_be_aside test) = IsLocal-mapped forget _ (IsLocal-told facts k may_be_aside test)
 IsLocal-block (block.CellCount rules) = IsLocal-mapped forget _ (IsLocal-count_within (cell_room rules))
 IsLocal-block (block.Cell form index region least) = IsLocal-mapped forget _ (IsLocal-cell_by form region least)
 IsLocal-block (block.Key version procedures before) = IsLocal-mapped forget _ (IsLocal-key_by (version == 4) procedures before)
@@ -63,9 +64,9 @@ pub no_told : (region : Region) (test : Option ℕ) (bytes : List ℕ) (e : Cert
 unfolding read_block
 no_told region test bytes e h = rw h refl
 
-pub no_told_whole : (facts : ℕ) (region : Region) (may_be_aside : Bool) (test : Option ℕ) (bytes : List ℕ) (e : CertFault) → told_at facts region may_be_aside test bytes ≡ Err e → read_block (block.ToldWhole facts region may_be_aside test) bytes ≡ Err e
+pub no_told_whole : (facts : ℕ) (k : StackBytes) (may_be_aside : Bool) (test : Option ℕ) (bytes : List ℕ) (e : CertFault) → told_at facts k may_be_aside test bytes ≡ Err e → read_block (block.ToldWhole facts k may_be_aside test) bytes ≡ Err e
 unfolding read_block
-no_told_whole facts region may_be_aside test bytes e h = rw h refl
+no_told_whole facts k may_be_aside test bytes e h = rw h refl
 
 pub no_need : (rules : Rules) (is_main : Bool) (region : Region) (bytes : List ℕ) (e : CertFault) → need_at rules is_main region bytes ≡ Err e → read_block (block.Need rules is_main region) bytes ≡ Err e
 unfolding read_block

@@ -6,8 +6,10 @@ use Rattle.std.proofs.lemmas.Bool.Decides.{nat_tests}
 use Rattle.gb_ops.specs.declared.machine.Region.{Region}
 use Rattle.gb_fields.specs.declared.fault.CertFault.{CertFault}
 use Rattle.gb_fields.specs.declared.fault.CertFault.TheVariants as fault
+use Rattle.gb_states.specs.declared.form.ProcedureForm.{ProcedureForm}
 use Rattle.gb_states.specs.declared.role.Role.{Role}
 use Rattle.gb_fields.specs.declared.head.Head.{Head}
+use Rattle.gb_domain.specs.declared.places.StackBytes.{StackBytes}
 use Rattle.gb_domain.specs.declared.rules.Rules.{Rules}
 use Rattle.gb_domain.specs.Limits.{cell_room}
 use Rattle.gb_fields.specs.Limits.{range_room, fact_limit, kept_room}
@@ -115,7 +117,7 @@ block_decides (block.Core form role) bytes right = within_decides _ 40 (IsWithin
 block_decides (block.ItemCount rules role stack_set) bytes right = within_decides _ 1 (IsWithin-mapped forget _ 1 (IsWithin-item_count rules role stack_set)) bytes
 block_decides (block.Item form index) bytes right = within_decides _ 3 (IsWithin-mapped forget _ 3 (IsWithin-val_by form)) bytes
 block_decides (block.Told region test) bytes right = within_decides _ 30 (IsWithin-mapped forget _ 30 (IsWithin-relations region test)) bytes
-block_decides (block.ToldWhole facts region may_be_aside test) bytes right = within_decides _ 116 (IsWithin-mapped forget _ 116 (IsWithin-told facts region may_be_aside test)) bytes
+block_decides (block.ToldWhole facts k may_be_aside test) bytes right = within_decides _ 116 (IsWithin-mapped forget _ 116 (IsWithin-told facts k may_be_aside test)) bytes
 block_decides (block.CellCount rules) bytes right = within_decides _ 1 (IsWithin-mapped forget _ 1 (IsWithin-count_within (cell_room rules))) bytes
 block_decides (block.Cell form index region least) bytes right = within_decides _ 5 (IsWithin-mapped forget _ 5 (IsWithin-cell_by form region least)) bytes
 block_decides (block.Key version procedures before) bytes right = within_decides _ (procedure_width version + 2) (IsWithin-mapped forget _ _ (IsWithin-key_by version procedures before)) bytes
@@ -158,7 +160,7 @@ in_items_right : {form : Form} {role : Role} {stack_set : Bool} {bytes rest : Li
 in_items_right AtItemCount = tt
 in_items_right (BehindItemCount e a) = among_items_right a
 
-in_told_right : {form : Form} {region : Region} {may_be_aside : Bool} {test : Option ℕ} {bytes rest : List ℕ} {b : Block} → InTold form region may_be_aside test bytes b rest → IsRight b rest
+in_told_right : {form : Form} {k : StackBytes} {may_be_aside : Bool} {test : Option ℕ} {bytes rest : List ℕ} {b : Block} → InTold form k may_be_aside test bytes b rest → IsRight b rest
 in_told_right (AtTold e) = tt
 in_told_right (AtToldWhole e) = tt
 
@@ -169,7 +171,7 @@ in_cells_right : {form : Form} {region : Region} {bytes rest : List ℕ} {b : Bl
 in_cells_right AtCellCount = tt
 in_cells_right (BehindCellCount e a) = among_cells_right a
 
-in_lists_right : {form : Form} {region : Region} {may_be_aside : Bool} {test : Option ℕ} {bytes rest : List ℕ} {b : Block} → InLists form region may_be_aside test bytes b rest → IsRight b rest
+in_lists_right : {form : Form} {k : StackBytes} {may_be_aside : Bool} {test : Option ℕ} {bytes rest : List ℕ} {b : Block} → InLists form k may_be_aside test bytes b rest → IsRight b rest
 in_lists_right (FirstTold a) = in_told_right a
 in_lists_right (BehindTold e a) = in_cells_right a
 
@@ -196,19 +198,19 @@ in_exit_right : {number : ℕ} {form : Form} {is_main : Bool} {region : Region} 
 in_exit_right AtReturns = tt
 in_exit_right (BehindReturns e a) = in_state_right a
 
-in_named_right : {number facts : ℕ} {is_main : Bool} {region : Region} {bytes rest : List ℕ} {p : Part} {b : Block} → InNamed number facts is_main region bytes p b rest → IsRight b rest
+in_named_right : {number facts base : ℕ} {is_main : Bool} {region : Region} {bytes rest : List ℕ} {p : Part} {b : Block} → InNamed number facts base is_main region bytes p b rest → IsRight b rest
 in_named_right (FirstKept a) = in_kept_right a
 in_named_right (AtMark e) = tt
 in_named_right (BehindMark e f a) = in_exit_right a
 
-in_ending_right : {number version facts : ℕ} {is_main : Bool} {region : Region} {bytes rest : List ℕ} {p : Part} {b : Block} → InEnding number version facts is_main region bytes p b rest → IsRight b rest
+in_ending_right : {number version facts base : ℕ} {is_main : Bool} {region : Region} {bytes rest : List ℕ} {p : Part} {b : Block} → InEnding number version facts base is_main region bytes p b rest → IsRight b rest
 in_ending_right (EndsNamed e a) = in_named_right a
 in_ending_right (EndsOlder e a) = in_exit_right a
 
 in_base_right : {rules : Rules} {is_main : Bool} {region : Region} {bytes rest : List ℕ} {b : Block} → InBase rules is_main region bytes b rest → IsRight b rest
 in_base_right (AtBase e) = tt
 
-in_needed_right : {number version facts : ℕ} {is_main : Bool} {region : Region} {bytes rest : List ℕ} {p : Part} {b : Block} → InNeeded number version facts is_main region bytes p b rest → IsRight b rest
+in_needed_right : {number version facts base : ℕ} {is_main : Bool} {region : Region} {bytes rest : List ℕ} {p : Part} {b : Block} → InNeeded number version facts base is_main region bytes p b rest → IsRight b rest
 in_needed_right AtNeed = tt
 in_needed_right (BehindNeed e a) = in_ranges_right a
 in_needed_right (BehindRanges e f a) = in_ending_right a
@@ -224,12 +226,12 @@ in_procedure_right (BehindEntry e a) = in_body_right a
 in_procedures_right : {h : Head} {facts : ℕ} {bytes rest : List ℕ} {p : Part} {b : Block} → InProcedures h facts bytes p b rest → IsRight b rest
 in_procedures_right (AtProcedure lt p a) = in_procedure_right a
 
-in_node_right : {h : Head} {facts : ℕ} {counts : List ℕ} {before : ℕ × ℕ} {bytes rest : List ℕ} {b : Block} → InNode h facts counts before bytes b rest → IsRight b rest
+in_node_right : {h : Head} {facts : ℕ} {forms : List ProcedureForm} {before : ℕ × ℕ} {bytes rest : List ℕ} {b : Block} → InNode h facts forms before bytes b rest → IsRight b rest
 in_node_right AtKey = tt
 in_node_right (AtBank e) = tt
 in_node_right (BehindBank e f a) = in_state_right a
 
-in_nodes_right : {h : Head} {facts : ℕ} {counts : List ℕ} {bytes rest : List ℕ} {p : Part} {b : Block} → InNodes h facts counts bytes p b rest → IsRight b rest
+in_nodes_right : {h : Head} {facts : ℕ} {forms : List ProcedureForm} {bytes rest : List ℕ} {p : Part} {b : Block} → InNodes h facts forms bytes p b rest → IsRight b rest
 in_nodes_right (AtNode lt p a) = in_node_right a
 
 among_facts_right : {region : Region} {count : ℕ} {bytes rest : List ℕ} {p : Part} {b : Block} → AmongFacts region count bytes p b rest → IsRight b rest

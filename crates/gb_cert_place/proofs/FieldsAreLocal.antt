@@ -1,6 +1,7 @@
 -- Each reader of a certificate's parts goes from left to right.
 use Rattle.std.proofs.Common.{◌≡◌, ℕ, Bool, true, false, ◌==◌, List, [], Option, Some, None, Ok, Err, ap}
 use Rattle.gb_ops.specs.declared.machine.Region.{Region}
+use Rattle.gb_domain.specs.declared.places.StackBytes.{StackBytes}
 use Rattle.gb_domain.specs.declared.rules.Rules.{Rules}
 use Rattle.gb_domain.specs.declared.rules.Rules.TheVariants.{Simple, Extended}
 use Rattle.gb_domain.specs.declared.pairs.Other.{Other}
@@ -9,6 +10,8 @@ use Rattle.gb_domain.specs.Pairs.{nothing_known}
 use Rattle.gb_domain.specs.Places.{no_byte}
 use Rattle.gb_domain.specs.RelationRules.{test_alone}
 use Rattle.gb_fields.specs.declared.fault.CertFault.{CertFault}
+use Rattle.gb_states.specs.declared.relations.InMemory.TheVariants.{Nowhere, Address, Item}
+use Rattle.gb_states.specs.declared.relations.InMemory.{InMemory}
 use Rattle.gb_states.specs.declared.role.Role.{Role}
 use Rattle.gb_states.specs.declared.role.Role.TheVariants as role
 use Rattle.gb_states.specs.declared.relations.Present.{Present}
@@ -17,7 +20,7 @@ use Rattle.gb_fields.specs.Rules.{usual_base}
 use Rattle.gb_fields.specs.Format.{Read, byte}
 use Rattle.gb_states.specs.Rules.{role_of}
 use Rattle.gb_fields.specs.Reading.{word, quad, node_number_by, node_number, byte_between, word_between, count_within, yes_no, returns_at, entry_at, nothing, base_at, times, need_at, key_at, magic_at, region_at, node_count_at}
-use Rattle.gb_states.specs.RelationReading.{defaulted, present_at, registers_at, address_at, byte_at, pair_at, bounds_at, other_at, factor_at, link_of, link_at, facts_at, pairs_at, relations_at, relations_by}
+use Rattle.gb_states.specs.RelationReading.{defaulted, present_at, registers_at, address_at, item_at, is_somewhere, place_by, memory_at, no_items, byte_at, pair_at, bounds_at, other_at, factor_at, link_of, link_at, facts_at, pairs_at, relations_at, relations_by}
 use Rattle.gb_states.specs.Reading.{origin_at, val_at, may_at, ime_at, test_at, flg_at, ctl_at, vals_at, core_at, item_count_at, items_at, cell_at, cells_at, state_at, range_at, ranges_at, exit_at, needed_at, body_at, procedure_at, node_at}
 use Rattle.gb_states.proofs.Formats.{same_pair}
 use Rattle.gb_cert_place.proofs.Locality.{IsLocal, IsLocal-byte, IsLocal-both, IsLocal-followed, IsLocal-mapped, IsLocal-checked, IsLocal-optional, IsLocal-several, IsLocal-counted}
@@ -119,9 +122,18 @@ pub IsLocal-address : (region : Region) → IsLocal (address_at region)
 unfolding address_at
 IsLocal-address region = IsLocal-checked _ _ _ IsLocal-word
 
-pub IsLocal-one_byte : (region : Region) (test : Option ℕ) (address bits : Bool) → IsLocal (byte_at region test address bits)
+IsLocal-item : (k : StackBytes) → IsLocal (item_at k)
+unfolding item_at
+IsLocal-item k = IsLocal-mapped _ _ (IsLocal-checked _ _ _ IsLocal-byte)
+
+IsLocal-memory : (k : StackBytes) (place : InMemory) → IsLocal (memory_at k place)
+IsLocal-memory k Nowhere = IsLocal-nothing None
+IsLocal-memory k Address = IsLocal-mapped Some _ (IsLocal-address k.region)
+IsLocal-memory k Item = IsLocal-mapped Some _ (IsLocal-item k)
+
+pub IsLocal-one_byte : (k : StackBytes) (test : Option ℕ) (place : InMemory) (bits : Bool) → IsLocal (byte_at k test place bits)
 unfolding byte_at
-IsLocal-one_byte region test address bits = IsLocal-mapped _ _ (IsLocal-both _ _ (IsLocal-registers address) (IsLocal-both _ _ (IsLocal-optional address _ (IsLocal-address region)) (IsLocal-optional bits _ IsLocal-byte)))
+IsLocal-one_byte k test place bits = IsLocal-mapped _ _ (IsLocal-both _ _ (IsLocal-registers (is_somewhere place)) (IsLocal-both _ _ (IsLocal-memory k place) (IsLocal-optional bits _ IsLocal-byte)))
 
 pub IsLocal-pair : IsLocal pair_at
 unfolding pair_at
@@ -159,7 +171,7 @@ pub IsLocal-relations : (region : Region) (test : Option ℕ) → IsLocal (relat
 unfolding relations_at
 IsLocal-relations region test =
     IsLocal-mapped _ _ (IsLocal-followed _ _ (IsLocal-present test)
-    (λ p. IsLocal-both _ _ (IsLocal-defaulted no_byte p.byte _ (IsLocal-one_byte region test p.address p.bits)) (IsLocal-both _ _ (IsLocal-optional p.zero _ IsLocal-pair) (IsLocal-pairs p))))
+    (λ p. IsLocal-both _ _ (IsLocal-defaulted no_byte p.byte _ (IsLocal-one_byte (no_items region) test (place_by false p.address) p.bits)) (IsLocal-both _ _ (IsLocal-optional p.zero _ IsLocal-pair) (IsLocal-pairs p))))
 
 pub IsLocal-relations_by : (rules : Rules) (region : Region) (test : Option ℕ) → IsLocal (relations_by rules region test)
 IsLocal-relations_by Simple region test = IsLocal-nothing (test_alone test)

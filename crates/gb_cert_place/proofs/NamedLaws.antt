@@ -8,12 +8,12 @@ use Rattle.gb_domain.specs.Types.{AbsState}
 use Rattle.gb_fields.specs.Limits.{fact_limit, kept_room}
 use Rattle.gb_fields.specs.Format.{Read, go_on, followed, both, mapped, several, byte}
 use Rattle.gb_fields.specs.Reading.{count_within, word_count_within}
+use Rattle.gb_states.specs.declared.form.ProcedureForm.{ProcedureForm}
 use Rattle.gb_states.specs.declared.form.Form.TheVariants.{Older, Fourth}
 use Rattle.gb_states.specs.Reading as simple
-use Rattle.gb_states.specs.WholeRules.{after_address}
+use Rattle.gb_states.specs.WholeRules.{after_address, no_form}
 use Rattle.gb_states.specs.WholeReading.{fact_at, facts_at, facts_by, free_address_at, kept_addresses_at, exit_at, named_at}
-use Rattle.gb_states.proofs.Formats.{went_on, same_pair}
-use Rattle.gb_cert.specs.Skipping.{skipped, count_named}
+use Rattle.gb_cert.specs.Skipping.{skipped, form_named}
 use Rattle.gb_cert.specs.Borrowed.{exit_by}
 use Rattle.gb_cert_place.specs.declared.block.Stop.{Stop}
 use Rattle.gb_cert_place.specs.declared.block.Part.{Part}
@@ -21,14 +21,14 @@ use Rattle.gb_cert_place.specs.declared.block.Part.TheVariants as part
 use Rattle.gb_cert_place.specs.declared.block.Block.{Block}
 use Rattle.gb_cert_place.specs.declared.block.Block.TheVariants as block
 use Rattle.gb_cert_place.specs.Blocks.{read_block}
-use Rattle.gb_cert_place.specs.Forms.{ending_by, ending_count}
+use Rattle.gb_cert_place.specs.Forms.{ending_by, ending_form}
 use Rattle.gb_cert_place.specs.Standing.{InExit, InNamed, AtMark, BehindMark}
 use Rattle.gb_cert_place.specs.Stops.{Stopped}
 use Rattle.gb_cert_place.proofs.Locality.{IsLocal-byte, IsLocal-both}
 use Rattle.gb_cert_place.proofs.FieldsAreLocal.{IsLocal-count_within}
 use Rattle.gb_cert_place.proofs.WholeFieldsAreLocal.{IsLocal-word_count_within, IsLocal-kept_addresses}
 use Rattle.gb_cert_place.proofs.BlockLaws.{no_fact_count, no_kept_count, no_mark}
-use Rattle.gb_cert_place.proofs.PartLaws.{same_skipped}
+use Rattle.gb_cert_place.proofs.PartLaws.{same_skipped, several-many}
 use Rattle.gb_cert_place.proofs.WalkLaws.{was_read, was_mapped, is_mapped, is_followed, Stopped-first, Stopped-mapped, Stopped-unmapped, Stopped-block, Stopped-then, Stopped-as}
 
 -- ---- which version it is
@@ -40,16 +40,6 @@ pub is_not_fourth : (version : ℕ) → (version ≡ 4 → ⊥) → (version == 
 is_not_fourth version n = grind (arith, nat_tests)
 
 -- ---- what was read
-
--- as many as were asked for
-several-many : {S X : Type 0} (step : S → Read X) (next : X → S) (n : ℕ) (s : S) (bytes : List ℕ) (xs : List X) (rest : List ℕ) → several step next s n bytes ≡ Ok (xs, rest) → length xs ≡ n
-unfolding several
-several-many step next zero s bytes xs rest h = let p = same_pair [] xs bytes rest h in sym (ap length p.0)
-several-many {S} {X} step next (suc n) s bytes xs rest h =
-    let c = went_on (step s bytes) (λ x rest. go_on (several step next (next x) n rest) (λ xs end. Ok (x ∷ xs, end))) (xs, rest) h in
-    let d = went_on (several step next (next c.0) n c.1) (λ ys end. Ok (c.0 ∷ ys, end)) (xs, rest) c.3 in
-    let p = same_pair (c.0 ∷ d.0) xs d.1 rest d.3 in
-    sym (ap length p.0) ∙ ap suc (several-many step next n (next c.0) c.1 d.0 d.1 d.2)
 
 -- a count, and so many
 counted_many : {S X : Type 0} (count : Read ℕ) (step : S → Read X) (next : X → S) (s : S) (bytes : List ℕ) (n : ℕ) (rest end : List ℕ) → count bytes ≡ Ok (n, rest) → skipped (several step next s n) rest ≡ Ok end
@@ -78,9 +68,13 @@ kept_passed is_main region bytes limit count rest end same h g = counted_many (c
 
 -- ---- the mark and the exit
 
-exit_is : (facts kept : ℕ) (is_main : Bool) (region : Region) (bytes : List ℕ) → exit_by (Fourth facts kept) is_main region bytes ≡ exit_at facts kept is_main region bytes
+exit_is : (facts : ℕ) (form : ProcedureForm) (is_main : Bool) (region : Region) (bytes : List ℕ) → exit_by (Fourth facts form) is_main region bytes ≡ exit_at facts form is_main region bytes
 unfolding exit_by exit_at
-exit_is facts kept is_main region bytes = refl
+exit_is facts form is_main region bytes = refl
+
+-- of a procedure that names so many addresses, and has this base
+abbrev formed : ℕ → ℕ → ProcedureForm
+formed base kept = record { kept = kept; base = base }
 
 older_exit_is : (rules : Rules) (is_main : Bool) (region : Region) (bytes : List ℕ) → exit_by (Older rules) is_main region bytes ≡ simple.exit_at rules is_main region bytes
 unfolding exit_by simple.exit_at
@@ -89,75 +83,75 @@ older_exit_is rules is_main region bytes = refl
 abbrev marked : Bool → Region → Read (List ℕ × ℕ)
 marked is_main region = both (kept_addresses_at is_main region) byte
 
-abbrev exit_behind : ℕ → Bool → Region → List ℕ × ℕ → Read (Option AbsState)
-exit_behind facts is_main region d = exit_at facts (length d.0) is_main region
+abbrev exit_behind : ℕ → ℕ → Bool → Region → List ℕ × ℕ → Read (Option AbsState)
+exit_behind facts base is_main region d = exit_at facts (formed base (length d.0)) is_main region
 
-pub stop_in_kept : (facts : ℕ) (is_main : Bool) (region : Region) (bytes : List ℕ) (s : Stop) → Stopped (mapped length (kept_addresses_at is_main region)) bytes s → Stopped (mapped count_named (named_at facts is_main region)) bytes s
+pub stop_in_kept : (facts base : ℕ) (is_main : Bool) (region : Region) (bytes : List ℕ) (s : Stop) → Stopped (mapped length (kept_addresses_at is_main region)) bytes s → Stopped (mapped (form_named base) (named_at facts base is_main region)) bytes s
 unfolding named_at
-stop_in_kept facts is_main region bytes s p =
-    Stopped-mapped count_named _ bytes s (Stopped-first (marked is_main region) (exit_behind facts is_main region) bytes s (Stopped-first (kept_addresses_at is_main region) (λ x. byte) bytes s (Stopped-unmapped length (kept_addresses_at is_main region) bytes s p)))
+stop_in_kept facts base is_main region bytes s p =
+    Stopped-mapped (form_named base) _ bytes s (Stopped-first (marked is_main region) (exit_behind facts base is_main region) bytes s (Stopped-first (kept_addresses_at is_main region) (λ x. byte) bytes s (Stopped-unmapped length (kept_addresses_at is_main region) bytes s p)))
 
-pub stop_in_mark : (facts : ℕ) (is_main : Bool) (region : Region) (bytes : List ℕ) (kept : ℕ) (rest : List ℕ) (s : Stop) → mapped length (kept_addresses_at is_main region) bytes ≡ Ok (kept, rest) → Stopped (read_block block.Mark) rest s → Stopped (mapped count_named (named_at facts is_main region)) bytes s
+pub stop_in_mark : (facts base : ℕ) (is_main : Bool) (region : Region) (bytes : List ℕ) (kept : ℕ) (rest : List ℕ) (s : Stop) → mapped length (kept_addresses_at is_main region) bytes ≡ Ok (kept, rest) → Stopped (read_block block.Mark) rest s → Stopped (mapped (form_named base) (named_at facts base is_main region)) bytes s
 unfolding named_at read_block
-stop_in_mark facts is_main region bytes kept rest s h p =
+stop_in_mark facts base is_main region bytes kept rest s h p =
     let k = was_mapped length (kept_addresses_at is_main region) bytes kept rest h in
-    Stopped-mapped count_named _ bytes s (Stopped-first (marked is_main region) (exit_behind facts is_main region) bytes s
+    Stopped-mapped (form_named base) _ bytes s (Stopped-first (marked is_main region) (exit_behind facts base is_main region) bytes s
     (Stopped-then (kept_addresses_at is_main region) (λ x. byte) (IsLocal-kept_addresses is_main region) bytes k.0 rest s k.1 (Stopped-block byte rest s p)))
 
-pub stop_behind_mark : (facts : ℕ) (is_main : Bool) (region : Region) (bytes : List ℕ) (kept : ℕ) (first : List ℕ) (mark : ℕ) (second : List ℕ) (s : Stop) → mapped length (kept_addresses_at is_main region) bytes ≡ Ok (kept, first) → byte first ≡ Ok (mark, second)
-    → Stopped (exit_by (Fourth facts kept) is_main region) second s → Stopped (mapped count_named (named_at facts is_main region)) bytes s
+pub stop_behind_mark : (facts base : ℕ) (is_main : Bool) (region : Region) (bytes : List ℕ) (kept : ℕ) (first : List ℕ) (mark : ℕ) (second : List ℕ) (s : Stop) → mapped length (kept_addresses_at is_main region) bytes ≡ Ok (kept, first) → byte first ≡ Ok (mark, second)
+    → Stopped (exit_by (Fourth facts (formed base kept)) is_main region) second s → Stopped (mapped (form_named base) (named_at facts base is_main region)) bytes s
 unfolding named_at
-stop_behind_mark facts is_main region bytes kept first mark second s h g p =
+stop_behind_mark facts base is_main region bytes kept first mark second s h g p =
     let k = was_mapped length (kept_addresses_at is_main region) bytes kept first h in
-    let q = subst (λ n. Stopped (exit_by (Fourth facts n) is_main region) second s) (sym k.2) p in
-    Stopped-mapped count_named _ bytes s (Stopped-then (marked is_main region) (exit_behind facts is_main region) (IsLocal-both _ _ (IsLocal-kept_addresses is_main region) IsLocal-byte) bytes (k.0, mark) second s
+    let q = subst (λ n. Stopped (exit_by (Fourth facts (formed base n)) is_main region) second s) (sym k.2) p in
+    Stopped-mapped (form_named base) _ bytes s (Stopped-then (marked is_main region) (exit_behind facts base is_main region) (IsLocal-both _ _ (IsLocal-kept_addresses is_main region) IsLocal-byte) bytes (k.0, mark) second s
     (is_followed (kept_addresses_at is_main region) (λ x. byte) bytes k.0 first mark second k.1 g)
-    (Stopped-as (exit_by (Fourth facts (length k.0)) is_main region) (exit_at facts (length k.0) is_main region) second s (exit_is facts (length k.0) is_main region) q))
+    (Stopped-as (exit_by (Fourth facts (formed base (length k.0))) is_main region) (exit_at facts (formed base (length k.0)) is_main region) second s (exit_is facts (formed base (length k.0)) is_main region) q))
 
-pub named_passed : (facts : ℕ) (is_main : Bool) (region : Region) (bytes : List ℕ) (kept : ℕ) (first : List ℕ) (mark : ℕ) (second end : List ℕ) → mapped length (kept_addresses_at is_main region) bytes ≡ Ok (kept, first) → byte first ≡ Ok (mark, second)
-    → skipped (exit_by (Fourth facts kept) is_main region) second ≡ Ok end → mapped count_named (named_at facts is_main region) bytes ≡ Ok (kept, end)
+pub named_passed : (facts base : ℕ) (is_main : Bool) (region : Region) (bytes : List ℕ) (kept : ℕ) (first : List ℕ) (mark : ℕ) (second end : List ℕ) → mapped length (kept_addresses_at is_main region) bytes ≡ Ok (kept, first) → byte first ≡ Ok (mark, second)
+    → skipped (exit_by (Fourth facts (formed base kept)) is_main region) second ≡ Ok end → mapped (form_named base) (named_at facts base is_main region) bytes ≡ Ok (formed base kept, end)
 unfolding named_at
-named_passed facts is_main region bytes kept first mark second end h g e =
+named_passed facts base is_main region bytes kept first mark second end h g e =
     let k = was_mapped length (kept_addresses_at is_main region) bytes kept first h in
-    let q = subst (λ n. skipped (exit_by (Fourth facts n) is_main region) second ≡ Ok end) (sym k.2) e in
-    let w = was_read (exit_at facts (length k.0) is_main region) second end (sym (same_skipped (exit_by (Fourth facts (length k.0)) is_main region) (exit_at facts (length k.0) is_main region) second (exit_is facts (length k.0) is_main region second)) ∙ q) in
-    is_mapped count_named (followed (marked is_main region) (exit_behind facts is_main region)) bytes ((k.0, mark), w.0) kept end
-    (is_followed (marked is_main region) (exit_behind facts is_main region) bytes (k.0, mark) second w.0 end (is_followed (kept_addresses_at is_main region) (λ x. byte) bytes k.0 first mark second k.1 g) w.1) k.2
+    let q = subst (λ n. skipped (exit_by (Fourth facts (formed base n)) is_main region) second ≡ Ok end) (sym k.2) e in
+    let w = was_read (exit_at facts (formed base (length k.0)) is_main region) second end (sym (same_skipped (exit_by (Fourth facts (formed base (length k.0))) is_main region) (exit_at facts (formed base (length k.0)) is_main region) second (exit_is facts (formed base (length k.0)) is_main region second)) ∙ q) in
+    is_mapped (form_named base) (followed (marked is_main region) (exit_behind facts base is_main region)) bytes ((k.0, mark), w.0) (formed base kept) end
+    (is_followed (marked is_main region) (exit_behind facts base is_main region) bytes (k.0, mark) second w.0 end (is_followed (kept_addresses_at is_main region) (λ x. byte) bytes k.0 first mark second k.1 g) w.1) (ap (formed base) k.2)
 
 -- where the blocks stand, by how many addresses there are
-pub in_mark : (number facts : ℕ) (is_main : Bool) (region : Region) (bytes : List ℕ) (kept : ℕ) (rest : List ℕ) → mapped length (kept_addresses_at is_main region) bytes ≡ Ok (kept, rest) → InNamed number facts is_main region bytes (part.Procedure number) block.Mark rest
-in_mark number facts is_main region bytes kept rest h = let k = was_mapped length (kept_addresses_at is_main region) bytes kept rest h in AtMark k.1
+pub in_mark : (number facts base : ℕ) (is_main : Bool) (region : Region) (bytes : List ℕ) (kept : ℕ) (rest : List ℕ) → mapped length (kept_addresses_at is_main region) bytes ≡ Ok (kept, rest) → InNamed number facts base is_main region bytes (part.Procedure number) block.Mark rest
+in_mark number facts base is_main region bytes kept rest h = let k = was_mapped length (kept_addresses_at is_main region) bytes kept rest h in AtMark k.1
 
-pub behind_mark : (number facts : ℕ) (is_main : Bool) (region : Region) (bytes : List ℕ) (kept : ℕ) (first : List ℕ) (mark : ℕ) (second rest : List ℕ) (p : Part) (b : Block) → mapped length (kept_addresses_at is_main region) bytes ≡ Ok (kept, first) → byte first ≡ Ok (mark, second)
-    → InExit number (Fourth facts kept) is_main region second p b rest → InNamed number facts is_main region bytes p b rest
-behind_mark number facts is_main region bytes kept first mark second rest p b h g a =
+pub behind_mark : (number facts base : ℕ) (is_main : Bool) (region : Region) (bytes : List ℕ) (kept : ℕ) (first : List ℕ) (mark : ℕ) (second rest : List ℕ) (p : Part) (b : Block) → mapped length (kept_addresses_at is_main region) bytes ≡ Ok (kept, first) → byte first ≡ Ok (mark, second)
+    → InExit number (Fourth facts (formed base kept)) is_main region second p b rest → InNamed number facts base is_main region bytes p b rest
+behind_mark number facts base is_main region bytes kept first mark second rest p b h g a =
     let k = was_mapped length (kept_addresses_at is_main region) bytes kept first h in
-    BehindMark k.1 g (subst (λ n. InExit number (Fourth facts n) is_main region second p b rest) (sym k.2) a)
+    BehindMark k.1 g (subst (λ n. InExit number (Fourth facts (formed base n)) is_main region second p b rest) (sym k.2) a)
 
 -- ---- what is behind a procedure's ranges
 
-pub stop_in_named : (version facts : ℕ) (is_main : Bool) (region : Region) (bytes : List ℕ) (s : Stop) → (version == 4) ≡ true → Stopped (mapped count_named (named_at facts is_main region)) bytes s
-    → Stopped (mapped (ending_count (version == 4)) (ending_by (version == 4) version facts is_main region)) bytes s
-stop_in_named version facts is_main region bytes s e p = subst (λ (b : Bool). Stopped (mapped (ending_count b) (ending_by b version facts is_main region)) bytes s) (sym e) p
+pub stop_in_named : (version facts base : ℕ) (is_main : Bool) (region : Region) (bytes : List ℕ) (s : Stop) → (version == 4) ≡ true → Stopped (mapped (form_named base) (named_at facts base is_main region)) bytes s
+    → Stopped (mapped (ending_form (version == 4) base) (ending_by (version == 4) version facts is_main region base)) bytes s
+stop_in_named version facts base is_main region bytes s e p = subst (λ (b : Bool). Stopped (mapped (ending_form b base) (ending_by b version facts is_main region base)) bytes s) (sym e) p
 
-pub ending_named : (version facts : ℕ) (is_main : Bool) (region : Region) (bytes : List ℕ) (kept : ℕ) (end : List ℕ) → (version == 4) ≡ true → mapped count_named (named_at facts is_main region) bytes ≡ Ok (kept, end)
-    → mapped (ending_count (version == 4)) (ending_by (version == 4) version facts is_main region) bytes ≡ Ok (kept, end)
-ending_named version facts is_main region bytes kept end e h = subst (λ (b : Bool). mapped (ending_count b) (ending_by b version facts is_main region) bytes ≡ Ok (kept, end)) (sym e) h
+pub ending_named : (version facts base : ℕ) (is_main : Bool) (region : Region) (bytes : List ℕ) (of : ProcedureForm) (end : List ℕ) → (version == 4) ≡ true → mapped (form_named base) (named_at facts base is_main region) bytes ≡ Ok (of, end)
+    → mapped (ending_form (version == 4) base) (ending_by (version == 4) version facts is_main region base) bytes ≡ Ok (of, end)
+ending_named version facts base is_main region bytes of end e h = subst (λ (b : Bool). mapped (ending_form b base) (ending_by b version facts is_main region base) bytes ≡ Ok (of, end)) (sym e) h
 
-pub stop_in_older_exit : (version facts : ℕ) (is_main : Bool) (region : Region) (bytes : List ℕ) (rules : Rules) (s : Stop) → (version == 4) ≡ false → rules ≡ rules_of version → Stopped (exit_by (Older rules) is_main region) bytes s
-    → Stopped (mapped (ending_count (version == 4)) (ending_by (version == 4) version facts is_main region)) bytes s
-stop_in_older_exit version facts is_main region bytes rules s e same p =
+pub stop_in_older_exit : (version facts base : ℕ) (is_main : Bool) (region : Region) (bytes : List ℕ) (rules : Rules) (s : Stop) → (version == 4) ≡ false → rules ≡ rules_of version → Stopped (exit_by (Older rules) is_main region) bytes s
+    → Stopped (mapped (ending_form (version == 4) base) (ending_by (version == 4) version facts is_main region base)) bytes s
+stop_in_older_exit version facts base is_main region bytes rules s e same p =
     let q = subst (λ (r : Rules). Stopped (exit_by (Older r) is_main region) bytes s) same p in
-    subst (λ (b : Bool). Stopped (mapped (ending_count b) (ending_by b version facts is_main region)) bytes s) (sym e)
-    (Stopped-mapped (ending_count false) (simple.exit_at (rules_of version) is_main region) bytes s (Stopped-as (exit_by (Older (rules_of version)) is_main region) (simple.exit_at (rules_of version) is_main region) bytes s (older_exit_is (rules_of version) is_main region) q))
+    subst (λ (b : Bool). Stopped (mapped (ending_form b base) (ending_by b version facts is_main region base)) bytes s) (sym e)
+    (Stopped-mapped (ending_form false base) (simple.exit_at (rules_of version) is_main region) bytes s (Stopped-as (exit_by (Older (rules_of version)) is_main region) (simple.exit_at (rules_of version) is_main region) bytes s (older_exit_is (rules_of version) is_main region) q))
 
-pub ending_older : (version facts : ℕ) (is_main : Bool) (region : Region) (bytes : List ℕ) (rules : Rules) (end : List ℕ) → (version == 4) ≡ false → rules ≡ rules_of version → skipped (exit_by (Older rules) is_main region) bytes ≡ Ok end
-    → mapped (ending_count (version == 4)) (ending_by (version == 4) version facts is_main region) bytes ≡ Ok (0, end)
-ending_older version facts is_main region bytes rules end e same h =
+pub ending_older : (version facts base : ℕ) (is_main : Bool) (region : Region) (bytes : List ℕ) (rules : Rules) (end : List ℕ) → (version == 4) ≡ false → rules ≡ rules_of version → skipped (exit_by (Older rules) is_main region) bytes ≡ Ok end
+    → mapped (ending_form (version == 4) base) (ending_by (version == 4) version facts is_main region base) bytes ≡ Ok (no_form, end)
+ending_older version facts base is_main region bytes rules end e same h =
     let q = subst (λ (r : Rules). skipped (exit_by (Older r) is_main region) bytes ≡ Ok end) same h in
     let w = was_read (simple.exit_at (rules_of version) is_main region) bytes end (sym (same_skipped (exit_by (Older (rules_of version)) is_main region) (simple.exit_at (rules_of version) is_main region) bytes (older_exit_is (rules_of version) is_main region bytes)) ∙ q) in
-    subst (λ (b : Bool). mapped (ending_count b) (ending_by b version facts is_main region) bytes ≡ Ok (0, end)) (sym e)
-    (is_mapped (ending_count false) (simple.exit_at (rules_of version) is_main region) bytes w.0 0 end w.1 refl)
+    subst (λ (b : Bool). mapped (ending_form b base) (ending_by b version facts is_main region base) bytes ≡ Ok (no_form, end)) (sym e)
+    (is_mapped (ending_form false base) (simple.exit_at (rules_of version) is_main region) bytes w.0 no_form end w.1 refl)
 
 -- ---- facts
 

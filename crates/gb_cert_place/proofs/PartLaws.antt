@@ -1,6 +1,7 @@
 -- Where a walk over a state or over an exit stops, by its parts.
-use Rattle.std.proofs.Common.{◌≡◌, ℕ, ◌*◌, Bool, true, false, List, Option, Some, Result, Ok, Err, refl, sym, ◌∙◌, ap, subst, arith}
+use Rattle.std.proofs.Common.{◌≡◌, ℕ, zero, suc, ◌*◌, Bool, true, false, ◌==◌, List, [], ◌∷◌, length, Option, Some, Result, Ok, Err, refl, sym, ◌∙◌, ap, subst, arith}
 use Rattle.gb_ops.specs.declared.machine.Region.{Region}
+use Rattle.gb_domain.specs.declared.places.StackBytes.{StackBytes}
 use Rattle.gb_domain.specs.declared.types.Val.{Val}
 use Rattle.gb_domain.specs.declared.types.Cell.{Cell}
 use Rattle.gb_domain.specs.declared.rules.Rules.{Rules}
@@ -14,29 +15,32 @@ use Rattle.gb_fields.specs.declared.fault.CertFault.{CertFault}
 use Rattle.gb_fields.specs.Limits.{range_room, unit}
 use Rattle.gb_fields.specs.Format.{Read, go_on, followed, both, mapped, optional, several}
 use Rattle.gb_fields.specs.Reading.{count_within, returns_at, base_at, times}
+use Rattle.gb_fields.specs.Rules.{any_rules_by, any_rules_of}
+use Rattle.gb_states.specs.declared.form.ProcedureForm.{ProcedureForm}
 use Rattle.gb_states.specs.declared.form.Form.{Form}
 use Rattle.gb_states.specs.declared.form.Form.TheVariants.{Older, Fourth}
 use Rattle.gb_states.specs.declared.role.Role.{Role}
 use Rattle.gb_states.specs.declared.role.Role.TheVariants as role
-use Rattle.gb_states.specs.Forms.{cell_by, vals_by, state_by}
+use Rattle.gb_states.specs.Forms.{val_by, cell_by, vals_by, state_by}
 use Rattle.gb_states.specs.Rules.{after_range}
 use Rattle.gb_states.specs.RelationReading.{relations_at}
 use Rattle.gb_states.specs.Reading as simple
 use Rattle.gb_states.specs.Reading.{Tested, item_count_at, range_at, ranges_at}
 use Rattle.gb_states.specs.WholeRules.{may_be_aside}
 use Rattle.gb_states.specs.WholeReading as whole
-use Rattle.gb_cert.specs.Skipping.{skipped, past}
+use Rattle.gb_cert.specs.Skipping.{skipped, past, count_items}
 use Rattle.gb_cert.specs.Borrowed.{exit_by}
 use Rattle.gb_cert.proofs.Skipping.{skipped-mapped, skipped-both, skipped-followed}
+use Rattle.gb_states.proofs.Formats.{went_on, same_pair}
 use Rattle.gb_cert_place.specs.declared.block.Stop.{Stop}
 use Rattle.gb_cert_place.specs.declared.block.Block.TheVariants as block
 use Rattle.gb_cert_place.specs.Blocks.{read_block}
-use Rattle.gb_cert_place.specs.Forms.{rules_in, core_by, items_by, cells_by, Told, told_by}
+use Rattle.gb_cert_place.specs.Forms.{rules_in, core_by, items_by, cells_by, Told, told_by, stack_by, base_if}
 use Rattle.gb_cert_place.specs.Stops.{Stopped}
 use Rattle.gb_cert_place.proofs.FieldsAreLocal.{IsLocal-count_within, IsLocal-item_count, IsLocal-returns}
 use Rattle.gb_cert_place.proofs.WholeFieldsAreLocal.{IsLocal-core_by, IsLocal-items_by, IsLocal-told_by}
 use Rattle.gb_cert_place.proofs.BlockLaws.{no_item_count, no_cell_count, no_range_count, no_core, no_returns, no_base, no_told, no_told_whole}
-use Rattle.gb_cert_place.proofs.WalkLaws.{Stopped-first, Stopped-mapped, Stopped-block, Stopped-then, Stopped-after, Stopped-as}
+use Rattle.gb_cert_place.proofs.WalkLaws.{Stopped-first, Stopped-mapped, Stopped-unmapped, Stopped-block, Stopped-then, Stopped-after, Stopped-as, was_read, was_mapped, is_mapped, is_followed}
 
 -- ---- in other words
 
@@ -52,35 +56,48 @@ listed_items form role stack_set = mapped (λ p. p.1) (followed (item_count_at (
 items_are : (form : Form) (role : Role) (stack_set : Bool) (bytes : List ℕ) → listed_items form role stack_set bytes ≡ items_by form role stack_set bytes
 unfolding simple.items_at whole.items_at unit
 items_are (Older rules) role stack_set bytes = refl
-items_are (Fourth facts kept) role stack_set bytes = by (item_count_at Extended role stack_set bytes)
+items_are (Fourth facts form) role stack_set bytes = by (item_count_at Extended role stack_set bytes)
   where
     by : (read : Result (ℕ × List ℕ) CertFault)
-        → go_on {X = ℕ × List Val} {Y = List Val × List ℕ} (go_on read (λ x rest. go_on (vals_by (Fourth facts kept) (1 * x) rest) (λ y end. Ok ((x, y), end)))) (λ p rest. Ok (p.1, rest))
-        ≡ go_on {X = ℕ × List Val} {Y = List Val × List ℕ} (go_on read (λ x rest. go_on (vals_by (Fourth facts kept) x rest) (λ y end. Ok ((x, y), end)))) (λ p rest. Ok (p.1, rest))
-    by (Ok p) = let k : 1 * p.0 ≡ p.0 = omega arith in ap (λ n. go_on {X = ℕ × List Val} {Y = List Val × List ℕ} (go_on (vals_by (Fourth facts kept) n p.1) (λ y end. Ok ((p.0, y), end))) (λ p rest. Ok (p.1, rest))) k
+        → go_on {X = ℕ × List Val} {Y = List Val × List ℕ} (go_on read (λ x rest. go_on (vals_by (Fourth facts form) (1 * x) rest) (λ y end. Ok ((x, y), end)))) (λ p rest. Ok (p.1, rest))
+        ≡ go_on {X = ℕ × List Val} {Y = List Val × List ℕ} (go_on read (λ x rest. go_on (vals_by (Fourth facts form) x rest) (λ y end. Ok ((x, y), end)))) (λ p rest. Ok (p.1, rest))
+    by (Ok p) = let k : 1 * p.0 ≡ p.0 = omega arith in ap (λ n. go_on {X = ℕ × List Val} {Y = List Val × List ℕ} (go_on (vals_by (Fourth facts form) n p.1) (λ y end. Ok ((p.0, y), end))) (λ p rest. Ok (p.1, rest))) k
     by (Err e) = refl
 
-pub stop_in_item_count : (form : Form) (role : Role) (stack_set : Bool) (bytes : List ℕ) (rules : Rules) (s : Stop) → rules ≡ rules_in form → Stopped (read_block (block.ItemCount rules role stack_set)) bytes s → Stopped (items_by form role stack_set) bytes s
+pub stop_in_item_count : (form : Form) (role : Role) (stack_set : Bool) (bytes : List ℕ) (rules : Rules) (s : Stop) → rules ≡ rules_in form → Stopped (read_block (block.ItemCount rules role stack_set)) bytes s → Stopped (mapped count_items (items_by form role stack_set)) bytes s
 unfolding read_block
 stop_in_item_count form role stack_set bytes rules s same p =
-    Stopped-as (listed_items form role stack_set) (items_by form role stack_set) bytes s (items_are form role stack_set)
+    Stopped-mapped count_items (items_by form role stack_set) bytes s (Stopped-as (listed_items form role stack_set) (items_by form role stack_set) bytes s (items_are form role stack_set)
     (Stopped-mapped _ _ bytes s (Stopped-first (item_count_at (rules_in form) role stack_set) (λ count. vals_by form (times (unit (rules_in form)) count)) bytes s
-    (Stopped-block (item_count_at (rules_in form) role stack_set) bytes s (subst (λ r. Stopped (read_block (block.ItemCount r role stack_set)) bytes s) same p))))
+    (Stopped-block (item_count_at (rules_in form) role stack_set) bytes s (subst (λ r. Stopped (read_block (block.ItemCount r role stack_set)) bytes s) same p)))))
 
 pub in_items : (form : Form) (role : Role) (stack_set : Bool) (bytes : List ℕ) (rules : Rules) (count items : ℕ) (rest : List ℕ) (s : Stop) → rules ≡ rules_in form → item_count_at rules role stack_set bytes ≡ Ok (count, rest) → items ≡ times (unit rules) count → Stopped (vals_by form items) rest s
-    → Stopped (items_by form role stack_set) bytes s
+    → Stopped (mapped count_items (items_by form role stack_set)) bytes s
 in_items form role stack_set bytes rules count items rest s same h size p =
-    Stopped-as (listed_items form role stack_set) (items_by form role stack_set) bytes s (items_are form role stack_set)
+    Stopped-mapped count_items (items_by form role stack_set) bytes s (Stopped-as (listed_items form role stack_set) (items_by form role stack_set) bytes s (items_are form role stack_set)
     (Stopped-mapped _ _ bytes s (Stopped-then (item_count_at (rules_in form) role stack_set) (λ count. vals_by form (times (unit (rules_in form)) count)) (IsLocal-item_count (rules_in form) role stack_set) bytes count rest s
-    (subst (λ r. item_count_at r role stack_set bytes ≡ Ok (count, rest)) same h) (subst (λ n. Stopped (vals_by form n) rest s) (size ∙ ap (λ r. times (unit r) count) same) p)))
+    (subst (λ r. item_count_at r role stack_set bytes ≡ Ok (count, rest)) same h) (subst (λ n. Stopped (vals_by form n) rest s) (size ∙ ap (λ r. times (unit r) count) same) p))))
+
+-- as many as were asked for
+pub several-many : {S X : Type 0} (step : S → Read X) (next : X → S) (n : ℕ) (s : S) (bytes : List ℕ) (xs : List X) (rest : List ℕ) → several step next s n bytes ≡ Ok (xs, rest) → length xs ≡ n
+unfolding several
+several-many step next zero s bytes xs rest h = let p = same_pair [] xs bytes rest h in sym (ap length p.0)
+several-many {S} {X} step next (suc n) s bytes xs rest h =
+    let c = went_on (step s bytes) (λ x rest. go_on (several step next (next x) n rest) (λ xs end. Ok (x ∷ xs, end))) (xs, rest) h in
+    let d = went_on (several step next (next c.0) n c.1) (λ ys end. Ok (c.0 ∷ ys, end)) (xs, rest) c.3 in
+    let p = same_pair (c.0 ∷ d.0) xs d.1 rest d.3 in
+    sym (ap length p.0) ∙ ap suc (several-many step next n (next c.0) c.1 d.0 d.1 d.2)
 
 pub items_passed : (form : Form) (role : Role) (stack_set : Bool) (bytes : List ℕ) (rules : Rules) (count items : ℕ) (rest end : List ℕ) → rules ≡ rules_in form → item_count_at rules role stack_set bytes ≡ Ok (count, rest) → items ≡ times (unit rules) count → skipped (vals_by form items) rest ≡ Ok end
-    → skipped (items_by form role stack_set) bytes ≡ Ok end
+    → mapped count_items (items_by form role stack_set) bytes ≡ Ok (items, end)
 items_passed form role stack_set bytes rules count items rest end same h size g =
-    sym (same_skipped (listed_items form role stack_set) (items_by form role stack_set) bytes (items_are form role stack_set bytes))
-    ∙ skipped-mapped (λ p. p.1) (followed (item_count_at (rules_in form) role stack_set) (λ count. vals_by form (times (unit (rules_in form)) count))) bytes
-    ∙ skipped-followed (item_count_at (rules_in form) role stack_set) (λ count. vals_by form (times (unit (rules_in form)) count)) bytes count rest (subst (λ r. item_count_at r role stack_set bytes ≡ Ok (count, rest)) same h)
-    ∙ subst (λ n. skipped (vals_by form n) rest ≡ Ok end) (size ∙ ap (λ r. times (unit r) count) same) g
+    let many : items ≡ times (unit (rules_in form)) count = size ∙ ap (λ r. times (unit r) count) same in
+    let w = was_read (vals_by form (times (unit (rules_in form)) count)) rest end (subst (λ n. skipped (vals_by form n) rest ≡ Ok end) many g) in
+    let all : length w.0 ≡ items = several-many {S = Unit {0}} (λ s. val_by form) (λ v. tt) (times (unit (rules_in form)) count) tt rest w.0 end w.1 ∙ sym many in
+    let e : listed_items form role stack_set bytes ≡ Ok (w.0, end) =
+    is_mapped (λ p. p.1) (followed (item_count_at (rules_in form) role stack_set) (λ count. vals_by form (times (unit (rules_in form)) count))) bytes (count, w.0) w.0 end
+    (is_followed (item_count_at (rules_in form) role stack_set) (λ count. vals_by form (times (unit (rules_in form)) count)) bytes count rest w.0 end (subst (λ r. item_count_at r role stack_set bytes ≡ Ok (count, rest)) same h) w.1) refl in
+    is_mapped count_items (items_by form role stack_set) bytes w.0 items end (sym (items_are form role stack_set bytes) ∙ e) all
 
 -- cells behind their count
 abbrev listed_cells : Form → Region → Read (List Cell)
@@ -89,7 +106,7 @@ listed_cells form region = mapped (λ p. p.1) (followed (count_within (cell_room
 cells_are : (form : Form) (region : Region) (bytes : List ℕ) → listed_cells form region bytes ≡ cells_by form region bytes
 unfolding simple.cells_at whole.cells_at
 cells_are (Older rules) region bytes = refl
-cells_are (Fourth facts kept) region bytes = refl
+cells_are (Fourth facts form) region bytes = refl
 
 pub stop_in_cell_count : (form : Form) (region : Region) (bytes : List ℕ) (rules : Rules) (s : Stop) → rules ≡ rules_in form → Stopped (read_block (block.CellCount rules)) bytes s → Stopped (cells_by form region) bytes s
 unfolding read_block
@@ -125,33 +142,38 @@ ranges_passed rules is_main region bytes count rest end h g =
 
 -- ---- what is there in versions 3 and 4 alone
 
-pub told_absent : (form : Form) (region : Region) (aside : Bool) (test : Option ℕ) (bytes : List ℕ) → form ≡ Older Simple → skipped (told_by form region aside test) bytes ≡ Ok bytes
-told_absent form region aside test bytes e = subst (λ f. skipped (told_by f region aside test) bytes ≡ Ok bytes) (sym e) refl
+pub told_absent : (form : Form) (k : StackBytes) (aside : Bool) (test : Option ℕ) (bytes : List ℕ) → form ≡ Older Simple → skipped (told_by form k aside test) bytes ≡ Ok bytes
+told_absent form k aside test bytes e = subst (λ f. skipped (told_by f k aside test) bytes ≡ Ok bytes) (sym e) refl
 
-pub told_passed : (form : Form) (region : Region) (aside : Bool) (test : Option ℕ) (bytes : List ℕ) (r : Relations) (rest : List ℕ) → form ≡ Older Extended → relations_at region test bytes ≡ Ok (r, rest) → skipped (told_by form region aside test) bytes ≡ Ok rest
-told_passed form region aside test bytes r rest e h = subst (λ f. skipped (told_by f region aside test) bytes ≡ Ok rest) (sym e) (rw h refl)
+pub told_passed : (form : Form) (k : StackBytes) (aside : Bool) (test : Option ℕ) (bytes : List ℕ) (r : Relations) (rest : List ℕ) → form ≡ Older Extended → relations_at k.region test bytes ≡ Ok (r, rest) → skipped (told_by form k aside test) bytes ≡ Ok rest
+told_passed form k aside test bytes r rest e h = subst (λ f. skipped (told_by f k aside test) bytes ≡ Ok rest) (sym e) (rw h refl)
 
-pub told_whole_passed : (form : Form) (facts kept : ℕ) (region : Region) (aside : Bool) (test : Option ℕ) (bytes : List ℕ) (r : Relations × SummaryParts) (rest : List ℕ) → form ≡ Fourth facts kept → whole.told_at facts region aside test bytes ≡ Ok (r, rest) → skipped (told_by form region aside test) bytes ≡ Ok rest
-told_whole_passed form facts kept region aside test bytes r rest e h = subst (λ f. skipped (told_by f region aside test) bytes ≡ Ok rest) (sym e) (rw h refl)
+pub told_whole_passed : (form : Form) (facts : ℕ) (of : ProcedureForm) (k : StackBytes) (aside : Bool) (test : Option ℕ) (bytes : List ℕ) (r : Relations × SummaryParts) (rest : List ℕ) → form ≡ Fourth facts of → whole.told_at facts k aside test bytes ≡ Ok (r, rest) → skipped (told_by form k aside test) bytes ≡ Ok rest
+told_whole_passed form facts of k aside test bytes r rest e h = subst (λ f. skipped (told_by f k aside test) bytes ≡ Ok rest) (sym e) (rw h refl)
 
-pub stop_in_told : (form : Form) (region : Region) (aside : Bool) (test : Option ℕ) (bytes : List ℕ) (s : Stop) → form ≡ Older Extended → Stopped (read_block (block.Told region test)) bytes s → Stopped (told_by form region aside test) bytes s
+pub stop_in_told : (form : Form) (k : StackBytes) (aside : Bool) (test : Option ℕ) (bytes : List ℕ) (s : Stop) → form ≡ Older Extended → Stopped (read_block (block.Told k.region test)) bytes s → Stopped (told_by form k aside test) bytes s
 unfolding read_block
-stop_in_told form region aside test bytes s e p = subst (λ f. Stopped (told_by f region aside test) bytes s) (sym e) (Stopped-block (relations_at region test) bytes s p)
+stop_in_told form k aside test bytes s e p = subst (λ f. Stopped (told_by f k aside test) bytes s) (sym e) (Stopped-block (relations_at k.region test) bytes s p)
 
-pub stop_in_told_whole : (form : Form) (facts kept : ℕ) (region : Region) (aside : Bool) (test : Option ℕ) (bytes : List ℕ) (s : Stop) → form ≡ Fourth facts kept → Stopped (read_block (block.ToldWhole facts region aside test)) bytes s → Stopped (told_by form region aside test) bytes s
+pub stop_in_told_whole : (form : Form) (facts : ℕ) (of : ProcedureForm) (k : StackBytes) (aside : Bool) (test : Option ℕ) (bytes : List ℕ) (s : Stop) → form ≡ Fourth facts of → Stopped (read_block (block.ToldWhole facts k aside test)) bytes s → Stopped (told_by form k aside test) bytes s
 unfolding read_block
-stop_in_told_whole form facts kept region aside test bytes s e p = subst (λ f. Stopped (told_by f region aside test) bytes s) (sym e) (Stopped-block (whole.told_at facts region aside test) bytes s p)
+stop_in_told_whole form facts of k aside test bytes s e p = subst (λ f. Stopped (told_by f k aside test) bytes s) (sym e) (Stopped-block (whole.told_at facts k aside test) bytes s p)
 
-pub base_absent : (rules : Rules) (is_main : Bool) (region : Region) (bytes : List ℕ) → rules ≡ Simple → skipped (base_at rules is_main region) bytes ≡ Ok bytes
+-- Versions 1 and 2 have no base.
+pub base_absent : (version : ℕ) (is_main : Bool) (region : Region) (bytes : List ℕ) → any_rules_of version ≡ Simple → mapped (base_if (version == 4)) (base_at (any_rules_of version) is_main region) bytes ≡ Ok (0, bytes)
 unfolding base_at
-base_absent rules is_main region bytes e = subst (λ r. skipped (base_at r is_main region) bytes ≡ Ok bytes) (sym e) refl
+base_absent version is_main region bytes e = by (version == 4) e
+  where
+    by : (b : Bool) → any_rules_by b version ≡ Simple → mapped (base_if b) (base_at (any_rules_by b version) is_main region) bytes ≡ Ok (0, bytes)
+    by true e = absurd cc
+    by false e = subst (λ r. mapped (base_if false) (base_at r is_main region) bytes ≡ Ok (0, bytes)) (sym e) refl
 
-pub base_passed : (rules : Rules) (is_main : Bool) (region : Region) (bytes : List ℕ) (b : ℕ) (rest : List ℕ) → rules ≡ Extended → base_at Extended is_main region bytes ≡ Ok (b, rest) → skipped (base_at rules is_main region) bytes ≡ Ok rest
-base_passed rules is_main region bytes b rest e h = subst (λ r. skipped (base_at r is_main region) bytes ≡ Ok rest) (sym e) (rw h refl)
+pub base_passed : (version : ℕ) (is_main : Bool) (region : Region) (bytes : List ℕ) (b : ℕ) (rest : List ℕ) → any_rules_of version ≡ Extended → base_at Extended is_main region bytes ≡ Ok (b, rest) → mapped (base_if (version == 4)) (base_at (any_rules_of version) is_main region) bytes ≡ Ok (base_if (version == 4) b, rest)
+base_passed version is_main region bytes b rest e h = subst (λ r. mapped (base_if (version == 4)) (base_at r is_main region) bytes ≡ Ok (base_if (version == 4) b, rest)) (sym e) (rw h refl)
 
-pub stop_in_base : (rules : Rules) (is_main : Bool) (region : Region) (bytes : List ℕ) (s : Stop) → rules ≡ Extended → Stopped (read_block (block.Base is_main region)) bytes s → Stopped (base_at rules is_main region) bytes s
+pub stop_in_base : (version : ℕ) (is_main : Bool) (region : Region) (bytes : List ℕ) (s : Stop) → any_rules_of version ≡ Extended → Stopped (read_block (block.Base is_main region)) bytes s → Stopped (mapped (base_if (version == 4)) (base_at (any_rules_of version) is_main region)) bytes s
 unfolding read_block
-stop_in_base rules is_main region bytes s e p = subst (λ r. Stopped (base_at r is_main region) bytes s) (sym e) (Stopped-block (base_at Extended is_main region) bytes s p)
+stop_in_base version is_main region bytes s e p = Stopped-mapped (base_if (version == 4)) (base_at (any_rules_of version) is_main region) bytes s (subst (λ r. Stopped (base_at r is_main region) bytes s) (sym e) (Stopped-block (base_at Extended is_main region) bytes s p))
 
 -- ---- one part and another
 
@@ -161,14 +183,14 @@ stop_in_first r t bytes s p = Stopped-first r (λ x. t) bytes s p
 pub both_passed : {X Y : Type 0} (r : Read X) (t : Read Y) (bytes mid end : List ℕ) → skipped r bytes ≡ Ok mid → skipped t mid ≡ Ok end → skipped (both r t) bytes ≡ Ok end
 both_passed r t bytes mid end g k = skipped-both r t bytes ∙ ap (λ r. past r (skipped t)) g ∙ k
 
-pub stop_in_list_told : (form : Form) (region : Region) (aside : Bool) (test : Option ℕ) (bytes : List ℕ) (s : Stop) → Stopped (told_by form region aside test) bytes s → Stopped (both (told_by form region aside test) (cells_by form region)) bytes s
-stop_in_list_told form region aside test bytes s p = stop_in_first (told_by form region aside test) (cells_by form region) bytes s p
+pub stop_in_list_told : (form : Form) (k : StackBytes) (aside : Bool) (test : Option ℕ) (bytes : List ℕ) (s : Stop) → Stopped (told_by form k aside test) bytes s → Stopped (both (told_by form k aside test) (cells_by form k.region)) bytes s
+stop_in_list_told form k aside test bytes s p = stop_in_first (told_by form k aside test) (cells_by form k.region) bytes s p
 
-pub stop_in_list_cells : (form : Form) (region : Region) (aside : Bool) (test : Option ℕ) (bytes rest : List ℕ) (s : Stop) → skipped (told_by form region aside test) bytes ≡ Ok rest → Stopped (cells_by form region) rest s → Stopped (both (told_by form region aside test) (cells_by form region)) bytes s
-stop_in_list_cells form region aside test bytes rest s g p = Stopped-after (told_by form region aside test) (cells_by form region) (IsLocal-told_by form region aside test) bytes rest s g p
+pub stop_in_list_cells : (form : Form) (k : StackBytes) (aside : Bool) (test : Option ℕ) (bytes rest : List ℕ) (s : Stop) → skipped (told_by form k aside test) bytes ≡ Ok rest → Stopped (cells_by form k.region) rest s → Stopped (both (told_by form k aside test) (cells_by form k.region)) bytes s
+stop_in_list_cells form k aside test bytes rest s g p = Stopped-after (told_by form k aside test) (cells_by form k.region) (IsLocal-told_by form k aside test) bytes rest s g p
 
-pub lists_passed : (form : Form) (region : Region) (aside : Bool) (test : Option ℕ) (bytes mid end : List ℕ) → skipped (told_by form region aside test) bytes ≡ Ok mid → skipped (cells_by form region) mid ≡ Ok end → skipped (both (told_by form region aside test) (cells_by form region)) bytes ≡ Ok end
-lists_passed form region aside test bytes mid end g k = both_passed (told_by form region aside test) (cells_by form region) bytes mid end g k
+pub lists_passed : (form : Form) (k : StackBytes) (aside : Bool) (test : Option ℕ) (bytes mid end : List ℕ) → skipped (told_by form k aside test) bytes ≡ Ok mid → skipped (cells_by form k.region) mid ≡ Ok end → skipped (both (told_by form k aside test) (cells_by form k.region)) bytes ≡ Ok end
+lists_passed form k aside test bytes mid end g c = both_passed (told_by form k aside test) (cells_by form k.region) bytes mid end g c
 
 -- ---- states
 
@@ -177,10 +199,14 @@ Behind form = List Val × (Told form × List Cell)
 
 abbrev to_state_by : (form : Form) → Tested × Behind form → AbsState
 to_state_by (Older rules) p = simple.to_state p
-to_state_by (Fourth facts kept) p = whole.to_state p
+to_state_by (Fourth facts form) p = whole.to_state p
+
+-- what is known and said, and the cells, behind so many items
+abbrev lists_by : (form : Form) → Role → Region → Tested → ℕ → Read (Told form × List Cell)
+lists_by form role region k count = both (told_by form (stack_by form role region count) (may_be_aside role k.0) k.1) (cells_by form region)
 
 abbrev behind_core : (form : Form) → Role → Region → Tested → Read (Behind form)
-behind_core form role region k = both (items_by form role k.0.stack_set) (both (told_by form region (may_be_aside role k.0) k.1) (cells_by form region))
+behind_core form role region k = followed (items_by form role k.0.stack_set) (λ items. lists_by form role region k (length items))
 
 -- a state, by its parts
 abbrev parted_state : Form → Role → Region → Read AbsState
@@ -189,7 +215,12 @@ parted_state form role region = mapped (to_state_by form) (followed (core_by for
 state_is : (form : Form) (role : Role) (region : Region) (bytes : List ℕ) → parted_state form role region bytes ≡ state_by form role region bytes
 unfolding simple.state_at whole.state_at
 state_is (Older rules) role region bytes = refl
-state_is (Fourth facts kept) role region bytes = refl
+state_is (Fourth facts form) role region bytes = refl
+
+-- a stack's region is the one that is given
+region_is : (form : Form) (role : Role) (region : Region) (count : ℕ) → (stack_by form role region count).region ≡ region
+region_is (Older rules) role region count = refl
+region_is (Fourth facts form) role region count = refl
 
 of_state : (form : Form) (role : Role) (region : Region) (bytes : List ℕ) (s : Stop) → Stopped (followed (core_by form role) (behind_core form role region)) bytes s → Stopped (state_by form role region) bytes s
 of_state form role region bytes s p = Stopped-as (parted_state form role region) (state_by form role region) bytes s (state_is form role region) (Stopped-mapped (to_state_by form) (followed (core_by form role) (behind_core form role region)) bytes s p)
@@ -198,26 +229,42 @@ pub stop_in_core : (form : Form) (role : Role) (region : Region) (bytes : List �
 unfolding read_block
 stop_in_core form role region bytes s p = of_state form role region bytes s (Stopped-first (core_by form role) (behind_core form role region) bytes s (Stopped-block (core_by form role) bytes s p))
 
-pub stop_in_items : (form : Form) (role : Role) (region : Region) (bytes : List ℕ) (core : Tested) (rest : List ℕ) (s : Stop) → core_by form role bytes ≡ Ok (core, rest) → Stopped (items_by form role core.0.stack_set) rest s → Stopped (state_by form role region) bytes s
+pub stop_in_items : (form : Form) (role : Role) (region : Region) (bytes : List ℕ) (core : Tested) (rest : List ℕ) (s : Stop) → core_by form role bytes ≡ Ok (core, rest) → Stopped (mapped count_items (items_by form role core.0.stack_set)) rest s → Stopped (state_by form role region) bytes s
 stop_in_items form role region bytes core rest s h p =
     of_state form role region bytes s (Stopped-then (core_by form role) (behind_core form role region) (IsLocal-core_by form role) bytes core rest s h
-    (Stopped-first (items_by form role core.0.stack_set) (λ x. both (told_by form region (may_be_aside role core.0) core.1) (cells_by form region)) rest s p))
+    (Stopped-first (items_by form role core.0.stack_set) (λ items. lists_by form role region core (length items)) rest s (Stopped-unmapped count_items (items_by form role core.0.stack_set) rest s p)))
 
-pub stop_in_lists : (form : Form) (role : Role) (region : Region) (bytes : List ℕ) (core : Tested) (rest end : List ℕ) (aside : Bool) (s : Stop) → core_by form role bytes ≡ Ok (core, rest) → skipped (items_by form role core.0.stack_set) rest ≡ Ok end → aside ≡ may_be_aside role core.0
-    → Stopped (both (told_by form region aside core.1) (cells_by form region)) end s → Stopped (state_by form role region) bytes s
-stop_in_lists form role region bytes core rest end aside s h g same p =
+-- behind so many items, whose stack was found
+abbrev found_lists : (form : Form) → StackBytes → Bool → Option ℕ → Read (Told form × List Cell)
+found_lists form k aside test = both (told_by form k aside test) (cells_by form k.region)
+
+lists_are : (form : Form) (role : Role) (region : Region) (core : Tested) (count : ℕ) (k : StackBytes) (aside : Bool) → k ≡ stack_by form role region count → aside ≡ may_be_aside role core.0 → found_lists form k aside core.1 ≡ lists_by form role region core count
+lists_are form role region core count k aside same b =
+    ap (λ a. found_lists form k a core.1) b
+    ∙ ap (λ (j : StackBytes). found_lists form j (may_be_aside role core.0) core.1) same
+    ∙ ap (λ (r : Region). both (told_by form (stack_by form role region count) (may_be_aside role core.0) core.1) (cells_by form r)) (region_is form role region count)
+
+pub stop_in_lists : (form : Form) (role : Role) (region : Region) (bytes : List ℕ) (core : Tested) (rest : List ℕ) (count : ℕ) (end : List ℕ) (k : StackBytes) (aside : Bool) (s : Stop) → core_by form role bytes ≡ Ok (core, rest) → mapped count_items (items_by form role core.0.stack_set) rest ≡ Ok (count, end) → k ≡ stack_by form role region count → aside ≡ may_be_aside role core.0
+    → Stopped (found_lists form k aside core.1) end s → Stopped (state_by form role region) bytes s
+stop_in_lists form role region bytes core rest count end k aside s h g same b p =
+    let items = was_mapped count_items (items_by form role core.0.stack_set) rest count end g in
+    let lists : ℕ → Read (Told form × List Cell) = λ n. lists_by form role region core n in
+    let q = subst (λ (t : Read (Told form × List Cell)). Stopped t end s) (lists_are form role region core count k aside same b) p in
     of_state form role region bytes s (Stopped-then (core_by form role) (behind_core form role region) (IsLocal-core_by form role) bytes core rest s h
-    (Stopped-after (items_by form role core.0.stack_set) (both (told_by form region (may_be_aside role core.0) core.1) (cells_by form region)) (IsLocal-items_by form role core.0.stack_set) rest end s g
-    (subst (λ b. Stopped (both (told_by form region b core.1) (cells_by form region)) end s) same p)))
+    (Stopped-then (items_by form role core.0.stack_set) (λ items. lists (length items)) (IsLocal-items_by form role core.0.stack_set) rest items.0 end s items.1
+    (subst (λ n. Stopped (lists n) end s) (sym items.2) q)))
 
-pub state_passed : (form : Form) (role : Role) (region : Region) (bytes : List ℕ) (core : Tested) (rest mid end : List ℕ) (aside : Bool) → core_by form role bytes ≡ Ok (core, rest) → skipped (items_by form role core.0.stack_set) rest ≡ Ok mid → aside ≡ may_be_aside role core.0
-    → skipped (both (told_by form region aside core.1) (cells_by form region)) mid ≡ Ok end → skipped (state_by form role region) bytes ≡ Ok end
-state_passed form role region bytes core rest mid end aside h g same k =
+pub state_passed : (form : Form) (role : Role) (region : Region) (bytes : List ℕ) (core : Tested) (rest : List ℕ) (count : ℕ) (mid end : List ℕ) (k : StackBytes) (aside : Bool) → core_by form role bytes ≡ Ok (core, rest) → mapped count_items (items_by form role core.0.stack_set) rest ≡ Ok (count, mid) → k ≡ stack_by form role region count → aside ≡ may_be_aside role core.0
+    → skipped (found_lists form k aside core.1) mid ≡ Ok end → skipped (state_by form role region) bytes ≡ Ok end
+state_passed form role region bytes core rest count mid end k aside h g same b l =
+    let items = was_mapped count_items (items_by form role core.0.stack_set) rest count mid g in
+    let lists : ℕ → Read (Told form × List Cell) = λ n. lists_by form role region core n in
+    let q = subst (λ (t : Read (Told form × List Cell)). skipped t mid ≡ Ok end) (lists_are form role region core count k aside same b) l in
     sym (same_skipped (parted_state form role region) (state_by form role region) bytes (state_is form role region bytes))
     ∙ skipped-mapped (to_state_by form) (followed (core_by form role) (behind_core form role region)) bytes
     ∙ skipped-followed (core_by form role) (behind_core form role region) bytes core rest h
-    ∙ both_passed (items_by form role core.0.stack_set) (both (told_by form region (may_be_aside role core.0) core.1) (cells_by form region)) rest mid end g
-    (subst (λ b. skipped (both (told_by form region b core.1) (cells_by form region)) mid ≡ Ok end) same k)
+    ∙ skipped-followed (items_by form role core.0.stack_set) (λ items. lists (length items)) rest items.0 mid items.1
+    ∙ subst (λ n. skipped (lists n) mid ≡ Ok end) (sym items.2) q
 
 -- ---- exits
 

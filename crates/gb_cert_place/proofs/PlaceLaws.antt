@@ -8,11 +8,13 @@ use Rattle.gb_fields.specs.declared.head.Head.{Head}
 use Rattle.gb_domain.specs.declared.summary.Fact.{Fact}
 use Rattle.gb_domain.specs.Types.{ProcedureParts, Node}
 use Rattle.gb_domain.specs.Certificate.{Certificate}
-use Rattle.gb_fields.specs.Format.{Read, go_on, mapped, if_faultless, ended}
+use Rattle.gb_fields.specs.Format.{Read, go_on, mapped, if_faultless, several, ended}
 use Rattle.gb_fields.specs.Reading.{any_head_at}
-use Rattle.gb_states.specs.Rules.{is_of}
-use Rattle.gb_states.specs.WholeRules.{kept_counts, is_uncrowded, is_in_order}
-use Rattle.gb_states.specs.WholeReading.{facts_by, procedures_at, nodes_at, behind_facts, behind_head, fault_by, entry_fault, or_else, entries_fault, entries_fault_in, Parts, to_certificate, certificate_at, read_certificate}
+use Rattle.gb_states.specs.declared.form.ProcedureForm.{ProcedureForm}
+use Rattle.gb_states.specs.Rules.{is_of, key}
+use Rattle.gb_states.specs.WholeRules.{procedure_forms, form_in, is_uncrowded, is_in_order}
+use Rattle.gb_states.specs.WholeReading.{facts_by, node_by, procedures_at, nodes_at, behind_facts, behind_head, fault_by, entry_fault, or_else, entries_fault, entries_fault_in, Parts, to_certificate, certificate_at, read_certificate}
+use Rattle.gb_cert.specs.Places.{forms_if}
 use Rattle.gb_cert.specs.Skipping.{skipped}
 use Rattle.gb_cert.proofs.Skipping.{skipped-followed}
 use Rattle.gb_cert_place.specs.declared.block.Stop.{Stop}
@@ -37,7 +39,16 @@ behind_some h fs = behind_facts h (length fs)
 
 -- what is behind the procedures
 abbrev behind_procedures : Head → ℕ → List ProcedureParts → Read (List Node)
-behind_procedures h facts ps = nodes_at h facts (kept_counts ps)
+behind_procedures h facts ps = nodes_at h facts (procedure_forms ps)
+
+-- Versions 1 to 3 read nodes by no form.
+nodes_of : (h : Head) (facts : ℕ) (ps : List ProcedureParts) → nodes_at h facts (forms_if (h.version == 4) ps) ≡ nodes_at h facts (procedure_forms ps)
+unfolding nodes_at
+nodes_of h facts ps = by (h.version == 4)
+  where
+    by : (b : Bool) → several (node_by b h.version facts (form_in (forms_if b ps)) h.region h.procedures) key (0, 0) h.nodes ≡ several (node_by b h.version facts (form_in (procedure_forms ps)) h.region h.procedures) key (0, 0) h.nodes
+    by true = refl
+    by false = refl
 
 pub stop_in_head : (version : ℕ) (bytes : List ℕ) (s : Stop) → Stopped (read_block (block.Head version)) bytes s → Stopped parts_at bytes s
 unfolding read_block parts_at
@@ -50,50 +61,52 @@ stop_in_certificate_facts bytes h first s e p =
     (Stopped-first (facts_by (h.version == 4) h.region) (behind_some h) first s (Stopped-unmapped length (facts_by (h.version == 4) h.region) first s p))
 
 pub stop_in_procedures : (bytes : List ℕ) (h : Head) (first : List ℕ) (facts : ℕ) (second : List ℕ) (s : Stop) → any_head_at bytes ≡ Ok (h, first) → mapped length (facts_by (h.version == 4) h.region) first ≡ Ok (facts, second)
-    → Stopped (mapped kept_counts (procedures_at h facts)) second s → Stopped parts_at bytes s
+    → Stopped (mapped (forms_if (h.version == 4)) (procedures_at h facts)) second s → Stopped parts_at bytes s
 unfolding parts_at
 stop_in_procedures bytes h first facts second s e f p =
     let fs = was_mapped length (facts_by (h.version == 4) h.region) first facts second f in
-    let q = subst (λ (n : ℕ). Stopped (mapped kept_counts (procedures_at h n)) second s) (sym fs.2) p in
+    let q = subst (λ (n : ℕ). Stopped (mapped (forms_if (h.version == 4)) (procedures_at h n)) second s) (sym fs.2) p in
     Stopped-then any_head_at behind_head IsLocal-any_head bytes h first s e
     (Stopped-then (facts_by (h.version == 4) h.region) (behind_some h) (IsLocal-facts_by (h.version == 4) h.region) first fs.0 second s fs.1
-    (Stopped-first (procedures_at h (length fs.0)) (behind_procedures h (length fs.0)) second s (Stopped-unmapped kept_counts (procedures_at h (length fs.0)) second s q)))
+    (Stopped-first (procedures_at h (length fs.0)) (behind_procedures h (length fs.0)) second s (Stopped-unmapped (forms_if (h.version == 4)) (procedures_at h (length fs.0)) second s q)))
 
-pub stop_in_nodes : (bytes : List ℕ) (h : Head) (first : List ℕ) (facts : ℕ) (second counts third : List ℕ) (s : Stop) → any_head_at bytes ≡ Ok (h, first) → mapped length (facts_by (h.version == 4) h.region) first ≡ Ok (facts, second)
-    → mapped kept_counts (procedures_at h facts) second ≡ Ok (counts, third) → Stopped (nodes_at h facts counts) third s → Stopped parts_at bytes s
+pub stop_in_nodes : (bytes : List ℕ) (h : Head) (first : List ℕ) (facts : ℕ) (second : List ℕ) (forms : List ProcedureForm) (third : List ℕ) (s : Stop) → any_head_at bytes ≡ Ok (h, first) → mapped length (facts_by (h.version == 4) h.region) first ≡ Ok (facts, second)
+    → mapped (forms_if (h.version == 4)) (procedures_at h facts) second ≡ Ok (forms, third) → Stopped (nodes_at h facts forms) third s → Stopped parts_at bytes s
 unfolding parts_at
-stop_in_nodes bytes h first facts second counts third s e f g p =
+stop_in_nodes bytes h first facts second forms third s e f g p =
     let fs = was_mapped length (facts_by (h.version == 4) h.region) first facts second f in
-    let ps = was_mapped kept_counts (procedures_at h (length fs.0)) second counts third (subst (λ (n : ℕ). mapped kept_counts (procedures_at h n) second ≡ Ok (counts, third)) (sym fs.2) g) in
-    let q = subst (λ (n : ℕ). Stopped (nodes_at h n (kept_counts ps.0)) third s) (sym fs.2) (subst (λ (c : List ℕ). Stopped (nodes_at h facts c) third s) (sym ps.2) p) in
+    let ps = was_mapped (forms_if (h.version == 4)) (procedures_at h (length fs.0)) second forms third (subst (λ (n : ℕ). mapped (forms_if (h.version == 4)) (procedures_at h n) second ≡ Ok (forms, third)) (sym fs.2) g) in
+    let of = subst (λ (n : ℕ). Stopped (nodes_at h n (forms_if (h.version == 4) ps.0)) third s) (sym fs.2) (subst (λ (c : List ProcedureForm). Stopped (nodes_at h facts c) third s) (sym ps.2) p) in
+    let q = subst (λ (r : Read (List Node)). Stopped r third s) (nodes_of h (length fs.0) ps.0) of in
     Stopped-then any_head_at behind_head IsLocal-any_head bytes h first s e
     (Stopped-then (facts_by (h.version == 4) h.region) (behind_some h) (IsLocal-facts_by (h.version == 4) h.region) first fs.0 second s fs.1
     (Stopped-then (procedures_at h (length fs.0)) (behind_procedures h (length fs.0)) (IsLocal-procedures h (length fs.0)) second ps.0 third s ps.1 q))
 
-pub parts_passed : (bytes : List ℕ) (h : Head) (first : List ℕ) (facts : ℕ) (second counts third end : List ℕ) → any_head_at bytes ≡ Ok (h, first) → mapped length (facts_by (h.version == 4) h.region) first ≡ Ok (facts, second)
-    → mapped kept_counts (procedures_at h facts) second ≡ Ok (counts, third) → skipped (nodes_at h facts counts) third ≡ Ok end → skipped parts_at bytes ≡ Ok end
+pub parts_passed : (bytes : List ℕ) (h : Head) (first : List ℕ) (facts : ℕ) (second : List ℕ) (forms : List ProcedureForm) (third end : List ℕ) → any_head_at bytes ≡ Ok (h, first) → mapped length (facts_by (h.version == 4) h.region) first ≡ Ok (facts, second)
+    → mapped (forms_if (h.version == 4)) (procedures_at h facts) second ≡ Ok (forms, third) → skipped (nodes_at h facts forms) third ≡ Ok end → skipped parts_at bytes ≡ Ok end
 unfolding parts_at
-parts_passed bytes h first facts second counts third end e f g k =
+parts_passed bytes h first facts second forms third end e f g k =
     let fs = was_mapped length (facts_by (h.version == 4) h.region) first facts second f in
-    let ps = was_mapped kept_counts (procedures_at h (length fs.0)) second counts third (subst (λ (n : ℕ). mapped kept_counts (procedures_at h n) second ≡ Ok (counts, third)) (sym fs.2) g) in
-    let q = subst (λ (n : ℕ). skipped (nodes_at h n (kept_counts ps.0)) third ≡ Ok end) (sym fs.2) (subst (λ (c : List ℕ). skipped (nodes_at h facts c) third ≡ Ok end) (sym ps.2) k) in
+    let ps = was_mapped (forms_if (h.version == 4)) (procedures_at h (length fs.0)) second forms third (subst (λ (n : ℕ). mapped (forms_if (h.version == 4)) (procedures_at h n) second ≡ Ok (forms, third)) (sym fs.2) g) in
+    let of = subst (λ (n : ℕ). skipped (nodes_at h n (forms_if (h.version == 4) ps.0)) third ≡ Ok end) (sym fs.2) (subst (λ (c : List ProcedureForm). skipped (nodes_at h facts c) third ≡ Ok end) (sym ps.2) k) in
+    let q = subst (λ (r : Read (List Node)). skipped r third ≡ Ok end) (nodes_of h (length fs.0) ps.0) of in
     skipped-followed any_head_at behind_head bytes h first e
     ∙ skipped-followed (facts_by (h.version == 4) h.region) (behind_some h) first fs.0 second fs.1
     ∙ skipped-followed (procedures_at h (length fs.0)) (behind_procedures h (length fs.0)) second ps.0 third ps.1 ∙ q
 
--- where the blocks stand, by how many facts and kept addresses there are
+-- where the blocks stand, by how many facts there are and the procedures' forms
 pub behind_facts_in : (bytes : List ℕ) (h : Head) (first : List ℕ) (facts : ℕ) (second : List ℕ) (p : Part) (b : Block) (rest : List ℕ) → any_head_at bytes ≡ Ok (h, first) → mapped length (facts_by (h.version == 4) h.region) first ≡ Ok (facts, second)
     → InProcedures h facts second p b rest → InCertificate bytes p b rest
 behind_facts_in bytes h first facts second p b rest e f a =
     let fs = was_mapped length (facts_by (h.version == 4) h.region) first facts second f in
     BehindFacts e fs.1 (subst (λ (n : ℕ). InProcedures h n second p b rest) (sym fs.2) a)
 
-pub behind_procedures_in : (bytes : List ℕ) (h : Head) (first : List ℕ) (facts : ℕ) (second counts third : List ℕ) (p : Part) (b : Block) (rest : List ℕ) → any_head_at bytes ≡ Ok (h, first) → mapped length (facts_by (h.version == 4) h.region) first ≡ Ok (facts, second)
-    → mapped kept_counts (procedures_at h facts) second ≡ Ok (counts, third) → InNodes h facts counts third p b rest → InCertificate bytes p b rest
-behind_procedures_in bytes h first facts second counts third p b rest e f g a =
+pub behind_procedures_in : (bytes : List ℕ) (h : Head) (first : List ℕ) (facts : ℕ) (second : List ℕ) (forms : List ProcedureForm) (third : List ℕ) (p : Part) (b : Block) (rest : List ℕ) → any_head_at bytes ≡ Ok (h, first) → mapped length (facts_by (h.version == 4) h.region) first ≡ Ok (facts, second)
+    → mapped (forms_if (h.version == 4)) (procedures_at h facts) second ≡ Ok (forms, third) → InNodes h facts forms third p b rest → InCertificate bytes p b rest
+behind_procedures_in bytes h first facts second forms third p b rest e f g a =
     let fs = was_mapped length (facts_by (h.version == 4) h.region) first facts second f in
-    let ps = was_mapped kept_counts (procedures_at h (length fs.0)) second counts third (subst (λ (n : ℕ). mapped kept_counts (procedures_at h n) second ≡ Ok (counts, third)) (sym fs.2) g) in
-    BehindProcedures e fs.1 ps.1 (subst (λ (n : ℕ). InNodes h n (kept_counts ps.0) third p b rest) (sym fs.2) (subst (λ (c : List ℕ). InNodes h facts c third p b rest) (sym ps.2) a))
+    let ps = was_mapped (forms_if (h.version == 4)) (procedures_at h (length fs.0)) second forms third (subst (λ (n : ℕ). mapped (forms_if (h.version == 4)) (procedures_at h n) second ≡ Ok (forms, third)) (sym fs.2) g) in
+    BehindProcedures e fs.1 ps.1 (subst (λ (n : ℕ). InNodes h n (forms_if (h.version == 4) ps.0) third p b rest) (sym fs.2) (subst (λ (c : List ProcedureForm). InNodes h facts c third p b rest) (sym ps.2) a))
 
 pub ruleset walk_parts = (no_head, stop_in_head, stop_in_certificate_facts, stop_in_procedures, stop_in_nodes, parts_passed)
 

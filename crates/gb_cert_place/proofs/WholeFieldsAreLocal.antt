@@ -1,6 +1,7 @@
 -- The readers of version 4, and those of any version, go from left to right.
 use Rattle.std.proofs.Common.{ℕ, ◌==◌, Bool, true, false, List, [], length, Option, None}
 use Rattle.gb_ops.specs.declared.machine.Region.{Region}
+use Rattle.gb_domain.specs.declared.places.StackBytes.{StackBytes}
 use Rattle.gb_domain.specs.declared.rules.Rules.TheVariants.{Extended}
 use Rattle.gb_domain.specs.declared.summary.Shadows.{Shadows}
 use Rattle.gb_domain.specs.Limits.{rules_of, cell_room}
@@ -11,6 +12,8 @@ use Rattle.gb_fields.specs.Limits.{fact_limit, fill_limit, kept_room}
 use Rattle.gb_fields.specs.Rules.{any_rules_of}
 use Rattle.gb_fields.specs.Format.{Read, byte}
 use Rattle.gb_fields.specs.Reading.{word_count_within, offset_at, procedure_count_by, procedure_count_at, any_version_at, any_head_at}
+use Rattle.gb_states.specs.declared.form.ProcedureForm.{ProcedureForm}
+use Rattle.gb_states.specs.declared.relations.InMemory.{InMemory}
 use Rattle.gb_states.specs.declared.form.Form.{Form}
 use Rattle.gb_states.specs.declared.form.Form.TheVariants.{Older, Fourth}
 use Rattle.gb_states.specs.declared.relations.Present.{Present}
@@ -20,8 +23,8 @@ use Rattle.gb_states.specs.declared.role.Role.TheVariants as role
 use Rattle.gb_states.specs.Forms.{val_by, cell_by, state_by}
 use Rattle.gb_states.specs.RelationReading.{parts_at}
 use Rattle.gb_states.specs.Rules.{role_of}
-use Rattle.gb_states.specs.WholeRules.{kept_of, kept_counts, may_be_aside}
-use Rattle.gb_states.specs.WholeReading.{val_at, kept_at, stretch_at, said_at, interval_at, fact_at, end_by, end_of, end_at, fill_at, fill_count_at, fills_at, levels_at, no_levels, places_at, shadows_at, others_at, bank_shadows_at, declared_at, summary_at, free_address_at, kept_addresses_at, facts_at, ctl_at, vals_at, core_at, items_at, cell_at, cells_at, told_at, state_at, exit_at, named_at, procedure_at, key_at, node_at, facts_by, procedure_by, node_by, number_by, key_by, procedures_at, nodes_at, behind_head}
+use Rattle.gb_states.specs.WholeRules.{form_in, procedure_forms, may_be_aside, stack_bytes}
+use Rattle.gb_states.specs.WholeReading.{val_at, kept_at, stretch_at, said_at, interval_at, fact_at, end_by, end_of, end_at, fill_at, fill_count_at, fills_at, levels_at, no_levels, places_at, shadows_at, others_at, bank_shadows_at, declared_at, summary_at, free_address_at, kept_addresses_at, facts_at, ctl_at, vals_at, core_at, items_at, cell_at, cells_at, told_at, state_at, exit_at, named_at, procedure_at, key_at, node_at, facts_by, procedure_by, node_by, number_by, key_by, procedures_at, nodes_at, behind_head, may_be_item, place_of}
 use Rattle.gb_cert_place.specs.Forms.{core_by, items_by, cells_by, told_by, ending_by}
 use Rattle.gb_cert_place.specs.Stops.{parts_at as certificate_parts_at}
 use Rattle.gb_cert_place.proofs.Locality.{IsLocal, IsLocal-byte, IsLocal-both, IsLocal-followed, IsLocal-mapped, IsLocal-checked, IsLocal-optional, IsLocal-several, IsLocal-counted}
@@ -105,9 +108,9 @@ IsLocal-bank_shadows region = IsLocal-mapped _ _ (IsLocal-followed _ _ (IsLocal-
 
 -- ---- what a state says that is about the whole program
 
-IsLocal-declared : (may_be_aside : Bool) → IsLocal (declared_at may_be_aside)
+IsLocal-declared : (aside item : Bool) → IsLocal (declared_at aside item)
 unfolding declared_at
-IsLocal-declared may_be_aside = IsLocal-checked _ _ _ (IsLocal-mapped _ _ (IsLocal-byte_between 0 7))
+IsLocal-declared aside item = IsLocal-checked _ _ _ (IsLocal-mapped _ _ (IsLocal-byte_between 0 15))
 
 IsLocal-summary : (facts : ℕ) (region : Region) (d : Declared) → IsLocal (summary_at facts region d)
 unfolding summary_at
@@ -166,69 +169,69 @@ IsLocal-fourth_cells : (kept : ℕ) (region : Region) → IsLocal (cells_at kept
 unfolding cells_at
 IsLocal-fourth_cells kept region = IsLocal-counted _ _ _ _ (IsLocal-count_within (cell_room Extended)) (IsLocal-fourth_cell kept region)
 
-IsLocal-relation_parts : (region : Region) (test : Option ℕ) (p : Present) → IsLocal (parts_at region test p)
-IsLocal-relation_parts region test p = IsLocal-both _ _ (IsLocal-defaulted no_byte p.byte _ (IsLocal-one_byte region test p.address p.bits)) (IsLocal-both _ _ (IsLocal-optional p.zero _ IsLocal-pair) (IsLocal-pairs p))
+IsLocal-relation_parts : (k : StackBytes) (test : Option ℕ) (place : InMemory) (p : Present) → IsLocal (parts_at k test place p)
+IsLocal-relation_parts k test place p = IsLocal-both _ _ (IsLocal-defaulted no_byte p.byte _ (IsLocal-one_byte k test place p.bits)) (IsLocal-both _ _ (IsLocal-optional p.zero _ IsLocal-pair) (IsLocal-pairs p))
 
-pub IsLocal-told : (facts : ℕ) (region : Region) (may_be_aside : Bool) (test : Option ℕ) → IsLocal (told_at facts region may_be_aside test)
+pub IsLocal-told : (facts : ℕ) (k : StackBytes) (may_be_aside : Bool) (test : Option ℕ) → IsLocal (told_at facts k may_be_aside test)
 unfolding told_at
-IsLocal-told facts region may_be_aside test =
-    IsLocal-mapped _ _ (IsLocal-followed _ _ (IsLocal-both _ _ (IsLocal-present test) (IsLocal-declared may_be_aside))
-    (λ d. IsLocal-both _ _ (IsLocal-relation_parts region test d.0) (IsLocal-summary facts region d.1)))
+IsLocal-told facts k may_be_aside test =
+    IsLocal-mapped _ _ (IsLocal-followed _ _ (IsLocal-followed _ _ (IsLocal-present test) (λ p. IsLocal-declared may_be_aside (may_be_item k p)))
+    (λ d. IsLocal-both _ _ (IsLocal-relation_parts k test (place_of d) d.0) (IsLocal-summary facts k.region d.1)))
 
-IsLocal-fourth_state : (facts kept : ℕ) (role : Role) (region : Region) → IsLocal (state_at facts kept role region)
+IsLocal-fourth_state : (facts : ℕ) (form : ProcedureForm) (role : Role) (region : Region) → IsLocal (state_at facts form role region)
 unfolding state_at
-IsLocal-fourth_state facts kept role region =
-    IsLocal-mapped _ _ (IsLocal-followed _ _ (IsLocal-fourth_core kept role)
-    (λ k. IsLocal-both _ _ (IsLocal-fourth_items kept role k.0.stack_set) (IsLocal-both _ _ (IsLocal-told facts region (may_be_aside role k.0) k.1) (IsLocal-fourth_cells kept region))))
+IsLocal-fourth_state facts form role region =
+    IsLocal-mapped _ _ (IsLocal-followed _ _ (IsLocal-fourth_core form.kept role)
+    (λ k. IsLocal-followed _ _ (IsLocal-fourth_items form.kept role k.0.stack_set) (λ items. IsLocal-both _ _ (IsLocal-told facts (stack_bytes form role region (length items)) (may_be_aside role k.0) k.1) (IsLocal-fourth_cells form.kept region))))
 
 -- ---- by the version
 
 pub IsLocal-val_by : (form : Form) → IsLocal (val_by form)
 IsLocal-val_by (Older rules) = IsLocal-val rules
-IsLocal-val_by (Fourth facts kept) = IsLocal-fourth_val kept
+IsLocal-val_by (Fourth facts form) = IsLocal-fourth_val form.kept
 
 pub IsLocal-cell_by : (form : Form) (region : Region) (least : ℕ) → IsLocal (cell_by form region least)
 IsLocal-cell_by (Older rules) region least = IsLocal-cell rules region least
-IsLocal-cell_by (Fourth facts kept) region least = IsLocal-fourth_cell kept region least
+IsLocal-cell_by (Fourth facts form) region least = IsLocal-fourth_cell form.kept region least
 
 pub IsLocal-core_by : (form : Form) (role : Role) → IsLocal (core_by form role)
 IsLocal-core_by (Older rules) role = IsLocal-core rules role
-IsLocal-core_by (Fourth facts kept) role = IsLocal-fourth_core kept role
+IsLocal-core_by (Fourth facts form) role = IsLocal-fourth_core form.kept role
 
 pub IsLocal-items_by : (form : Form) (role : Role) (stack_set : Bool) → IsLocal (items_by form role stack_set)
 IsLocal-items_by (Older rules) role stack_set = IsLocal-items rules role stack_set
-IsLocal-items_by (Fourth facts kept) role stack_set = IsLocal-fourth_items kept role stack_set
+IsLocal-items_by (Fourth facts form) role stack_set = IsLocal-fourth_items form.kept role stack_set
 
-pub IsLocal-told_by : (form : Form) (region : Region) (may_be_aside : Bool) (test : Option ℕ) → IsLocal (told_by form region may_be_aside test)
-IsLocal-told_by (Older rules) region may_be_aside test = IsLocal-relations_by rules region test
-IsLocal-told_by (Fourth facts kept) region may_be_aside test = IsLocal-told facts region may_be_aside test
+pub IsLocal-told_by : (form : Form) (k : StackBytes) (may_be_aside : Bool) (test : Option ℕ) → IsLocal (told_by form k may_be_aside test)
+IsLocal-told_by (Older rules) k may_be_aside test = IsLocal-relations_by rules k.region test
+IsLocal-told_by (Fourth facts form) k may_be_aside test = IsLocal-told facts k may_be_aside test
 
 pub IsLocal-cells_by : (form : Form) (region : Region) → IsLocal (cells_by form region)
 IsLocal-cells_by (Older rules) region = IsLocal-cells rules region
-IsLocal-cells_by (Fourth facts kept) region = IsLocal-fourth_cells kept region
+IsLocal-cells_by (Fourth facts form) region = IsLocal-fourth_cells form.kept region
 
 pub IsLocal-state_by : (form : Form) (role : Role) (region : Region) → IsLocal (state_by form role region)
 IsLocal-state_by (Older rules) role region = IsLocal-state rules role region
-IsLocal-state_by (Fourth facts kept) role region = IsLocal-fourth_state facts kept role region
+IsLocal-state_by (Fourth facts form) role region = IsLocal-fourth_state facts form role region
 
 -- ---- procedures
 
-IsLocal-fourth_exit : (facts kept : ℕ) (is_main : Bool) (region : Region) → IsLocal (exit_at facts kept is_main region)
+IsLocal-fourth_exit : (facts : ℕ) (form : ProcedureForm) (is_main : Bool) (region : Region) → IsLocal (exit_at facts form is_main region)
 unfolding exit_at
-IsLocal-fourth_exit facts kept is_main region = IsLocal-mapped _ _ (IsLocal-followed _ _ (IsLocal-returns is_main) (λ returns. IsLocal-optional returns _ (IsLocal-fourth_state facts kept role.Exit region)))
+IsLocal-fourth_exit facts form is_main region = IsLocal-mapped _ _ (IsLocal-followed _ _ (IsLocal-returns is_main) (λ returns. IsLocal-optional returns _ (IsLocal-fourth_state facts form role.Exit region)))
 
-IsLocal-named : (facts : ℕ) (is_main : Bool) (region : Region) → IsLocal (named_at facts is_main region)
+IsLocal-named : (facts base : ℕ) (is_main : Bool) (region : Region) → IsLocal (named_at facts base is_main region)
 unfolding named_at
-IsLocal-named facts is_main region = IsLocal-followed _ _ (IsLocal-both _ _ (IsLocal-kept_addresses is_main region) IsLocal-byte) (λ d. IsLocal-fourth_exit facts (length d.0) is_main region)
+IsLocal-named facts base is_main region = IsLocal-followed _ _ (IsLocal-both _ _ (IsLocal-kept_addresses is_main region) IsLocal-byte) (λ d. IsLocal-fourth_exit facts (record { kept = length d.0; base = base }) is_main region)
 
-pub IsLocal-ending_by : (fourth : Bool) (version facts : ℕ) (is_main : Bool) (region : Region) → IsLocal (ending_by fourth version facts is_main region)
-IsLocal-ending_by true version facts is_main region = IsLocal-named facts is_main region
-IsLocal-ending_by false version facts is_main region = IsLocal-exit (rules_of version) is_main region
+pub IsLocal-ending_by : (fourth : Bool) (version facts : ℕ) (is_main : Bool) (region : Region) (base : ℕ) → IsLocal (ending_by fourth version facts is_main region base)
+IsLocal-ending_by true version facts is_main region base = IsLocal-named facts base is_main region
+IsLocal-ending_by false version facts is_main region base = IsLocal-exit (rules_of version) is_main region
 
 IsLocal-fourth_procedure : (facts : ℕ) (region : Region) (nodes : ℕ) (is_main : Bool) → IsLocal (procedure_at facts region nodes is_main)
 unfolding procedure_at
 IsLocal-fourth_procedure facts region nodes is_main =
-    IsLocal-mapped _ _ (IsLocal-both _ _ (IsLocal-entry 4 nodes) (IsLocal-both _ _ (IsLocal-base Extended is_main region) (IsLocal-both _ _ (IsLocal-need Extended is_main region) (IsLocal-both _ _ (IsLocal-ranges Extended is_main region) (IsLocal-named facts is_main region)))))
+    IsLocal-mapped _ _ (IsLocal-both _ _ (IsLocal-entry 4 nodes) (IsLocal-followed _ _ (IsLocal-base Extended is_main region) (λ base. IsLocal-both _ _ (IsLocal-need Extended is_main region) (IsLocal-both _ _ (IsLocal-ranges Extended is_main region) (IsLocal-named facts base is_main region)))))
 
 pub IsLocal-procedure_by : (fourth : Bool) (version facts : ℕ) (region : Region) (nodes : ℕ) (is_main : Bool) → IsLocal (procedure_by fourth version facts region nodes is_main)
 IsLocal-procedure_by true version facts region nodes is_main = IsLocal-fourth_procedure facts region nodes is_main
@@ -243,14 +246,14 @@ IsLocal-number_by false = IsLocal-byte
 pub IsLocal-key_by : (fourth : Bool) (procedures : ℕ) (before : ℕ × ℕ) → IsLocal (key_by fourth procedures before)
 IsLocal-key_by fourth procedures before = IsLocal-checked _ _ _ (IsLocal-both _ _ (IsLocal-checked _ _ _ (IsLocal-checked _ _ _ (IsLocal-number_by fourth))) IsLocal-word)
 
-IsLocal-fourth_node : (facts : ℕ) (kept : ℕ → ℕ) (region : Region) (procedures : ℕ) (before : ℕ × ℕ) → IsLocal (node_at facts kept region procedures before)
+IsLocal-fourth_node : (facts : ℕ) (form_of : ℕ → ProcedureForm) (region : Region) (procedures : ℕ) (before : ℕ × ℕ) → IsLocal (node_at facts form_of region procedures before)
 unfolding node_at key_at
-IsLocal-fourth_node facts kept region procedures before =
-    IsLocal-mapped _ _ (IsLocal-followed _ _ (IsLocal-key_by true procedures before) (λ k. IsLocal-both _ _ (IsLocal-word_between 0 511) (IsLocal-fourth_state facts (kept k.0) (role_of k.0) region)))
+IsLocal-fourth_node facts form_of region procedures before =
+    IsLocal-mapped _ _ (IsLocal-followed _ _ (IsLocal-key_by true procedures before) (λ k. IsLocal-both _ _ (IsLocal-word_between 0 511) (IsLocal-fourth_state facts (form_of k.0) (role_of k.0) region)))
 
-pub IsLocal-node_by : (fourth : Bool) (version facts : ℕ) (kept : ℕ → ℕ) (region : Region) (procedures : ℕ) (before : ℕ × ℕ) → IsLocal (node_by fourth version facts kept region procedures before)
-IsLocal-node_by true version facts kept region procedures before = IsLocal-fourth_node facts kept region procedures before
-IsLocal-node_by false version facts kept region procedures before = IsLocal-node (rules_of version) region procedures before
+pub IsLocal-node_by : (fourth : Bool) (version facts : ℕ) (form_of : ℕ → ProcedureForm) (region : Region) (procedures : ℕ) (before : ℕ × ℕ) → IsLocal (node_by fourth version facts form_of region procedures before)
+IsLocal-node_by true version facts form_of region procedures before = IsLocal-fourth_node facts form_of region procedures before
+IsLocal-node_by false version facts form_of region procedures before = IsLocal-node (rules_of version) region procedures before
 
 -- ---- certificates
 
@@ -280,12 +283,12 @@ pub IsLocal-procedures : (h : Head) (facts : ℕ) → IsLocal (procedures_at h f
 unfolding procedures_at
 IsLocal-procedures h facts = IsLocal-several _ _ (IsLocal-procedure_by (h.version == 4) h.version facts h.region h.nodes) h.procedures true
 
-pub IsLocal-nodes : (h : Head) (facts : ℕ) (counts : List ℕ) → IsLocal (nodes_at h facts counts)
+pub IsLocal-nodes : (h : Head) (facts : ℕ) (forms : List ProcedureForm) → IsLocal (nodes_at h facts forms)
 unfolding nodes_at
-IsLocal-nodes h facts counts = IsLocal-several _ _ (IsLocal-node_by (h.version == 4) h.version facts (kept_of counts) h.region h.procedures) h.nodes (0, 0)
+IsLocal-nodes h facts forms = IsLocal-several _ _ (IsLocal-node_by (h.version == 4) h.version facts (form_in forms) h.region h.procedures) h.nodes (0, 0)
 
 IsLocal-behind_head : (h : Head) → IsLocal (behind_head h)
-IsLocal-behind_head h = IsLocal-followed _ _ (IsLocal-facts_by (h.version == 4) h.region) (λ fs. IsLocal-followed _ _ (IsLocal-procedures h (length fs)) (λ ps. IsLocal-nodes h (length fs) (kept_counts ps)))
+IsLocal-behind_head h = IsLocal-followed _ _ (IsLocal-facts_by (h.version == 4) h.region) (λ fs. IsLocal-followed _ _ (IsLocal-procedures h (length fs)) (λ ps. IsLocal-nodes h (length fs) (procedure_forms ps)))
 
 pub IsLocal-parts : IsLocal certificate_parts_at
 unfolding certificate_parts_at

@@ -2,6 +2,7 @@
 use Rattle.std.proofs.Common.{◌≡◌, ℕ, zero, suc, ◌+◌, ◌≤◌, ◌==◌, ◌&&◌, nat_le, Bool, true, false, List, [], ◌∷◌, length, Option, None, Result, Ok, Err, ◌∙◌, ap, subst, arith}
 use Rattle.std.proofs.lemmas.Bool.Decides.{nat_tests}
 use Rattle.gb_ops.specs.declared.machine.Region.{Region}
+use Rattle.gb_domain.specs.declared.places.StackBytes.{StackBytes}
 use Rattle.gb_domain.specs.declared.summary.Shadows.{Shadows}
 use Rattle.gb_domain.specs.Places.{no_byte}
 use Rattle.gb_domain.specs.Summaries.{no_bank_shadows}
@@ -10,6 +11,7 @@ use Rattle.gb_fields.specs.declared.fault.CertFault.TheVariants as fault
 use Rattle.gb_fields.specs.Limits.{fill_limit}
 use Rattle.gb_fields.specs.Format.{Read, go_on, followed, if_passes, several, counted, byte}
 use Rattle.gb_fields.specs.Reading.{is_between, count_within, word_count_within, offset_at}
+use Rattle.gb_states.specs.declared.relations.InMemory.{InMemory}
 use Rattle.gb_states.specs.declared.form.Form.{Form}
 use Rattle.gb_states.specs.declared.form.Form.TheVariants.{Older, Fourth}
 use Rattle.gb_states.specs.declared.relations.Present.{Present}
@@ -18,20 +20,14 @@ use Rattle.gb_states.specs.declared.role.Role.{Role}
 use Rattle.gb_states.specs.Forms.{val_by, cell_by}
 use Rattle.gb_states.specs.RelationReading.{address_at, pair_at, bounds_at, pairs_at, parts_at}
 use Rattle.gb_states.specs.WholeRules.{is_said}
-use Rattle.gb_states.specs.WholeReading.{val_at, kept_at, stretch_at, said_at, interval_at, fact_at, end_by, end_of, end_at, fill_at, fill_count_at, fills_at, levels_at, no_levels, places_at, shadows_at, others_at, bank_shadows_at, declared_at, summary_at, free_address_at, ctl_at, vals_at, core_at, cell_at, told_at, number_by, key_by}
+use Rattle.gb_states.specs.WholeReading.{val_at, kept_at, stretch_at, said_at, interval_at, fact_at, end_by, end_of, end_at, fill_at, fill_count_at, fills_at, levels_at, no_levels, places_at, shadows_at, others_at, bank_shadows_at, declared_at, summary_at, free_address_at, ctl_at, vals_at, core_at, cell_at, told_at, number_by, key_by, may_be_item, place_of}
 use Rattle.gb_states.proofs.Formats.{went_on, same_pair}
 use Rattle.gb_cert_place.specs.Forms.{core_by}
 use Rattle.gb_cert_place.specs.Layout.{procedure_width, procedure_width_by}
 use Rattle.gb_cert_place.proofs.Locality.{failed, same_fault, passed}
-use Rattle.gb_cert_place.proofs.Widths.{IsWithin, cut_then, IsWithin-byte, IsWithin-followed, IsWithin-both, IsWithin-mapped, IsWithin-checked, IsWithin-word, IsWithin-byte_between, IsWithin-word_between, IsWithin-count_within, IsWithin-yes_no, IsWithin-val, IsWithin-may, IsWithin-ime, IsWithin-test, IsWithin-flg, IsWithin-nothing, IsWithin-defaulted, IsWithin-optional, IsWithin-present, IsWithin-one_byte, IsWithin-known, IsWithin-core, IsWithin-cell}
+use Rattle.gb_cert_place.proofs.Widths.{IsWithin, IsWithin-more, cut_then, IsWithin-byte, IsWithin-followed, IsWithin-both, IsWithin-mapped, IsWithin-checked, IsWithin-word, IsWithin-byte_between, IsWithin-word_between, IsWithin-count_within, IsWithin-yes_no, IsWithin-val, IsWithin-may, IsWithin-ime, IsWithin-test, IsWithin-flg, IsWithin-nothing, IsWithin-defaulted, IsWithin-optional, IsWithin-present, IsWithin-one_byte, IsWithin-known, IsWithin-core, IsWithin-cell}
 
 -- ---- so many, at most
-
-IsWithin-more : {X : Type 0} (r : Read X) (n m : ℕ) → n ≤ m → IsWithin r n → IsWithin r m
-IsWithin-more r n m le a = record {
-  takes = λ bytes x rest e. let l : length bytes ≤ n + length rest = a.takes bytes x rest e in omega arith;
-  decides = λ bytes few h. let l : n ≤ length bytes = omega arith in a.decides bytes l h;
-}
 
 -- where what is read first keeps a rule
 IsWithin-followed_where : {X Y : Type 0} (P : X → Type 0) (r : Read X) (t : X → Read Y) (n m : ℕ) → IsWithin r n → ((bytes : List ℕ) (x : X) (rest : List ℕ) → r bytes ≡ Ok (x, rest) → P x) → ((x : X) → P x → IsWithin (t x) m) → IsWithin (followed r t) (n + m)
@@ -182,9 +178,9 @@ IsWithin-bank_shadows region = IsWithin-mapped _ _ 6 (IsWithin-followed _ _ 3 3 
 
 -- ---- what a state says
 
-IsWithin-declared : (may_be_aside : Bool) → IsWithin (declared_at may_be_aside) 1
+IsWithin-declared : (aside item : Bool) → IsWithin (declared_at aside item) 1
 unfolding declared_at
-IsWithin-declared may_be_aside = IsWithin-checked _ _ _ 1 (λ h. cc) (IsWithin-mapped _ _ 1 (IsWithin-byte_between 0 7))
+IsWithin-declared aside item = IsWithin-checked _ _ _ 1 (λ h. cc) (IsWithin-mapped _ _ 1 (IsWithin-byte_between 0 15))
 
 IsWithin-summary : (facts : ℕ) (region : Region) (d : Declared) → IsWithin (summary_at facts region d) 85
 unfolding summary_at bounds_at
@@ -193,18 +189,18 @@ IsWithin-summary facts region d =
     (IsWithin-both _ _ 75 4 (IsWithin-defaulted no_levels d.levels _ 75 (IsWithin-levels facts region))
     (IsWithin-optional d.aside _ 4 (IsWithin-mapped _ _ 4 (IsWithin-checked _ _ _ 4 (λ h. cc) (IsWithin-both _ _ 2 2 IsWithin-word IsWithin-word))))))
 
-IsWithin-relation_parts : (region : Region) (test : Option ℕ) (p : Present) → IsWithin (parts_at region test p) 29
+IsWithin-relation_parts : (k : StackBytes) (test : Option ℕ) (place : InMemory) (p : Present) → IsWithin (parts_at k test place p) 29
 unfolding pair_at pairs_at
-IsWithin-relation_parts region test p =
-    IsWithin-both _ _ 4 25 (IsWithin-defaulted no_byte p.byte _ 4 (IsWithin-one_byte region test p.address p.bits))
+IsWithin-relation_parts k test place p =
+    IsWithin-both _ _ 4 25 (IsWithin-defaulted no_byte p.byte _ 4 (IsWithin-one_byte k test place p.bits))
     (IsWithin-both _ _ 1 24 (IsWithin-optional p.zero _ 1 (IsWithin-mapped _ _ 1 (IsWithin-byte_between 0 2)))
     (IsWithin-mapped _ _ 24 (IsWithin-both _ _ 8 16 (IsWithin-known p.bc) (IsWithin-both _ _ 8 8 (IsWithin-known p.de) (IsWithin-known p.hl)))))
 
-pub IsWithin-told : (facts : ℕ) (region : Region) (may_be_aside : Bool) (test : Option ℕ) → IsWithin (told_at facts region may_be_aside test) 116
+pub IsWithin-told : (facts : ℕ) (k : StackBytes) (may_be_aside : Bool) (test : Option ℕ) → IsWithin (told_at facts k may_be_aside test) 116
 unfolding told_at
-IsWithin-told facts region may_be_aside test =
-    IsWithin-mapped _ _ 116 (IsWithin-followed _ _ 2 114 (IsWithin-both _ _ 1 1 (IsWithin-present test) (IsWithin-declared may_be_aside))
-    (λ d. IsWithin-both _ _ 29 85 (IsWithin-relation_parts region test d.0) (IsWithin-summary facts region d.1)))
+IsWithin-told facts k may_be_aside test =
+    IsWithin-mapped _ _ 116 (IsWithin-followed _ _ 2 114 (IsWithin-followed _ _ 1 1 (IsWithin-present test) (λ p. IsWithin-declared may_be_aside (may_be_item k p)))
+    (λ d. IsWithin-both _ _ 29 85 (IsWithin-relation_parts k test (place_of d) d.0) (IsWithin-summary facts k.region d.1)))
 
 -- ---- blocks
 
@@ -241,15 +237,15 @@ IsWithin-fourth_cell kept region least = IsWithin-mapped _ _ 5 (IsWithin-both _ 
 
 pub IsWithin-core_by : (form : Form) (role : Role) → IsWithin (core_by form role) 40
 IsWithin-core_by (Older rules) role = IsWithin-core rules role
-IsWithin-core_by (Fourth facts kept) role = IsWithin-fourth_core kept role
+IsWithin-core_by (Fourth facts form) role = IsWithin-fourth_core form.kept role
 
 pub IsWithin-val_by : (form : Form) → IsWithin (val_by form) 3
 IsWithin-val_by (Older rules) = IsWithin-val rules
-IsWithin-val_by (Fourth facts kept) = IsWithin-fourth_val kept
+IsWithin-val_by (Fourth facts form) = IsWithin-fourth_val form.kept
 
 pub IsWithin-cell_by : (form : Form) (region : Region) (least : ℕ) → IsWithin (cell_by form region least) 5
 IsWithin-cell_by (Older rules) region least = IsWithin-cell rules region least
-IsWithin-cell_by (Fourth facts kept) region least = IsWithin-fourth_cell kept region least
+IsWithin-cell_by (Fourth facts form) region least = IsWithin-fourth_cell form.kept region least
 
 pub IsWithin-key_by : (version procedures : ℕ) (before : ℕ × ℕ) → IsWithin (key_by (version == 4) procedures before) (procedure_width version + 2)
 IsWithin-key_by version procedures before = by (version == 4)

@@ -3,7 +3,10 @@ use Rattle.std.proofs.Common.{◌≡◌, ℕ, ◌+◌, ◌≤◌, ◌==◌, Bool
 use Rattle.gb_ops.specs.declared.machine.Region.{Region}
 use Rattle.gb_fields.specs.declared.fault.CertFault.{CertFault}
 use Rattle.gb_fields.specs.declared.fault.CertFault.TheVariants as fault
+use Rattle.gb_states.specs.declared.relations.InMemory.TheVariants.{Nowhere, Address, Item}
+use Rattle.gb_states.specs.declared.relations.InMemory.{InMemory}
 use Rattle.gb_states.specs.declared.role.Role.{Role}
+use Rattle.gb_domain.specs.declared.places.StackBytes.{StackBytes}
 use Rattle.gb_domain.specs.declared.rules.Rules.{Rules}
 use Rattle.gb_domain.specs.declared.rules.Rules.TheVariants.{Extended}
 use Rattle.gb_domain.specs.declared.pairs.Other.{Other}
@@ -14,7 +17,7 @@ use Rattle.gb_fields.specs.Rules.{is_any_version_of, any_rules_of}
 use Rattle.gb_fields.specs.Format.{Read, go_on, followed, both, mapped, if_passes, checked, optional, byte}
 use Rattle.gb_fields.specs.Reading.{word, quad, node_number_by, node_number, byte_between, word_between, count_within, yes_no, returns_at, entry_at, nothing, base_at, need_at, region_at, node_count_at, Letters, is_magic, kind_of, magic_at, any_version_at, procedure_count_by, procedure_count_at, to_head, any_head_at}
 use Rattle.gb_states.specs.Reading.{origin_at, val_at, may_at, ime_at, test_at, flg_at, ctl_at, vals_at, core_at, item_count_at, cell_at, range_at}
-use Rattle.gb_states.specs.RelationReading.{defaulted, present_at, registers_at, address_at, byte_at, pair_at, bounds_at, other_at, factor_at, link_of, link_at, facts_at, pairs_at, relations_at}
+use Rattle.gb_states.specs.RelationReading.{defaulted, present_at, registers_at, address_at, item_at, place_by, memory_at, no_items, byte_at, pair_at, bounds_at, other_at, factor_at, link_of, link_at, facts_at, pairs_at, relations_at}
 use Rattle.gb_states.proofs.Formats.{went_on, same_pair}
 use Rattle.gb_cert_place.specs.Layout.{number_width, number_width_by, procedure_width, procedure_width_by}
 use Rattle.gb_cert_place.proofs.Locality.{failed, same_fault}
@@ -206,11 +209,23 @@ pub IsWithin-present : (test : Option ℕ) → IsWithin (present_at test) 1
 unfolding present_at
 IsWithin-present test = IsWithin-checked _ _ _ 1 (λ h. cc) (IsWithin-mapped _ _ 1 (IsWithin-byte_between 0 127))
 
-pub IsWithin-one_byte : (region : Region) (test : Option ℕ) (address bits : Bool) → IsWithin (byte_at region test address bits) 4
-unfolding byte_at registers_at address_at
-IsWithin-one_byte region test address bits =
+pub IsWithin-more : {X : Type 0} (r : Read X) (n m : ℕ) → n ≤ m → IsWithin r n → IsWithin r m
+IsWithin-more r n m le a = record {
+  takes = λ bytes x rest e. let l : length bytes ≤ n + length rest = a.takes bytes x rest e in omega arith;
+  decides = λ bytes few h. let l : n ≤ length bytes = omega arith in a.decides bytes l h;
+}
+
+IsWithin-memory : (k : StackBytes) (place : InMemory) → IsWithin (memory_at k place) 2
+unfolding address_at item_at
+IsWithin-memory k Nowhere = IsWithin-nothing None 2
+IsWithin-memory k Address = IsWithin-mapped Some _ 2 (IsWithin-checked _ _ _ 2 (λ h. cc) IsWithin-word)
+IsWithin-memory k Item = IsWithin-more _ 1 2 (omega arith) (IsWithin-mapped Some _ 1 (IsWithin-mapped _ _ 1 (IsWithin-checked _ _ _ 1 (λ h. cc) IsWithin-byte)))
+
+pub IsWithin-one_byte : (k : StackBytes) (test : Option ℕ) (place : InMemory) (bits : Bool) → IsWithin (byte_at k test place bits) 4
+unfolding byte_at registers_at
+IsWithin-one_byte k test place bits =
     IsWithin-mapped _ _ 4 (IsWithin-both _ _ 1 3 (IsWithin-checked _ _ _ 1 (λ h. cc) (IsWithin-mapped _ _ 1 (IsWithin-byte_between 0 127)))
-    (IsWithin-both _ _ 2 1 (IsWithin-optional address _ 2 (IsWithin-checked _ _ _ 2 (λ h. cc) IsWithin-word)) (IsWithin-optional bits _ 1 IsWithin-byte)))
+    (IsWithin-both _ _ 2 1 (IsWithin-memory k place) (IsWithin-optional bits _ 1 IsWithin-byte)))
 
 IsWithin-link_of : (o : Option Other) → IsWithin (link_of o) 3
 unfolding factor_at
@@ -230,7 +245,7 @@ pub IsWithin-relations : (region : Region) (test : Option ℕ) → IsWithin (rel
 unfolding relations_at pairs_at pair_at
 IsWithin-relations region test =
     IsWithin-mapped _ _ 30 (IsWithin-followed _ _ 1 29 (IsWithin-present test)
-    (λ p. IsWithin-both _ _ 4 25 (IsWithin-defaulted no_byte p.byte _ 4 (IsWithin-one_byte region test p.address p.bits))
+    (λ p. IsWithin-both _ _ 4 25 (IsWithin-defaulted no_byte p.byte _ 4 (IsWithin-one_byte (no_items region) test (place_by false p.address) p.bits))
     (IsWithin-both _ _ 1 24 (IsWithin-optional p.zero _ 1 (IsWithin-mapped _ _ 1 (IsWithin-byte_between 0 2)))
     (IsWithin-mapped _ _ 24 (IsWithin-both _ _ 8 16 (IsWithin-known p.bc) (IsWithin-both _ _ 8 8 (IsWithin-known p.de) (IsWithin-known p.hl)))))))
 

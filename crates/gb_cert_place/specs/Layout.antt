@@ -47,7 +47,7 @@ range_layout index = (field.RangeFirst index, 2) ∷ (field.RangeLast index, 2) 
 -- the last byte of a value: its origin, in version 4 with its low bits
 abbrev pub origin_field : Form → Owner → Field
 origin_field (Older rules) o = field.ValueOrigin o
-origin_field (Fourth facts kept) o = field.ValueTag o
+origin_field (Fourth facts form) o = field.ValueTag o
 
 -- a value, and what is behind it
 abbrev pub value_then : Form → Owner → Layout → Layout
@@ -110,7 +110,7 @@ layout (block.Core form role) = core_layout form
 layout (block.ItemCount rules role stack_set) = (field.ItemCount, 1) ∷ []
 layout (block.Item form index) = item_layout form index
 layout (block.Told region test) = told_layout
-layout (block.ToldWhole facts region may_be_aside test) = told_whole_layout
+layout (block.ToldWhole facts k may_be_aside test) = told_whole_layout
 layout (block.CellCount rules) = (field.CellCount, 1) ∷ []
 layout (block.Cell form index region least) = cell_layout form index
 layout (block.Key version procedures before) = key_layout version

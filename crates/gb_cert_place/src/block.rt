@@ -7,6 +7,7 @@ ghost use Rattle.gb_cert_place.specs.Stops.{is_missing, StopsAt, Stopped};
 
 use crate::parts::core_by;
 use gb_cert::CertFault;
+use gb_domain::places::StackBytes;
 use gb_domain::types::Rules;
 use gb_fields::head::any_head_at;
 use gb_fields::limits::{FACT_LIMIT, cell_limit, range_room};
@@ -100,7 +101,7 @@ pub enum Block {
     /// The same in version 4, and what the state says of the whole program, in a certificate of so many facts.
     ToldWhole {
         facts: u16,
-        region: Region,
+        stack: StackBytes,
         may_be_aside: bool,
         test: Option<u8>,
     },
@@ -232,11 +233,11 @@ fn read_block(block: Block, bytes: &[u8]) -> Result<&[u8], CertFault>
         }
         Block::ToldWhole {
             facts,
-            region,
+            stack,
             may_be_aside,
             test,
         } => {
-            let (_, rest) = told_at(facts, region, may_be_aside, test, bytes)?;
+            let (_, rest) = told_at(facts, stack, may_be_aside, test, bytes)?;
             Ok(rest)
         }
         Block::CellCount { rules } => {

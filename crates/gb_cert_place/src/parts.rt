@@ -30,6 +30,6 @@ pub(crate) fn core_by(
 {
     match form {
         Form::Older(rules) => fields::core_at(rules, role, bytes),
-        Form::Fourth(_, kept) => whole_states::core_at(kept, role, bytes),
+        Form::Fourth(_, form) => whole_states::core_at(form.kept, role, bytes),
     }
 }

@@ -5,36 +5,42 @@ ghost use Rattle.gb_domain.specs.Rules.{after_cell};
 ghost use Rattle.gb_fields.specs.Format.{both, mapped, several};
 ghost use Rattle.gb_fields.specs.Limits.{fact_limit, kept_limit};
 ghost use Rattle.gb_fields.specs.Reading.{base_at, head_in};
+ghost use Rattle.gb_fields.specs.Rules.{any_rules_of};
 ghost use Rattle.gb_states.specs.Forms.{vals_by, cell_by, state_by};
 ghost use Rattle.gb_states.specs.Rules.{after_range, role_of, key};
 ghost use Rattle.gb_states.specs.Reading.{range_at, ranges_at};
-ghost use Rattle.gb_states.specs.WholeRules.{after_address, kept_count, kept_counts, kept_of};
+ghost use Rattle.gb_states.specs.WholeRules.{after_address, form_in};
 ghost use Rattle.gb_states.specs.WholeReading.{fact_at, facts_by, free_address_at, kept_addresses_at, named_at, procedure_by, procedures_at, node_by, nodes_at};
-ghost use Rattle.gb_cert.specs.Skipping.{count_named};
+ghost use Rattle.gb_cert.specs.Places.{form_if, forms_if};
+ghost use Rattle.gb_cert.specs.Skipping.{form_named, count_items};
 ghost use Rattle.gb_cert.specs.Borrowed.{exit_by};
 ghost use Rattle.gb_cert_place.specs.declared.block.Part.TheVariants as the_part;
-ghost use Rattle.gb_cert_place.specs.Forms.{items_by, told_by, cells_by, ending_count, ending_by, needed_count, needed_by, body_count, body_by};
+ghost use Rattle.gb_cert_place.specs.Forms.{items_by, told_by, stack_by, cells_by, ending_form, ending_by, needed_form, needed_by, base_if, body_form, body_by};
 ghost use Rattle.gb_cert_place.specs.Standing.{Of, AmongItems, InItems, InTold, AmongCells, InCells, InLists, InState, AmongRanges, InRanges, AmongKept, InKept, InExit, InNamed, InEnding, InBase, InNeeded, InBody, InProcedure, InProcedures, InNode, InNodes, AmongFacts, InFacts, InCertificate};
 ghost use Rattle.gb_cert_place.specs.Stops.{Walks, Finds, StopsIn, parts_at};
 
 use crate::block::{Block, Part, Stop, stopped};
 use crate::parts::{core_by, rules_in};
 use arrayvec::ArrayVec;
+use gb_domain::places::StackBytes;
 use gb_domain::types::Rules;
 use gb_fields::head::{AnyHead, any_head_at, any_rules_of};
 use gb_fields::limits::{FACT_LIMIT, cell_limit, item_bytes, range_room};
 use gb_fields::numbers::{byte, count_within, word_between, word_count_within};
 use gb_fields::parts::{base_at, entry_at, need_at, returns_at};
 use gb_ops::machine::Region;
-use gb_states::form::{Form, cell_by, key_by, val_by};
+use gb_states::form::{Form, ProcedureForm, cell_by, key_by, val_by};
 use gb_states::relations::relations_at;
 use gb_states::role::Role;
 use gb_states::states::{item_count_at, range_at};
 use gb_states::whole::{fact_at, free_address_at, kept_room};
-use gb_states::whole_states::{may_be_aside, told_at};
+use gb_states::whole_states::{may_be_aside, stack_bytes, told_at};
 
-/// How many addresses each procedure names to be kept: version 4 has at most so many procedures.
-type Counts = ArrayVec<u8, 65_535>;
+/// What the spelling of each procedure's states depends on: version 4 has at most so many procedures.
+type Forms = ArrayVec<ProcedureForm, 65_535>;
+
+/// The form that is taken if a procedure's own isn't known.
+const NO_FORM: ProcedureForm = ProcedureForm { kept: 0, base: 0 };
 
 // ---- states
 
@@ -53,6 +59,7 @@ fn walk_some_items(part: Part, form: Form, count: u8, bytes: &[u8]) -> Result<&[
     Ok(rest)
 }
 
+/// Passes over the bytes of the stack: how many there are.
 #[tactic(auto, using(crate::proofs::PartLaws::walk_items))]
 fn walk_items(
     part: Part,
@@ -60,8 +67,8 @@ fn walk_items(
     role: Role,
     stack_set: bool,
     bytes: &[u8],
-) -> Result<&[u8], Stop>
-    ensures reads { Walks (λ x. x.now) result (items_by form role stack_set) bytes.now }
+) -> Result<(u8, &[u8]), Stop>
+    ensures reads { Finds (λ x. (x.0, x.1.now)) result (mapped count_items (items_by form role stack_set)) bytes.now }
     ensures block { IfErr result (StopsIn (Of part (InItems form role stack_set bytes.now))) }
 {
     let rules = rules_in(form);
@@ -69,7 +76,7 @@ fn walk_items(
         Ok((count, rest)) => {
             let items = item_bytes(rules, count);
             let end = walk_some_items(part, form, items, rest)?;
-            Ok(end)
+            Ok((items, end))
         }
         Err(fault) => {
             let block = Block::ItemCount {
@@ -88,14 +95,15 @@ fn walk_items(
 fn walk_told(
     part: Part,
     form: Form,
-    region: Region,
+    stack: StackBytes,
     may_be_aside: bool,
     test: Option<u8>,
     bytes: &[u8],
 ) -> Result<&[u8], Stop>
-    ensures reads { Walks (λ x. x.now) result (told_by form region may_be_aside test) bytes.now }
-    ensures block { IfErr result (StopsIn (Of part (InTold form region may_be_aside test bytes.now))) }
+    ensures reads { Walks (λ x. x.now) result (told_by form stack may_be_aside test) bytes.now }
+    ensures block { IfErr result (StopsIn (Of part (InTold form stack may_be_aside test bytes.now))) }
 {
+    let region = stack.region;
     match form {
         Form::Older(rules) => match rules {
             Rules::Simple => Ok(bytes),
@@ -104,12 +112,12 @@ fn walk_told(
                 Err(fault) => Err(stopped(part, Block::Told { region, test }, fault, bytes)),
             },
         },
-        Form::Fourth(facts, _) => match told_at(facts, region, may_be_aside, test, bytes) {
+        Form::Fourth(facts, _) => match told_at(facts, stack, may_be_aside, test, bytes) {
             Ok((_told, rest)) => Ok(rest),
             Err(fault) => {
                 let block = Block::ToldWhole {
                     facts,
-                    region,
+                    stack,
                     may_be_aside,
                     test,
                 };
@@ -172,17 +180,31 @@ fn walk_cells(part: Part, form: Form, region: Region, bytes: &[u8]) -> Result<&[
 fn walk_lists(
     part: Part,
     form: Form,
-    region: Region,
+    stack: StackBytes,
     may_be_aside: bool,
     test: Option<u8>,
     bytes: &[u8],
 ) -> Result<&[u8], Stop>
-    ensures reads { Walks (λ x. x.now) result (both (told_by form region may_be_aside test) (cells_by form region)) bytes.now }
-    ensures block { IfErr result (StopsIn (Of part (InLists form region may_be_aside test bytes.now))) }
+    ensures reads { Walks (λ x. x.now) result (both (told_by form stack may_be_aside test) (cells_by form stack.region)) bytes.now }
+    ensures block { IfErr result (StopsIn (Of part (InLists form stack may_be_aside test bytes.now))) }
 {
-    let rest = walk_told(part, form, region, may_be_aside, test, bytes)?;
-    let end = walk_cells(part, form, region, rest)?;
+    let rest = walk_told(part, form, stack, may_be_aside, test, bytes)?;
+    let end = walk_cells(part, form, stack.region, rest)?;
     Ok(end)
+}
+
+/// The stack of a state that has so many items.
+fn stack_by(form: Form, role: Role, region: Region, count: u8) -> StackBytes
+    ensures { result ≡ stack_by form role region count }
+{
+    match form {
+        Form::Older(_) => StackBytes {
+            region,
+            base: 0,
+            count: 0,
+        },
+        Form::Fourth(_, form) => stack_bytes(form, role, region, count),
+    }
 }
 
 #[tactic(auto, using(crate::proofs::PartLaws::walk_state))]
@@ -198,9 +220,10 @@ fn walk_state(
 {
     match core_by(form, role, bytes) {
         Ok((core, rest)) => {
-            let rest = walk_items(part, form, role, core.0.stack_set, rest)?;
+            let (count, rest) = walk_items(part, form, role, core.0.stack_set, rest)?;
+            let stack = stack_by(form, role, region, count);
             let aside = may_be_aside(role, &core.0);
-            let end = walk_lists(part, form, region, aside, core.1, rest)?;
+            let end = walk_lists(part, form, stack, aside, core.1, rest)?;
             Ok(end)
         }
         Err(fault) => Err(stopped(part, Block::Core { form, role }, fault, bytes)),
@@ -324,18 +347,19 @@ fn walk_exit(
     }
 }
 
-/// Passes over the addresses that the procedure with this number names to be kept, its mark and its exit: how many addresses
-/// there are.
+/// Passes over the addresses that the procedure with this number and this base names to be kept, its mark and its exit: what the
+/// spelling of its states depends on.
 #[tactic(auto, using(crate::proofs::NamedLaws::walk_named))]
 fn walk_named(
     number: u16,
     facts: u16,
+    base: u16,
     is_main: bool,
     region: Region,
     bytes: &[u8],
-) -> Result<(u8, &[u8]), Stop>
-    ensures reads { Finds (λ x. (x.0, x.1.now)) result (mapped count_named (named_at facts is_main region)) bytes.now }
-    ensures block { IfErr result (StopsIn (InNamed number facts is_main region bytes.now)) }
+) -> Result<(ProcedureForm, &[u8]), Stop>
+    ensures reads { Finds (λ x. (x.0, x.1.now)) result (mapped (form_named base) (named_at facts base is_main region)) bytes.now }
+    ensures block { IfErr result (StopsIn (InNamed number facts base is_main region bytes.now)) }
 {
     let part = Part::Procedure(number);
     let (kept, rest) = walk_kept(part, is_main, region, bytes)?;
@@ -343,74 +367,84 @@ fn walk_named(
         Ok((_mark, after)) => after,
         Err(fault) => return Err(stopped(part, Block::Mark, fault, rest)),
     };
-    let end = walk_exit(number, Form::Fourth(facts, kept), is_main, region, rest)?;
-    Ok((kept, end))
+    let form = ProcedureForm { kept, base };
+    let end = walk_exit(number, Form::Fourth(facts, form), is_main, region, rest)?;
+    Ok((form, end))
 }
 
-/// Passes over what is behind the ranges of the procedure with this number: how many addresses it names to be kept.
+/// Passes over what is behind the ranges of the procedure with this number: what the spelling of its states depends on.
 #[tactic(auto, using(crate::proofs::NamedLaws::walk_ending))]
 fn walk_ending(
     number: u16,
     version: u8,
     facts: u16,
+    base: u16,
     is_main: bool,
     region: Region,
     bytes: &[u8],
-) -> Result<(u8, &[u8]), Stop>
-    ensures reads { Finds (λ x. (x.0, x.1.now)) result (mapped (ending_count (version == 4)) (ending_by (version == 4) version facts is_main region)) bytes.now }
-    ensures block { IfErr result (StopsIn (InEnding number version facts is_main region bytes.now)) }
+) -> Result<(ProcedureForm, &[u8]), Stop>
+    ensures reads { Finds (λ x. (x.0, x.1.now)) result (mapped (ending_form (version == 4) base) (ending_by (version == 4) version facts is_main region base)) bytes.now }
+    ensures block { IfErr result (StopsIn (InEnding number version facts base is_main region bytes.now)) }
 {
     if version == 4 {
-        let (kept, end) = walk_named(number, facts, is_main, region, bytes)?;
-        return Ok((kept, end));
+        let (form, end) = walk_named(number, facts, base, is_main, region, bytes)?;
+        return Ok((form, end));
     }
     let form = Form::Older(Rules::of(version));
     let end = walk_exit(number, form, is_main, region, bytes)?;
-    Ok((0, end))
+    Ok((NO_FORM, end))
 }
 
-/// Passes over a base, in versions 3 and 4.
+/// The base, which versions 1 to 3 don't ask for.
+fn base_if(fourth: bool, base: u16) -> u16
+    ensures { result ≡ base_if fourth base }
+{
+    if fourth { base } else { 0 }
+}
+
+/// Passes over a base, in versions 3 and 4: what it is, where that is asked for, as in version 4.
 #[tactic(auto, using(crate::proofs::PartLaws::walk_base))]
 fn walk_base(
     part: Part,
-    rules: Rules,
+    version: u8,
     is_main: bool,
     region: Region,
     bytes: &[u8],
-) -> Result<&[u8], Stop>
-    ensures reads { Walks (λ x. x.now) result (base_at rules is_main region) bytes.now }
-    ensures block { IfErr result (StopsIn (Of part (InBase rules is_main region bytes.now))) }
+) -> Result<(u16, &[u8]), Stop>
+    ensures reads { Finds (λ x. (x.0, x.1.now)) result (mapped (base_if (version == 4)) (base_at (any_rules_of version) is_main region)) bytes.now }
+    ensures block { IfErr result (StopsIn (Of part (InBase (any_rules_of version) is_main region bytes.now))) }
 {
-    match rules {
-        Rules::Simple => Ok(bytes),
+    match any_rules_of(version) {
+        Rules::Simple => Ok((0, bytes)),
         Rules::Extended => match base_at(is_main, region, bytes) {
-            Ok((_base, rest)) => Ok(rest),
+            Ok((base, rest)) => Ok((base_if(version == 4, base), rest)),
             Err(fault) => Err(stopped(part, Block::Base { is_main, region }, fault, bytes)),
         },
     }
 }
 
-/// Passes over the need of the procedure with this number, its ranges and what is behind them: how many addresses it names to be
-/// kept.
+/// Passes over the need of the procedure with this number, its ranges and what is behind them: what the spelling of its states
+/// depends on.
 #[tactic(auto, using(crate::proofs::ProcedureLaws::walk_needed))]
 fn walk_needed(
     number: u16,
     version: u8,
     facts: u16,
+    base: u16,
     is_main: bool,
     region: Region,
     bytes: &[u8],
-) -> Result<(u8, &[u8]), Stop>
-    ensures reads { Finds (λ x. (x.0, x.1.now)) result (mapped (needed_count (version == 4)) (needed_by (version == 4) version facts is_main region)) bytes.now }
-    ensures block { IfErr result (StopsIn (InNeeded number version facts is_main region bytes.now)) }
+) -> Result<(ProcedureForm, &[u8]), Stop>
+    ensures reads { Finds (λ x. (x.0, x.1.now)) result (mapped (needed_form (version == 4) base) (needed_by (version == 4) version facts is_main region base)) bytes.now }
+    ensures block { IfErr result (StopsIn (InNeeded number version facts base is_main region bytes.now)) }
 {
     let part = Part::Procedure(number);
     let rules = any_rules_of(version);
     match need_at(rules, is_main, region, bytes) {
         Ok((_need, rest)) => {
             let rest = walk_ranges(part, rules, is_main, region, rest)?;
-            let (kept, end) = walk_ending(number, version, facts, is_main, region, rest)?;
-            Ok((kept, end))
+            let (form, end) = walk_ending(number, version, facts, base, is_main, region, rest)?;
+            Ok((form, end))
         }
         Err(fault) => {
             let block = Block::Need {
@@ -423,7 +457,7 @@ fn walk_needed(
     }
 }
 
-/// Passes over all of the procedure with this number but its entry: how many addresses it names to be kept.
+/// Passes over all of the procedure with this number but its entry: what the spelling of its states depends on.
 #[tactic(auto, using(crate::proofs::ProcedureLaws::walk_body))]
 fn walk_body(
     number: u16,
@@ -432,18 +466,18 @@ fn walk_body(
     is_main: bool,
     region: Region,
     bytes: &[u8],
-) -> Result<(u8, &[u8]), Stop>
-    ensures reads { Finds (λ x. (x.0, x.1.now)) result (mapped (body_count (version == 4)) (body_by (version == 4) version facts is_main region)) bytes.now }
+) -> Result<(ProcedureForm, &[u8]), Stop>
+    ensures reads { Finds (λ x. (x.0, x.1.now)) result (mapped (body_form (version == 4)) (body_by (version == 4) version facts is_main region)) bytes.now }
     ensures block { IfErr result (StopsIn (InBody number version facts is_main region bytes.now)) }
 {
-    let rules = any_rules_of(version);
-    let rest = walk_base(Part::Procedure(number), rules, is_main, region, bytes)?;
-    let (kept, end) = walk_needed(number, version, facts, is_main, region, rest)?;
-    Ok((kept, end))
+    let part = Part::Procedure(number);
+    let (base, rest) = walk_base(part, version, is_main, region, bytes)?;
+    let (form, end) = walk_needed(number, version, facts, base, is_main, region, rest)?;
+    Ok((form, end))
 }
 
-/// Passes over the procedure with this number, which begins at one of so many nodes, in a certificate of so many facts: how many
-/// addresses it names to be kept.
+/// Passes over the procedure with this number, which begins at one of so many nodes, in a certificate of so many facts: what the
+/// spelling of its states depends on.
 #[tactic(auto, using(crate::proofs::ProcedureLaws::walk_procedure))]
 fn walk_procedure(
     number: u16,
@@ -451,8 +485,8 @@ fn walk_procedure(
     facts: u16,
     is_main: bool,
     bytes: &[u8],
-) -> Result<(u8, &[u8]), Stop>
-    ensures reads { Finds (λ x. (x.0, x.1.now)) result (mapped kept_count (procedure_by (head.version == 4) head.version facts head.region head.nodes is_main)) bytes.now }
+) -> Result<(ProcedureForm, &[u8]), Stop>
+    ensures reads { Finds (λ x. (x.0, x.1.now)) result (mapped (form_if (head.version == 4)) (procedure_by (head.version == 4) head.version facts head.region head.nodes is_main)) bytes.now }
     ensures block { IfErr result (StopsIn (InProcedure number (head_in head) facts is_main bytes.now)) }
 {
     let AnyHead {
@@ -463,8 +497,8 @@ fn walk_procedure(
     } = head;
     match entry_at(version, nodes, bytes) {
         Ok((_entry, rest)) => {
-            let (kept, end) = walk_body(number, version, facts, is_main, region, rest)?;
-            Ok((kept, end))
+            let (form, end) = walk_body(number, version, facts, is_main, region, rest)?;
+            Ok((form, end))
         }
         Err(fault) => {
             let block = Block::Entry { version, nodes };
@@ -473,33 +507,33 @@ fn walk_procedure(
     }
 }
 
-/// Passes over the procedures of a certificate of so many facts: how many addresses each of them names to be kept.
+/// Passes over the procedures of a certificate of so many facts: what the spelling of the states of each depends on.
 #[tactic(auto, unfolding(gb_states::specs::WholeReading::procedures_at))]
-fn walk_procedures(head: AnyHead, facts: u16, bytes: &[u8]) -> Result<(Counts, &[u8]), Stop>
-    ensures reads { Finds (λ x. (x.0.items, x.1.now)) result (mapped kept_counts (procedures_at (head_in head) facts)) bytes.now }
+fn walk_procedures(head: AnyHead, facts: u16, bytes: &[u8]) -> Result<(Forms, &[u8]), Stop>
+    ensures reads { Finds (λ x. (x.0.items, x.1.now)) result (mapped (forms_if (head.version == 4)) (procedures_at (head_in head) facts)) bytes.now }
     ensures block { IfErr result (StopsIn (InProcedures (head_in head) facts bytes.now)) }
 {
-    let mut counts = Counts::new();
+    let mut forms = Forms::new();
     let mut is_main = true;
     let mut rest = bytes;
     for number in 0..head.procedures {
-        let (kept, after) = walk_procedure(number, head, facts, is_main, rest)?;
-        counts.push(kept);
+        let (form, after) = walk_procedure(number, head, facts, is_main, rest)?;
+        forms.push(form);
         is_main = false;
         rest = after;
     }
-    Ok((counts, rest))
+    Ok((forms, rest))
 }
 
 // ---- nodes
 
-/// How many addresses the procedure with this number names to be kept.
-fn kept_of(counts: &[u8], number: u16) -> u8
-    ensures { result ≡ kept_of counts.now number }
+/// The form of the procedure with this number.
+fn form_in(forms: &[ProcedureForm], number: u16) -> ProcedureForm
+    ensures { result ≡ form_in forms.now number }
 {
-    match counts.get(number as usize) {
-        Some(count) => *count,
-        None => 0,
+    match forms.get(number as usize) {
+        Some(form) => *form,
+        None => NO_FORM,
     }
 }
 
@@ -514,19 +548,18 @@ fn role_of(procedure: u16) -> Role
     }
 }
 
-/// Passes over the node with this number, in a certificate of so many facts whose procedures name so many addresses to be kept,
-/// and finds its key.
+/// Passes over the node with this number, in a certificate of so many facts whose procedures have these forms, and finds its key.
 #[tactic(auto, using(crate::proofs::NodeLaws::walk_node))]
 fn walk_node<'a>(
     number: u32,
     head: AnyHead,
     facts: u16,
-    counts: &[u8],
+    forms: &[ProcedureForm],
     before: (u16, u16),
     bytes: &'a [u8],
 ) -> Result<((u16, u16), &'a [u8]), Stop>
-    ensures reads { Finds (λ x. (x.0, x.1.now)) result (mapped key (node_by (head.version == 4) head.version facts (kept_of counts.now) head.region head.procedures before)) bytes.now }
-    ensures block { IfErr result (StopsIn (Of (the_part.Node number) (InNode (head_in head) facts counts.now before bytes.now))) }
+    ensures reads { Finds (λ x. (x.0, x.1.now)) result (mapped key (node_by (head.version == 4) head.version facts (form_in forms.now) head.region head.procedures before)) bytes.now }
+    ensures block { IfErr result (StopsIn (Of (the_part.Node number) (InNode (head_in head) facts forms.now before bytes.now))) }
 {
     let part = Part::Node(number);
     let (key, rest) = match key_by(head.version, head.procedures, before, bytes) {
@@ -544,7 +577,7 @@ fn walk_node<'a>(
         Ok((_bank, after)) => after,
         Err(fault) => return Err(stopped(part, Block::Bank, fault, rest)),
     };
-    let form = Form::of(head.version, facts, kept_of(counts, key.0));
+    let form = Form::of(head.version, facts, form_in(forms, key.0));
     let rest = walk_state(part, form, role_of(key.0), head.region, rest)?;
     Ok((key, rest))
 }
@@ -554,16 +587,16 @@ fn walk_node<'a>(
 fn walk_nodes<'a>(
     head: AnyHead,
     facts: u16,
-    counts: &[u8],
+    forms: &[ProcedureForm],
     bytes: &'a [u8],
 ) -> Result<&'a [u8], Stop>
-    ensures reads { Walks (λ x. x.now) result (nodes_at (head_in head) facts counts.now) bytes.now }
-    ensures block { IfErr result (StopsIn (InNodes (head_in head) facts counts.now bytes.now)) }
+    ensures reads { Walks (λ x. x.now) result (nodes_at (head_in head) facts forms.now) bytes.now }
+    ensures block { IfErr result (StopsIn (InNodes (head_in head) facts forms.now bytes.now)) }
 {
     let mut before = (0, 0);
     let mut rest = bytes;
     for number in 0..head.nodes {
-        let (key, after) = walk_node(number, head, facts, counts, before, rest)?;
+        let (key, after) = walk_node(number, head, facts, forms, before, rest)?;
         before = key;
         rest = after;
     }
@@ -627,8 +660,8 @@ pub fn walk_parts(bytes: &[u8]) -> Result<&[u8], Stop>
     match any_head_at(bytes) {
         Ok((head, rest)) => {
             let (facts, rest) = walk_facts(head.version, head.region, rest)?;
-            let (counts, rest) = walk_procedures(head, facts, rest)?;
-            let end = walk_nodes(head, facts, counts.as_slice(), rest)?;
+            let (forms, rest) = walk_procedures(head, facts, rest)?;
+            let end = walk_nodes(head, facts, forms.as_slice(), rest)?;
             Ok(end)
         }
         Err(fault) => {

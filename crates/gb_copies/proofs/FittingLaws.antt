@@ -23,7 +23,7 @@ use Rattle.gb_copies.proofs.LeastLaws.{IsAtMost, least_from-at_most, IsReached, 
 use Rattle.gb_copies.specs.declared.windows.BankWindow.{BankWindow}
 use Rattle.gb_copies.specs.declared.windows.BankWindow.TheVariants.{First, Second}
 use Rattle.gb_copies.specs.Windows.{has_windows, register_of, register_bits, counts_from_one, counted, left_by}
-use Rattle.gb_copies.specs.Fitting.{Leaves, Fits, IsFitting, HoldsShadow, WithinSome, IsSoundFitting, is_some_in, some_has, leaves_by, leaves, fits, with_ends, fitting}
+use Rattle.gb_copies.specs.Fitting.{Leaves, Fits, IsFitting, HoldsShadow, WithinSome, IsSoundFitting, is_some_in, some_has, is_outside, is_inside, leaves_by, leaves, fits, with_ends, fitting}
 
 -- ---- low bits
 
@@ -96,6 +96,51 @@ some_has-no v n rest h =
         (o : Option StridedInterval) → with_low_bits v.lo v.hi (low_bits n rest) ≡ o → InSome o h.byte → is_some_in v o ≡ true
     choose None e i = absurd i
     choose (Some w) e i = some-AreIn v w h.byte (record { first = h.is_in; second = i })
+
+-- a number beyond all values isn't one of them
+pub some_has_outside : (v : StridedInterval) (n rest : ℕ) → is_outside v n rest ≡ true → some_has v n rest ≡ false
+unfolding is_outside
+some_has_outside v n rest h = choose (some_has v n rest) refl
+  where
+    no_byte :
+        (lo hi x byte m : ℕ) → lo ≤ byte → byte ≤ hi → byte % m ≡ x % m
+        → (nat_lt hi m && nat_lt x m && (nat_lt x lo || nat_lt hi x)) ≡ true → ⊥
+    no_byte lo hi x byte m low high same h =
+        let p = and_parts (nat_lt hi m && nat_lt x m) (nat_lt x lo || nat_lt hi x) h in
+        let q = and_parts (nat_lt hi m) (nat_lt x m) p.0 in
+        let below_m : byte < m = grind (arith, nat_tests) in
+        let x_below : x < m = grind (arith, nat_tests) in
+        let is : byte ≡ x = sym (mod-eq_of_lt below_m) ∙ same ∙ mod-eq_of_lt x_below in
+        grind (arith, nat_tests)
+
+    choose : (b : Bool) → some_has v n rest ≡ b → b ≡ false
+    choose true e =
+        let s = some_has-yes v n rest e in
+        absurd (no_byte v.lo v.hi rest s.byte (modulus n) s.is_in.least s.is_in.most s.same h)
+    choose false e = refl
+
+none_low : (n x y : ℕ) → n ≡ 0 → x % modulus n ≡ y % modulus n
+unfolding modulus
+none_low n x y e = subst (λ k. x % 2 ^ min k 8 ≡ y % 2 ^ min k 8) (sym e) (one x y)
+  where
+    one : (x y : ℕ) → x % 1 ≡ y % 1
+    one x y = omega arith
+
+pub some_has_inside : (v : StridedInterval) (n rest : ℕ) → is_inside v rest ≡ true → some_has v n rest ≡ true
+unfolding is_inside
+some_has_inside v n rest h =
+    let p = and_parts (v.count == 0 && nat_le v.lo rest) (nat_le rest v.hi) h in
+    let q = and_parts (v.count == 0) (nat_le v.lo rest) p.0 in
+    some_has-no v n rest
+    (record {
+      byte = rest;
+      is_in = record {
+        least = at_most v.lo rest q.1;
+        most = at_most rest v.hi p.1;
+        low = Has-low_bits v.count rest v.lo (none_low v.count rest v.lo (eqb-true v.count 0 q.0));
+      };
+      same = refl;
+    })
 
 -- ---- what a register's bits are
 

@@ -66,24 +66,6 @@ least_from-at_most passes (suc n) v x low high h =
     choose true e next = low
     choose false e next = next e
 
-abbrev pub IsAtLeast : Option ℕ → ℕ → Type 0
-IsAtLeast None x = Unit {0}
-IsAtLeast (Some k) x = x ≤ k
-
-IsAtLeast-below : (o : Option ℕ) (x y : ℕ) → x ≤ y → IsAtLeast o y → IsAtLeast o x
-IsAtLeast-below None x y l h = tt
-IsAtLeast-below (Some k) x y l h = omega arith
-
-pub least_from-at_least : (passes : ℕ → Bool) (n v : ℕ) → IsAtLeast (least_from passes n v) v
-least_from-at_least passes zero v = tt
-least_from-at_least passes (suc n) v =
-    choose (passes v) (IsAtLeast-below (least_from passes n (v + 1)) v (v + 1) (omega arith) (least_from-at_least passes n (v + 1)))
-  where
-    choose :
-        (b : Bool) → IsAtLeast (least_from passes n (v + 1)) v → IsAtLeast (cond b (Some v) (least_from passes n (v + 1))) v
-    choose true next = omega arith
-    choose false next = next
-
 -- ---- the greatest one
 
 -- there is one, and x isn't above it

@@ -2,6 +2,9 @@ pub mod RegisterLaws
 pub mod LeastLaws
 pub mod PlaceLaws
 pub mod CopyLaws
+pub mod PlainLaws
+pub mod PieceLaws
+pub mod SharedLaws
 pub mod SideLaws
 pub mod CoveringLaws
 pub mod WindowLaws

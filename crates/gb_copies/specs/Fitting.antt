@@ -1,11 +1,11 @@
 -- The numbers that a window's register may hold, where places shadow it (abstract interpretation: reduction; own).
-use Rattle.std.specs.Prelude.{◌≡◌, ℕ, ◌+◌, ◌-◌, ◌^◌, ◌≤◌, Bool, true, false, ◌&&◌, ◌||◌, not, ◌==◌, nat_lt, List, Option, Some, None, is_some}
+use Rattle.std.specs.Prelude.{◌≡◌, ℕ, ◌+◌, ◌-◌, ◌^◌, ◌≤◌, Bool, true, false, ◌&&◌, ◌||◌, not, ◌==◌, nat_lt, nat_le, List, Option, Some, None, is_some}
 use Rattle.std.specs.List.{AllByRecursion, list_all}
 use Rattle.gb_ops.specs.declared.machine.Banks.{Banks}
 use Rattle.gb_ops.specs.declared.machine.Kind.{Kind}
 use Rattle.gb_domain.specs.declared.pairs.Bounds.{Bounds}
 use Rattle.gb_domain.specs.declared.interval.StridedInterval.{StridedInterval}
-use Rattle.gb_domain.specs.LowBits.{low_bits}
+use Rattle.gb_domain.specs.LowBits.{modulus, low_bits}
 use Rattle.gb_domain.specs.Interval.{with_low_bits, cut}
 use Rattle.gb_domain.specs.Meaning.{In}
 use Rattle.gb_copies.specs.Sides.{least_from, greatest_from}
@@ -63,6 +63,14 @@ is_some_in v (Some w) = is_some (cut v w)
 -- one of the values has these low bits
 unfoldable pub some_has : StridedInterval → ℕ → ℕ → Bool
 some_has v n rest = is_some_in v (with_low_bits v.lo v.hi (low_bits n rest))
+
+-- all values have the low bits of one number each, and this number is none of theirs
+unfoldable pub is_outside : StridedInterval → ℕ → ℕ → Bool
+is_outside v n x = nat_lt v.hi (modulus n) && nat_lt x (modulus n) && (nat_lt x v.lo || nat_lt v.hi x)
+
+-- each number within the bounds is a value, and this is one of them
+unfoldable pub is_inside : StridedInterval → ℕ → Bool
+is_inside v x = v.count == 0 && nat_le v.lo x && nat_le x v.hi
 
 -- in a register that counts from one, 0 leaves 1
 abbrev pub leaves_by : Bool → StridedInterval → ℕ → ℕ → Bool

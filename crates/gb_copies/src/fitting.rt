@@ -20,15 +20,44 @@ fn is_some_in(values: StridedInterval, wanted: Option<StridedInterval>) -> bool
     }
 }
 
-/// Whether one of the values has these low bits.
+/// Whether a register of so many bits has room for all of a place's values, and a number isn't within their bounds.
+#[tactic(auto, using(gb_domain::proofs::ModulusLaws::modulus_bound), unfolding(crate::specs::Fitting::is_outside, gb_domain::specs::LowBits::modulus))]
+fn is_outside(values: StridedInterval, count: u8, number: u16) -> bool
+    ensures { result ≡ Fitting.is_outside values count number }
+{
+    let modulus = 1u16 << count.min(8);
+    u16::from(values.hi) < modulus
+        && number < modulus
+        && (number < u16::from(values.lo) || u16::from(values.hi) < number)
+}
+
+/// Whether a number is one of a place's values, of which each one counts.
+#[tactic(auto, unfolding(crate::specs::Fitting::is_inside))]
+fn is_inside(values: StridedInterval, number: u16) -> bool
+    ensures { result ≡ Fitting.is_inside values number }
+{
+    values.count == 0 && u16::from(values.lo) <= number && number <= u16::from(values.hi)
+}
+
 #[tactic(auto, unfolding(crate::specs::Fitting::some_has))]
-fn some_has(values: StridedInterval, count: u8, rest: u16) -> bool
+fn has_one_with(values: StridedInterval, count: u8, rest: u16) -> bool
     ensures { result ≡ Fitting.some_has values count rest }
 {
     is_some_in(
         values,
         with_low_bits(values.lo, values.hi, low_bits(count, rest)),
     )
+}
+
+/// Whether one of the values has these low bits. Many numbers are asked, and for nearly all of them the bounds tell.
+#[tactic(auto, using(crate::proofs::FittingLaws::some_has_outside, crate::proofs::FittingLaws::some_has_inside))]
+fn some_has(values: StridedInterval, count: u8, rest: u16) -> bool
+    ensures { result ≡ Fitting.some_has values count rest }
+{
+    if is_outside(values, count, rest) {
+        return false;
+    }
+    is_inside(values, rest) || has_one_with(values, count, rest)
 }
 
 fn leaves_by(from_one: bool, values: StridedInterval, count: u8, number: u16) -> bool

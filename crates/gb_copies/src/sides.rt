@@ -1,15 +1,18 @@
 //! What a branch leaves of the places that hold a tested byte.
 
-ghost use Rattle.std.specs.Prelude.{◌≡◌, ◌+◌, ◌-◌, IfSome};
+ghost use Rattle.std.specs.Prelude.{◌≡◌, ◌≤◌, ◌+◌, ◌-◌, IfSome};
+ghost use Rattle.gb_domain.specs.Interval as Interval;
 ghost use Rattle.gb_copies.specs.Sides as Sides;
 ghost use Rattle.gb_copies.specs.Sound.{IsSoundNarrowing, IsCut};
 
+use gb_domain::StridedInterval;
+use gb_domain::interval::{bounds, cut};
+use gb_domain::low_bits::are_congruent;
 use gb_domain::places::{OneByte, Test};
 use gb_domain::types::Val;
+use gb_domain::values::interval_of;
 use gb_ops::op::Condition;
 use gb_ops::registers::Registers;
-use gb_vals::branch::narrowed_by;
-use gb_vals::vals::any;
 
 /// What is known of the registers, and of the byte at the address that is among the places (any value where none is).
 #[derive(Clone, Copy)]
@@ -18,39 +21,87 @@ pub struct PlaceContents {
     pub memory: Val,
 }
 
-/// A value with the bounds that it shares with another one.
-fn cut(val: Val, other: Val) -> Val
-    ensures { result ≡ Sides.cut val other }
+/// The values that both have. Where no low bits are known, bounds are enough.
+#[tactic(auto, using(crate::proofs::PlainLaws::cut_plain, crate::proofs::PlainLaws::cut_apart))]
+fn both(values: StridedInterval, other: StridedInterval) -> Option<StridedInterval>
+    ensures { result ≡ Interval.cut values other }
 {
-    Val {
-        lo: val.lo.max(other.lo),
-        hi: val.hi.min(other.hi),
-        low_bits: 0,
-        origin: val.origin,
+    if values.count != 0 || other.count != 0 {
+        return cut(values, other);
+    }
+    let lo = values.lo.max(other.lo);
+    let hi = values.hi.min(other.hi);
+    if lo <= hi { Some(bounds(lo, hi)) } else { None }
+}
+
+/// The byte's values that a place has too.
+fn cut_if(is_place: bool, at_place: Val, values: Option<StridedInterval>) -> Option<StridedInterval>
+    ensures { result ≡ Sides.cut_if is_place at_place values }
+{
+    let values = values?;
+    if is_place {
+        both(values, interval_of(at_place))
+    } else {
+        Some(values)
     }
 }
 
-fn cut_if(is_place: bool, at_place: Val, val: Val) -> Val
-    ensures { result ≡ Sides.cut_if is_place at_place val }
-{
-    if is_place { cut(val, at_place) } else { val }
-}
-
-/// The bounds that all places share.
+/// The values that all places share.
 #[tactic(auto, unfolding(crate::specs::Sides::shared))]
-fn shared(byte: &OneByte, contents: &PlaceContents) -> Val
+fn shared(byte: &OneByte, contents: &PlaceContents) -> Option<StridedInterval>
     ensures { result ≡ Sides.shared byte.now contents.now }
 {
     let places = byte.registers;
     let vals = contents.registers;
-    let val = cut_if(byte.address.is_some(), contents.memory, any());
-    let val = cut_if(places.l, vals.l, val);
-    let val = cut_if(places.h, vals.h, val);
-    let val = cut_if(places.e, vals.e, val);
-    let val = cut_if(places.d, vals.d, val);
-    let val = cut_if(places.c, vals.c, val);
-    let val = cut_if(places.b, vals.b, val);
-    cut_if(places.a, vals.a, val)
+    let any = Some(bounds(0, 255));
+    let values = cut_if(byte.address.is_some(), contents.memory, any);
+    let values = cut_if(places.l, vals.l, values);
+    let values = cut_if(places.h, vals.h, values);
+    let values = cut_if(places.e, vals.e, values);
+    let values = cut_if(places.d, vals.d, values);
+    let values = cut_if(places.c, vals.c, values);
+    let values = cut_if(places.b, vals.b, values);
+    cut_if(places.a, vals.a, values)
+}
+
+/// The values from first, and below end.
+#[tactic(auto, unfolding(crate::specs::Sides::between))]
+fn between(first: u16, end: u16, values: StridedInterval) -> Option<StridedInterval>
+    requires { end ≤ 256 }
+    ensures { result ≡ Sides.between first end values }
+{
+    if first < end {
+        both(values, bounds(first as u8, (end - 1) as u8))
+    } else {
+        None
+    }
+}
+
+fn without(n: u8, values: StridedInterval) -> Option<StridedInterval>
+    ensures { result ≡ Sides.without n values }
+{
+    let bound = u16::from(n);
+    if values.lo == n {
+        between(bound + 1, 256, values)
+    } else if values.hi == n {
+        between(0, bound, values)
+    } else {
+        Some(values)
+    }
+}
+
+/// The values that are left on a condition's side after a comparison with n.
+#[tactic(auto, unfolding(crate::specs::Sides::compared))]
+fn compared(n: u8, condition: Condition, values: StridedInterval) -> Option<StridedInterval>
+    ensures { result ≡ Sides.compared n condition values }
+{
+    let bound = u16::from(n);
+    match condition {
+        Condition::NotZero => without(n, values),
+        Condition::Zero => between(bound, bound + 1, values),
+        Condition::NotCarry => between(bound, 256, values),
+        Condition::Carry => between(0, bound, values),
+    }
 }
 
 /// Whether a value has one of the bits, or where that isn't wanted none.
@@ -64,13 +115,21 @@ fn has_bits(mask: u8, wanted: bool, value: u8) -> bool
     }
 }
 
+/// The same, of a byte that has the low bits.
+#[tactic(auto, unfolding(crate::specs::Sides::is_left))]
+fn is_left(mask: u8, wanted: bool, values: StridedInterval, value: u8) -> bool
+    ensures { result ≡ Sides.is_left mask wanted values value }
+{
+    has_bits(mask, wanted, value) && are_congruent(values.count, value.into(), values.lo.into())
+}
+
 /// The least value that has one of the bits, as wanted.
 #[tactic(auto, using(crate::proofs::LeastLaws::least_from_none, crate::proofs::LeastLaws::least_from_found, crate::proofs::LeastLaws::least_from_next))]
-fn least(mask: u8, wanted: bool, lo: u8, hi: u8) -> Option<u8>
-    ensures { result ≡ Sides.least_from (Sides.has_bits mask wanted) (hi + 1 - lo) lo }
+fn least(mask: u8, wanted: bool, values: StridedInterval) -> Option<u8>
+    ensures { result ≡ Sides.least_from (Sides.is_left mask wanted values) (values.hi + 1 - values.lo) values.lo }
 {
-    for value in lo..=hi {
-        if has_bits(mask, wanted, value) {
+    for value in values.lo..=values.hi {
+        if is_left(mask, wanted, values, value) {
             return Some(value);
         }
     }
@@ -79,11 +138,11 @@ fn least(mask: u8, wanted: bool, lo: u8, hi: u8) -> Option<u8>
 
 /// The greatest value that has one of the bits, as wanted.
 #[tactic(auto, using(crate::proofs::LeastLaws::greatest_from_none, crate::proofs::LeastLaws::greatest_from_found, crate::proofs::LeastLaws::greatest_from_next))]
-fn greatest(mask: u8, wanted: bool, lo: u8, hi: u8) -> Option<u8>
-    ensures { result ≡ Sides.greatest_from (Sides.has_bits mask wanted) (hi + 1 - lo) hi }
+fn greatest(mask: u8, wanted: bool, values: StridedInterval) -> Option<u8>
+    ensures { result ≡ Sides.greatest_from (Sides.is_left mask wanted values) (values.hi + 1 - values.lo) values.hi }
 {
-    for value in (lo..=hi).rev() {
-        if has_bits(mask, wanted, value) {
+    for value in (values.lo..=values.hi).rev() {
+        if is_left(mask, wanted, values, value) {
             return Some(value);
         }
     }
@@ -92,29 +151,24 @@ fn greatest(mask: u8, wanted: bool, lo: u8, hi: u8) -> Option<u8>
 
 /// The least to the greatest value with one of the bits, as wanted.
 #[tactic(auto, unfolding(crate::specs::Sides::with_bits))]
-fn with_bits(mask: u8, wanted: bool, val: Val) -> Option<Val>
-    ensures { result ≡ Sides.with_bits mask wanted val }
+fn with_bits(mask: u8, wanted: bool, values: StridedInterval) -> Option<StridedInterval>
+    ensures { result ≡ Sides.with_bits mask wanted values }
 {
-    let lo = least(mask, wanted, val.lo, val.hi)?;
-    let hi = greatest(mask, wanted, val.lo, val.hi)?;
-    Some(Val {
-        lo,
-        hi,
-        low_bits: 0,
-        origin: val.origin,
-    })
+    let lo = least(mask, wanted, values)?;
+    let hi = greatest(mask, wanted, values)?;
+    both(values, bounds(lo, hi))
 }
 
-/// The values that a condition leaves behind a test.
+/// The values that are left on a condition's side after a test.
 #[tactic(auto, unfolding(crate::specs::Sides::side_of))]
-fn side_of(test: Test, condition: Condition, val: Val) -> Option<Val>
-    ensures { result ≡ Sides.side_of test condition val }
+fn side_of(test: Test, condition: Condition, values: StridedInterval) -> Option<StridedInterval>
+    ensures { result ≡ Sides.side_of test condition values }
 {
     match (test, condition) {
-        (Test::Compare(n), _) => narrowed_by(n, condition, val),
-        (Test::Bits(mask), Condition::Zero) => with_bits(mask, false, val),
-        (Test::Bits(mask), Condition::NotZero) => with_bits(mask, true, val),
-        (Test::Bits(_), _) => Some(val),
+        (Test::Compare(n), _) => compared(n, condition, values),
+        (Test::Bits(mask), Condition::Zero) => with_bits(mask, false, values),
+        (Test::Bits(mask), Condition::NotZero) => with_bits(mask, true, values),
+        (Test::Bits(_), _) => Some(values),
     }
 }
 
@@ -129,15 +183,15 @@ fn is_asked(test: Test, condition: Condition) -> bool
     }
 }
 
-/// A place gets the byte's bounds.
-fn given(is_place: bool, byte: Val, at_place: Val) -> Val
+/// A place gets the byte's values.
+fn given(is_place: bool, byte: StridedInterval, at_place: Val) -> Val
     ensures { result ≡ Sides.given is_place byte at_place }
 {
     if is_place {
         Val {
             lo: byte.lo,
             hi: byte.hi,
-            low_bits: 0,
+            low_bits: byte.count,
             origin: at_place.origin,
         }
     } else {
@@ -145,24 +199,24 @@ fn given(is_place: bool, byte: Val, at_place: Val) -> Val
     }
 }
 
-/// Each place gets the byte's bounds.
+/// Each place gets the byte's values.
 #[tactic(auto, unfolding(crate::specs::Sides::with_byte))]
-fn with_byte(byte: &OneByte, bounds: Val, contents: &PlaceContents) -> PlaceContents
-    ensures { result ≡ Sides.with_byte byte.now bounds contents.now }
+fn with_byte(byte: &OneByte, values: StridedInterval, contents: &PlaceContents) -> PlaceContents
+    ensures { result ≡ Sides.with_byte byte.now values contents.now }
 {
     let places = byte.registers;
     let vals = contents.registers;
     PlaceContents {
         registers: Registers {
-            a: given(places.a, bounds, vals.a),
-            b: given(places.b, bounds, vals.b),
-            c: given(places.c, bounds, vals.c),
-            d: given(places.d, bounds, vals.d),
-            e: given(places.e, bounds, vals.e),
-            h: given(places.h, bounds, vals.h),
-            l: given(places.l, bounds, vals.l),
+            a: given(places.a, values, vals.a),
+            b: given(places.b, values, vals.b),
+            c: given(places.c, values, vals.c),
+            d: given(places.d, values, vals.d),
+            e: given(places.e, values, vals.e),
+            h: given(places.h, values, vals.h),
+            l: given(places.l, values, vals.l),
         },
-        memory: given(byte.address.is_some(), bounds, contents.memory),
+        memory: given(byte.address.is_some(), values, contents.memory),
     }
 }
 
@@ -180,16 +234,13 @@ fn after_test(
     if !is_asked(test, condition) {
         return Some(*contents);
     }
-    let val = shared(byte, contents);
-    if val.hi < val.lo {
-        return None;
-    }
-    let bounds = side_of(test, condition, val)?;
-    Some(with_byte(byte, bounds, contents))
+    let values = side_of(test, condition, shared(byte, contents)?)?;
+    Some(with_byte(byte, values, contents))
 }
 
 /// What registers and memory hold on the side of a conditional instruction where its condition is met: where the flag was tested
-/// of the byte, each of its places gets the bounds that all share and the side leaves. `None` where no value is left.
+/// of the byte, each of its places gets the values that all share, the least to the greatest that the side leaves, with their low
+/// bits. `None` where no value is left.
 #[tactic(auto, using(crate::proofs::SideLaws::narrowed_sound, crate::proofs::SideLaws::narrowed_cuts))]
 pub fn narrowed(
     byte: &OneByte,

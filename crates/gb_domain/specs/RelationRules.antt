@@ -1,6 +1,5 @@
 -- What may be known of several parts of a state together (own format).
 use Rattle.std.specs.Prelude.{◌≡◌, ℕ, ◌≤◌, ◌<◌, Bool, true, false, not, ◌&&◌, ◌||◌, ◌==◌, Option, Some, None, IfSome, is_some, is_none}
-use Rattle.gb_ops.specs.declared.machine.Region.{Region}
 use Rattle.gb_ops.specs.declared.registers.Registers.{Registers}
 use Rattle.gb_domain.specs.declared.pairs.WordPair.{WordPair}
 use Rattle.gb_domain.specs.declared.pairs.PairFacts.{PairFacts}
@@ -9,7 +8,6 @@ use Rattle.gb_domain.specs.declared.places.Test.{Test}
 use Rattle.gb_domain.specs.declared.places.Test.TheVariants.{Compare, Bits}
 use Rattle.gb_domain.specs.declared.places.OneByte.{OneByte}
 use Rattle.gb_domain.specs.declared.relations.Relations.{Relations}
-use Rattle.gb_domain.specs.Areas.{is_free_byte}
 use Rattle.gb_domain.specs.Pairs.{facts_of, no_pairs, ArePairs}
 use Rattle.gb_domain.specs.Places.{no_place, no_byte}
 
@@ -41,9 +39,9 @@ abbrev pub bits_of : Option Test → Option ℕ
 bits_of (Some (Bits m)) = Some m
 bits_of _ = None
 
--- An address lies in RAM and outside the region. There is no test without a place, and it is of a byte.
-pub record IsOneByte (region : Region) (b : OneByte) : Type 0 where
-  pub address : IfSome b.address (λ a. is_free_byte region a ≡ true)
+-- An address is one at which a byte may be a place. There is no test without a place, and it is of a byte.
+pub record IsOneByte (may_be : ℕ → Bool) (b : OneByte) : Type 0 where
+  pub address : IfSome b.address (λ a. may_be a ≡ true)
   pub place : (has_place b || is_none b.test) ≡ true
   pub test : IfSome b.test (λ t. operand t < 256)
 
@@ -55,9 +53,9 @@ is_known f = is_some f.link || not (f.bounds.first == 0 && f.bounds.last == 0xFF
 
 -- ---- all of them
 
--- The byte and the pairs are such, and each pair's bounds are in order.
-pub record IsRelations (region : Region) (r : Relations) : Type 0 where
-  pub byte : IsOneByte region r.byte
+-- The byte, whose address may be such, and the pairs are such, and each pair's bounds are in order.
+pub record IsRelations (may_be : ℕ → Bool) (r : Relations) : Type 0 where
+  pub byte : IsOneByte may_be r.byte
   pub pairs : ArePairs r.pairs
   pub order : (p : WordPair) → (facts_of p r.pairs).bounds.first ≤ (facts_of p r.pairs).bounds.last
 

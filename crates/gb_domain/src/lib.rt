@@ -23,7 +23,7 @@ pub mod values;
 pub use interval::StridedInterval;
 pub use low_bits::LowBits;
 pub use pairs::{Bounds, Link, Other, PairFacts, Pairs, WordPair};
-pub use places::{OneByte, Place, Test};
+pub use places::{OneByte, Place, StackBytes, Test};
 pub use relations::Relations;
 pub use summary::{BankShadows, Fact, Fill, FillEnd, Reach, Shadows, Summary};
 pub use types::{Cell, Core, Ctl, Flg, Halves, ImeSet, KeptBanks, May, Origin, Range, Val};

@@ -1,17 +1,36 @@
 //! Places that hold one and the same byte, and what the flags say of it (own format).
 
 ghost use Rattle.std.specs.Prelude.{◌≡◌};
+ghost use Rattle.gb_domain.specs.Areas.{is_item};
 ghost use Rattle.gb_domain.specs.Places.{is_same_register, no_byte};
 ghost use Rattle.gb_domain.specs.RelationRules.{is_some_register, has_place};
 
+use gb_ops::machine::Region;
 use gb_ops::op::Register;
 use gb_ops::registers::Registers;
 
-/// A place that holds a byte: a register, or an address of RAM outside the stack region.
+/// A place that holds a byte: a register, or an address of RAM, which in the stack region is one of the procedure's items.
 #[derive(Clone, Copy)]
 pub enum Place {
     Register(Register),
     Address(u16),
+}
+
+/// The stack, as far as it is known where its bytes lie: its region, and how many items lie below the base. A base of 0 isn't known.
+#[derive(Clone, Copy)]
+pub struct StackBytes {
+    pub region: Region,
+    pub base: u16,
+    pub count: u8,
+}
+
+impl StackBytes {
+    /// Whether an address is that of an item.
+    pub fn is_item(self, address: u16) -> bool
+        ensures { result ≡ is_item self.base self.count address }
+    {
+        address < self.base && u32::from(self.base) <= u32::from(address) + u32::from(self.count)
+    }
 }
 
 /// What the flags say of a byte.
@@ -28,7 +47,7 @@ pub enum Test {
 pub struct OneByte {
     /// Which registers are among them.
     pub registers: Registers<bool>,
-    /// Which address is among them.
+    /// Which address is among them. In the stack region it is an item's.
     pub address: Option<u16>,
     pub test: Option<Test>,
 }

@@ -8,8 +8,8 @@ use gb_domain::StridedInterval;
 use gb_domain::places::OneByte;
 use gb_domain::relations::Relations;
 use gb_domain::summary::{Fact, Summary};
-use gb_domain::types::{Halves, Rules};
-use gb_ops::machine::Kind;
+use gb_domain::types::{Halves, Rules, Setting};
+use gb_ops::machine::{Kind, Region};
 use gb_samples::states::{ANY, entered, from_to};
 use gb_verify::{Abs, Core, Origin, Program, Range, Resumed, Val, enter, resume};
 
@@ -30,6 +30,21 @@ const RANGES: [Range; 1] = [Range {
     first: 0xC010,
     last: 0xC01F,
 }];
+
+const REGION: Region = Region {
+    first: 0xDF00,
+    last: 0xDFFF,
+};
+
+/// Where the caller's states stand, whose base isn't known.
+fn setting(is_whole: bool) -> Setting {
+    Setting {
+        rules: Rules::Extended,
+        is_whole,
+        is_main: false,
+        base: 0,
+    }
+}
 
 fn program() -> Program<'static> {
     Program {
@@ -83,7 +98,7 @@ fn kept_bytes_entered(rt: HostRuntime) {
     let Some(caller) = caller() else {
         return;
     };
-    let begun = enter(&program(), Rules::Extended, 2, &names(), &caller);
+    let begun = enter(&program(), REGION, Rules::Extended, 2, &names(), &caller);
     assert!(rt; cell_at(0xC010, begun.cells()) == copy(Origin::Kept(0), 3, 5));
     assert!(rt; cell_at(0xC020, begun.cells()) == copy(Origin::Kept(1), 0, 9));
     assert!(rt; begun.cells().len() == 2);
@@ -109,8 +124,8 @@ fn back(caller: &Abs, exit: &Abs, is_whole: bool) -> Resumed {
     let kept = names();
     resume(
         &program(),
-        Rules::Extended,
-        is_whole,
+        setting(is_whole),
+        REGION,
         2,
         &RANGES,
         &kept,

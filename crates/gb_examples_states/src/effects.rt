@@ -5,6 +5,7 @@ use gb_abs_effects::reads::{AbsRead, read_of};
 use gb_abs_effects::transfer::{Inputs, transfer_in};
 use gb_abs_effects::writes::{AbsEffect, AbsWrite, quiet};
 use gb_domain::pairs::ANY_BOUNDS;
+use gb_domain::places::StackBytes;
 use gb_domain::types::{Core, Flg, Halves, ImeSet, May, Origin, Rules, Val};
 use gb_ops::machine::Region;
 use gb_ops::op::{AluOp, Condition, Indirect, Op, Operand, Pair, Register, Shift, StackPair};
@@ -419,9 +420,14 @@ const TESTS: [(Op, Option<u8>); 53] = [
     (Op::Halt, Some(7)),
 ];
 
-const REGION: Region = Region {
-    first: 0xDF00,
-    last: 0xDFFF,
+/// A stack of which no item may be a place.
+const STACK: StackBytes = StackBytes {
+    region: Region {
+        first: 0xDF00,
+        last: 0xDFFF,
+    },
+    base: 0,
+    count: 0,
 };
 
 /// Whether an instruction behind one comparison of A leaves the other, and nothing else that is known together.
@@ -431,7 +437,7 @@ pub fn leaves_test(before: Option<u8>, op: Op, after: Option<u8>) -> bool {
     let left = relations_after(
         Rules::Simple,
         false,
-        REGION,
+        STACK,
         op,
         ANY_BOUNDS,
         &registers,

@@ -15,6 +15,8 @@ use gb_samples::states::{ANY, EITHER, entered, from_to, with_carry};
 pub enum StateFact {
     /// A register is in these bounds.
     Byte(Register, u8, u8),
+    /// A register is one of each 2^n-th value, n the last number, from the first one to the second.
+    Each(Register, u8, u8, u8),
     /// These registers hold one byte.
     Same(&'static [Register]),
     /// The byte at this address of memory is the same.
@@ -75,6 +77,13 @@ impl KnownFact {
         let relations = &mut self.relations;
         match fact {
             StateFact::Byte(register, lo, hi) => self.registers.set(register, from_to(lo, hi)),
+            StateFact::Each(register, lo, hi, low_bits) => {
+                let val = Val {
+                    low_bits,
+                    ..from_to(lo, hi)
+                };
+                self.registers.set(register, val);
+            }
             StateFact::Same(registers) => {
                 for register in registers {
                     relations.byte.registers.set(*register, true);

@@ -2,7 +2,9 @@
 //! which states stand for others. An example is a list of steps, which one function plays.
 
 use crate::facts::KnownFact;
-use crate::facts::StateFact::{self, At, Bits, Byte, Compared, Link, Memory, Same, Word, Zero};
+use crate::facts::StateFact::{
+    self, At, Bits, Byte, Compared, Each, Link, Memory, Same, Word, Zero,
+};
 use gb_copies::sides::{PlaceContents, narrowed};
 use gb_domain::pairs::WordPair::{Bc, De, Hl};
 use gb_domain::pairs::{ANY_BOUNDS, Bounds, Other};
@@ -269,6 +271,65 @@ const MET: &[RelatedStep] = &[
     Meets(Condition::NotZero, &[Same(&[B]), Bits(0x00)], None),
 ];
 
+/// A is a multiple of 8, compared with 20.
+const EIGHTS: Facts = &[Same(&[A]), Compared(20), Each(A, 0x00, 0xF8, 3)];
+
+/// B is the same byte, in 5 to 30: 8, 16 or 24.
+const EIGHTS_BELOW: Facts = &[
+    Same(&[A, B]),
+    Compared(20),
+    Each(A, 0x00, 0xF8, 3),
+    Byte(B, 5, 30),
+];
+
+/// Sides keep low bits.
+const MET_WITH_LOW_BITS: &[RelatedStep] = &[
+    Meets(Condition::Carry, EIGHTS, Some(&[Each(A, 0, 16, 3)])),
+    Meets(Condition::NotCarry, EIGHTS, Some(&[Each(A, 24, 0xF8, 3)])),
+    // 20 isn't among the values, so there is nothing to take off, and it can't be met.
+    Meets(Condition::NotZero, EIGHTS, Some(&[Each(A, 0, 0xF8, 3)])),
+    Meets(Condition::Zero, EIGHTS, None),
+    // The end is taken off, and one value is left.
+    Meets(
+        Condition::NotZero,
+        &[Same(&[A]), Compared(0xF8), Each(A, 0x00, 0xF8, 3)],
+        Some(&[Each(A, 0x00, 0xF0, 3)]),
+    ),
+    Meets(
+        Condition::Zero,
+        &[Same(&[A]), Compared(0xF8), Each(A, 0x00, 0xF8, 3)],
+        Some(&[Byte(A, 0xF8, 0xF8)]),
+    ),
+    // The greatest multiple of 8 without bit 4 is E8.
+    Meets(
+        Condition::Zero,
+        &[Same(&[A]), Bits(0x10), Each(A, 0x00, 0xF8, 3)],
+        Some(&[Each(A, 0x00, 0xE8, 3)]),
+    ),
+    // What one place knows of low bits all know then.
+    Meets(
+        Condition::Carry,
+        EIGHTS_BELOW,
+        Some(&[Each(A, 8, 16, 3), Each(B, 8, 16, 3)]),
+    ),
+    Meets(
+        Condition::NotCarry,
+        EIGHTS_BELOW,
+        Some(&[Byte(A, 24, 24), Byte(B, 24, 24)]),
+    ),
+    // A multiple of 8 is no other one's byte.
+    Meets(
+        Condition::Carry,
+        &[
+            Same(&[A, B]),
+            Compared(20),
+            Each(A, 0x00, 0xF8, 3),
+            Each(B, 0x01, 0xF9, 3),
+        ],
+        None,
+    ),
+];
+
 const REDUCED: &[RelatedStep] = &[
     // Bytes by their pair, and a pair by its bytes.
     Reduces(
@@ -507,6 +568,7 @@ const COVERED: &[RelatedStep] = &[
 #[test]
 fn branches_cut_all_places(rt: HostRuntime) {
     play(&rt, MET);
+    play(&rt, MET_WITH_LOW_BITS);
 }
 
 #[test]

@@ -5,10 +5,12 @@ use crate::facts::KnownFact;
 use crate::facts::StateFact::{self, At, Bits, Byte, Compared, Link, Same, Word, Zero};
 use gb_domain::pairs::WordPair::{Bc, De, Hl};
 use gb_domain::pairs::{ANY_BOUNDS, Bounds, Other};
-use gb_domain::types::{Rules, Val};
+use gb_domain::places::StackBytes;
+use gb_domain::types::{Rules, Setting, Val};
 use gb_ops::machine::Region;
 use gb_ops::op::Register::{A, B, C, D, E, H, L};
 use gb_ops::op::{AluOp, Indirect, Op, Operand, Pair, Register, Shift, StackPair};
+use gb_product::{held_relations, relations_outside, stack_held};
 use gb_relations::transfer::relations_after;
 use gb_samples::relations::are_same;
 use gb_samples::states::{ANY, from_to};
@@ -27,22 +29,60 @@ pub enum TogetherStep {
     LeavesWithSp(u16, u16, Op, Facts, Facts),
     /// What is read at HL has these bounds.
     LeavesWithRead(u8, u8, Op, Facts, Facts),
+    /// With four items at DFFC to DFFF, by the rules of version 4, or else of version 3.
+    LeavesWithItems(bool, Op, Facts, Facts),
+    /// So many items are held now, below E000.
+    Holds(u8, Facts, Facts),
+    /// No item may be a place.
+    Outside(Facts, Facts),
 }
 
-use TogetherStep::{Leaves, LeavesWhole, LeavesWithRead, LeavesWithSp};
+use TogetherStep::{
+    Holds, Leaves, LeavesWhole, LeavesWithItems, LeavesWithRead, LeavesWithSp, Outside,
+};
 
 const REGION: Region = Region {
     first: 0xDF00,
     last: 0xDFFF,
 };
 
+/// A stack of which no item may be a place.
+const STACK: StackBytes = StackBytes {
+    region: REGION,
+    base: 0,
+    count: 0,
+};
+
+/// The stack of main with so many items, by the rules of version 4, or else of version 3.
+fn stack_of(is_whole: bool, count: u8) -> StackBytes {
+    let setting = Setting {
+        rules: Rules::Extended,
+        is_whole,
+        is_main: true,
+        base: 0xE000,
+    };
+    stack_held(setting, REGION, count)
+}
+
 /// Whether an instruction leaves this known together.
 fn leaves(is_whole: bool, op: Op, sp: Bounds, low: Val, before: Facts, after: Facts) -> bool {
+    leaves_in(STACK, is_whole, op, sp, low, before, after)
+}
+
+fn leaves_in(
+    stack: StackBytes,
+    is_whole: bool,
+    op: Op,
+    sp: Bounds,
+    low: Val,
+    before: Facts,
+    after: Facts,
+) -> bool {
     let known = KnownFact::new(before);
     let left = relations_after(
         Rules::Extended,
         is_whole,
-        REGION,
+        stack,
         op,
         sp,
         &known.registers,
@@ -62,6 +102,20 @@ fn agrees(step: &TogetherStep) -> bool {
         }
         LeavesWithRead(lo, hi, op, before, after) => {
             leaves(false, op, ANY_BOUNDS, from_to(lo, hi), before, after)
+        }
+        LeavesWithItems(is_whole, op, before, after) => {
+            let stack = stack_of(is_whole, 4);
+            leaves_in(stack, is_whole, op, ANY_BOUNDS, ANY, before, after)
+        }
+        Holds(count, before, after) => {
+            let known = KnownFact::new(before).relations;
+            let left = held_relations(stack_of(true, count), &known);
+            are_same(&left, &KnownFact::new(after).relations)
+        }
+        Outside(before, after) => {
+            let known = KnownFact::new(before).relations;
+            let left = relations_outside(REGION, &known);
+            are_same(&left, &KnownFact::new(after).relations)
         }
     }
 }
@@ -602,6 +656,67 @@ const TESTED: &[TogetherStep] = &[
     Leaves(Op::DecimalAdjust, &[Same(&[A]), Compared(3), Zero(Bc)], &[]),
 ];
 
+/// A and the newest item of four, which are one byte, compared with 3.
+const ITEM_COMPARED: Facts = &[Same(&[A]), At(0xDFFC), Compared(3)];
+
+/// Items as places.
+const ITEMS: &[TogetherStep] = &[
+    // A load or a store at an item's address, and what the flags say of it.
+    LeavesWithItems(
+        true,
+        Op::Load(IN_A, Operand::AtHl),
+        &[Word(Hl, 0xDFFC, 0xDFFC)],
+        &[Same(&[A]), At(0xDFFC), Word(Hl, 0xDFFC, 0xDFFC)],
+    ),
+    LeavesWithItems(
+        true,
+        Op::StoreAbsolute(0xDFFF),
+        &[Same(&[A, B]), At(0xC123)],
+        &[Same(&[A, B]), At(0xDFFF)],
+    ),
+    LeavesWithItems(
+        true,
+        Op::AluImmediate(AluOp::Cp, 3),
+        &[Same(&[A]), At(0xDFFC)],
+        ITEM_COMPARED,
+    ),
+    LeavesWithItems(
+        true,
+        Op::Decrement(Operand::AtHl),
+        &[Word(Hl, 0xDFFD, 0xDFFD)],
+        &[At(0xDFFD), Bits(0xFF), Word(Hl, 0xDFFD, 0xDFFD)],
+    ),
+    // A byte below the items is none, and one that is stored to goes.
+    LeavesWithItems(
+        true,
+        Op::LoadAbsolute(0xDFFB),
+        &[Same(&[A, B])],
+        &[Same(&[B])],
+    ),
+    LeavesWithItems(
+        true,
+        Op::LoadImmediate(Operand::AtHl, 5),
+        &[Same(&[A]), At(0xDFFC), Word(Hl, 0xDFFC, 0xDFFD)],
+        &[Same(&[A]), Word(Hl, 0xDFFC, 0xDFFD)],
+    ),
+    // What is pushed goes below the items, and is no copy.
+    LeavesWithItems(true, Op::Push(StackPair::Af), ITEM_COMPARED, ITEM_COMPARED),
+    // By the rules of version 3 no item is a place.
+    LeavesWithItems(
+        false,
+        Op::LoadAbsolute(0xDFFC),
+        &[Same(&[A, B])],
+        &[Same(&[B])],
+    ),
+    // An item stays a place as long as it is held.
+    Holds(4, ITEM_COMPARED, ITEM_COMPARED),
+    Holds(3, ITEM_COMPARED, &[Same(&[A]), Compared(3)]),
+    Holds(3, &[At(0xDFFC), Compared(3)], &[]),
+    Holds(0, &[Same(&[A]), At(0xC123)], &[Same(&[A]), At(0xC123)]),
+    Outside(ITEM_COMPARED, &[Same(&[A]), Compared(3)]),
+    Outside(&[Same(&[A]), At(0xC123)], &[Same(&[A]), At(0xC123)]),
+];
+
 /// Pairs that a copy makes equal.
 const PAIRS_COPIED: &[TogetherStep] = &[
     // C is L already, so that BC is HL behind LD B,H; what was known of BC is forgotten, and what its link said.
@@ -692,4 +807,5 @@ fn copies_and_tests_are_known(rt: HostRuntime) {
     play(&rt, COPIED);
     play(&rt, PAIRS_COPIED);
     play(&rt, TESTED);
+    play(&rt, ITEMS);
 }

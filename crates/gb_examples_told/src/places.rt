@@ -340,6 +340,36 @@ fn a_stack_put_aside_is_found(rt: HostRuntime) {
     play(&rt, rt.alloc(), &mut bytes, ASIDE);
 }
 
+/// Where node 2 has one item, FF at the most, from 184 on, and says at 188 that it is a place of the one byte: there is no one
+/// byte; an address is announced too; then A and the item hold it, but there is no second item. The one item alone is right,
+/// and what is left over begins behind the number of cells. Without items there is none to name.
+const ITEM_STEPS: &[Step] = &[
+    (
+        &[(145, 0x01), (183, 0x01), (185, 0xFF), (188, 0x08)],
+        (FIELD, NODE, Field::ToldWhole, 187, 189),
+    ),
+    (&[(187, 0x03)], (FIELD, NODE, Field::ToldWhole, 187, 189)),
+    (
+        &[(187, 0x01), (189, 0x01), (190, 0x01)],
+        (FIELD, NODE, Field::ToldWhole, 187, 191),
+    ),
+    (
+        &[(189, 0x00), (190, 0x00)],
+        (LEFT_OVER, Part::End, Field::LeftOver, 192, 192),
+    ),
+    (
+        &[(183, 0x00), (184, 0x01), (185, 0x08)],
+        (FIELD, NODE, Field::ToldWhole, 184, 186),
+    ),
+];
+
+#[test]
+fn an_item_that_holds_the_one_byte_is_found(rt: HostRuntime) {
+    let mut bytes = [0; 200];
+    put(&mut bytes, 0, &least_in_version_4());
+    play(&rt, rt.alloc(), &mut bytes, ITEM_STEPS);
+}
+
 /// A second procedure at 37: entry 1, no base, no need, no range; it keeps C010 and C020, at 47, has the mark 2, and an
 /// exit, at 53.
 const SECOND_IN_VERSION_4: [u8; 16] = [

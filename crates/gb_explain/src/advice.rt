@@ -231,11 +231,17 @@ pub const KEPT_TO_CARTRIDGE_RAM: Advice = Advice {
 
 pub const POINTER: Advice = Advice {
     problem: "A pointer without a bound can hit the stack, code or registers.",
-    remedy: "Bound the index before you add it (`and 31`, or `cp 32` / `ret nc`), or end the loop by a smaller count.",
+    remedy: "Bound the index before you add it: `and 31`, or `cp 32` / `ret nc`.",
     remedy_in_c: Some(
         "Mask the index right before the store: `buffer[i & 31] = x;`. Or compare it as a `uint8_t`: `if (i < 32) buffer[i] = x;`.",
     ),
     anchor: "unbounded-pointer",
+};
+
+/// An unbounded pointer in a loop.
+pub const POINTER_IN_LOOP: Advice = Advice {
+    remedy: "Bound the index before you add it (`and 31`, or `cp 32` / `ret nc`), or end the loop by a smaller count.",
+    ..POINTER
 };
 
 /// An unbounded pointer that the instruction itself moves, as a loop does.
@@ -280,11 +286,17 @@ pub const LOOP_TO_CARTRIDGE_RAM: Advice = Advice {
 
 /// A pointer to where cartridge RAM would be, of a cartridge without.
 pub const POINTER_TO_NO_RAM: Advice = Advice {
-    remedy: "Keep the pointer out of $A000-$BFFF: end its loop by a smaller count, or bound its index (`and 31`, or `cp 32` / `ret nc`).",
+    remedy: "Keep the pointer out of $A000-$BFFF: bound its index, `and 31` or `cp 32` / `ret nc`.",
     remedy_in_c: Some(
         "Mask the index, so that it stays out of $A000-$BFFF: `x = buffer[i & 31];`. Or compare it as a `uint8_t`: `if (i < 32)`.",
     ),
     ..POINTER_TO_CARTRIDGE_RAM
+};
+
+/// The same in a loop.
+pub const IN_LOOP_TO_NO_RAM: Advice = Advice {
+    remedy: "Keep the pointer out of $A000-$BFFF: end its loop by a smaller count, or bound its index (`and 31`, or `cp 32` / `ret nc`).",
+    ..POINTER_TO_NO_RAM
 };
 
 /// The same of a pointer that a loop moves there.
@@ -404,6 +416,24 @@ pub const TOO_MANY_NODES: Advice = Advice {
         "Raise the limit with --nodes. Else bound each index right before its use, and count loops down to 0: `for (n = 32; n != 0; n--)`.",
     ),
     anchor: "too-large",
+};
+
+/// The fix of a pointer or a jump shortly behind a division.
+pub const DIVIDED: Advice = Advice {
+    remedy: "Nothing bounds what a division gives: compare it right before you use it, `cp 3` / `jr c, .ok` / `xor a`. Or mask it there.",
+    remedy_in_c: Some(
+        "Nothing bounds what `%` and `/` give. Compare a copy right before you use it: `n = x % 3; if (n >= 3) n = 0;`. Or mask it there: `n & 3`.",
+    ),
+    ..POINTER
+};
+
+/// The fix of an access that reads a text up to its end.
+pub const TEXT: Advice = Advice {
+    remedy: "The text may have no 0 at its end: count its characters (`ld b, 20` .. `dec b` / `jr nz`), or store the 0 in code before.",
+    remedy_in_c: Some(
+        "The text may have no 0 at its end. Store it in code before (`name[3] = 0;`), print with a count (`for (i = 0; i < 20 && s[i]; i++)`), or have `char names[3][8]` for `char *names[3]`.",
+    ),
+    ..POINTER
 };
 
 /// Too many nodes, and none for the same place.

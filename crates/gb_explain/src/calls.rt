@@ -88,7 +88,7 @@ fn near_entry(
     }
     let kept = kept_of(cert, procedure);
     let taken = taken_by(cert, procedure);
-    let entered = enter(program, setting.rules, taken, &kept, state);
+    let entered = enter(program, cert.region(), setting.rules, taken, &kept, state);
     let differences = Differences::of(program, setting.rules, &entered, &claimed).with_kept(
         kept.as_slice(),
     );

@@ -98,8 +98,8 @@ pub(crate) fn back_gaps(
     let taken = taken_by(cert, callee);
     match resume(
         program,
-        setting.rules,
-        setting.is_whole,
+        setting,
+        cert.region(),
         taken,
         ranges.as_slice(),
         &kept_of(cert, callee),

@@ -54,7 +54,7 @@ pub fn op_of(run: &Run<'_>, node: &RunNode) -> Option<Op> {
 }
 
 /// Whether an address isn't that of the next instruction.
-fn is_far(from: u16, to: u16) -> bool {
+pub(crate) fn is_far(from: u16, to: u16) -> bool {
     to <= from || to - from > 3
 }
 

@@ -1,7 +1,9 @@
 //! What `certify` reports where it makes no certificate.
 
+use crate::around::{is_in_loop, reads_text};
 use crate::chain::{CallChain, op_of};
 use crate::crowd::Crowd;
+use crate::divided::is_behind_division;
 use crate::handlers::switching_handlers;
 use crate::lost_bank::{BankLoser, LostBank, bank_finding};
 use crate::path::{Path, Start, bank_of};
@@ -11,7 +13,7 @@ use gb_fixpoint::code_point::CodePoint;
 use gb_fixpoint::configuration::TargetPlace;
 use gb_fixpoint::gb_ops::machine::Region;
 use gb_fixpoint::gb_ops::op::Op;
-use gb_fixpoint::register_set::RegisterSet;
+use gb_fixpoint::register_set::{REGISTERS, RegisterSet};
 use gb_fixpoint::types::{Run, RunNode};
 use gb_fixpoint::{Abs, Code, Span, code_at};
 use gb_symbols::{SourceLine, Symbols};
@@ -38,6 +40,12 @@ pub struct InstructionFinding {
     pub load: Option<PointerLoad>,
     /// Whether the pointer comes from RAM, and nothing bounds its high byte.
     pub is_any_address: bool,
+    /// Whether the pointer isn't known, and there was a division shortly before.
+    pub is_divided: bool,
+    /// Whether it is in a loop of few instructions.
+    pub is_in_loop: bool,
+    /// Whether it reads a byte through a pointer that isn't known, and then looks whether that is 0.
+    pub reads_text: bool,
     /// The bytes of RAM from which it comes and whose values aren't kept, since there are too many.
     pub left_out: Vec<u16>,
     /// The return that takes pushed bytes for the return address, where that is what is found.
@@ -232,6 +240,15 @@ impl InstructionFinding {
     }
 }
 
+/// Whether one of some registers isn't known at a node.
+fn has_open(node: &RunNode, registers: &RegisterSet) -> bool {
+    let values = node.state.core().registers;
+    REGISTERS.iter().any(|register| {
+        let val = values.get(*register);
+        registers.contains(*register) && val.lo != val.hi
+    })
+}
+
 /// What there is to report of a run's failure alone.
 pub fn finding_at(
     alloc: Global,
@@ -242,6 +259,10 @@ pub fn finding_at(
         return Ok(None);
     };
     let switching = switching_handlers(alloc, run, failure.cause)?;
+    let is_open = has_open(node, &failure.registers);
+    let is_divided = is_open && is_behind_division(alloc, run, node)?;
+    let is_in_loop = is_in_loop(alloc, run, node)?;
+    let reads_text = is_open && reads_text(alloc, run, node)?;
     let path = Path::to(alloc, run, failure.node)?;
     let chain = CallChain::to(alloc, run, failure.node)?;
     let address = node.key.address;
@@ -254,6 +275,9 @@ pub fn finding_at(
         kept_in: Vec::new(alloc),
         load: None,
         is_any_address: false,
+        is_divided,
+        is_in_loop,
+        reads_text,
         left_out: Vec::new(alloc),
         pushed_return: None,
         lost_bank: None,
@@ -326,6 +350,9 @@ impl BankFinding {
             kept_in: Vec::new(alloc),
             load: None,
             is_any_address: false,
+            is_divided: false,
+            is_in_loop: false,
+            reads_text: false,
             left_out: Vec::new(alloc),
             pushed_return: None,
             lost_bank: Some(lost),

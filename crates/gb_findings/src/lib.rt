@@ -2,11 +2,14 @@
 //!
 //! Read `finding`, which takes it from a run, with `path` (how a node was reached), `chain` (through which calls) and `crowd` (what is
 //! there too often); `lost_bank` with `steps_back` says who left another bank mapped, `pushed_return` which return takes bytes that
-//! the code pushed, and `handlers` which handlers switch banks. Nothing here is text.
+//! the code pushed, `handlers` which handlers switch banks, `divided`
+//! whether a division came before, and `around` whether there is a loop, and whether a text is read. Nothing here is text.
 #![tactic(auto)]
 
+mod around;
 pub mod chain;
 pub mod crowd;
+mod divided;
 pub mod finding;
 mod handlers;
 pub mod lost_bank;

@@ -35,20 +35,22 @@ impl<'a> Run<'a> {
     /// What a procedure that takes so many bytes over begins with where it is called in a state.
     pub fn entered(&self, taken: u8, caller: &Abs) -> Abs {
         let program = self.program();
-        enter(&program, self.rules(), taken, &self.kept, caller)
+        let region = self.configuration.region;
+        enter(&program, region, self.rules(), taken, &self.kept, caller)
     }
 
-    /// What a caller goes on with behind a procedure that has returned; none where it hasn't yet.
-    pub fn resumed(&self, callee: usize, caller: &Abs) -> Option<Resumed> {
+    /// What a procedure goes on with in whose state a callee was called that has returned; none where it hasn't yet.
+    pub fn resumed(&self, procedure: usize, callee: usize, caller: &Abs) -> Option<Resumed> {
         let called = self.procedures.get(callee)?;
         let Some(exit) = &called.exit else {
             return None
         };
         let program = self.program();
+        let stack = self.stack_of(procedure);
         Some(resume(
             &program,
-            self.rules(),
-            self.is_fourth(),
+            stack.setting,
+            stack.region,
             called.key.taken,
             called.ranges.as_slice(),
             &self.kept,

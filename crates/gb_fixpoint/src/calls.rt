@@ -64,7 +64,10 @@ impl<'a> Run<'a> {
         caller: &Abs,
         back: u16,
     ) -> Result<(), RunStop> {
-        match self.resumed(callee, caller) {
+        let Some(node) = self.nodes.get(number) else {
+            return Ok(());
+        };
+        match self.resumed(node.key.procedure, callee, caller) {
             Some(resumed) => self.go_on_with(number, back, resumed),
             None => Ok(()),
         }

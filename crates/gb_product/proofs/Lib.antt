@@ -1,3 +1,4 @@
+pub mod HeldLaws
 pub mod MeaningLaws
 pub mod SummaryLaws
 pub mod CoveringLaws

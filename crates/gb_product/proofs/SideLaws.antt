@@ -46,7 +46,9 @@ use Rattle.gb_summaries.specs.Below.gb_copies.Sound.{HoldContents, HoldContentsI
 use Rattle.gb_summaries.proofs.Below.gb_copies_laws.SideLaws.{narrowed_sound, narrowed_cuts}
 use Rattle.gb_summaries.specs.Below.gb_relations.Meaning.{IsZero}
 use Rattle.gb_summaries.specs.Below.gb_relations.Places.{is_ram, is_free}
-use Rattle.gb_summaries.specs.Below.gb_relations.Sound.{IsByteFree}
+use Rattle.gb_domain.specs.declared.places.StackBytes.{StackBytes}
+use Rattle.gb_domain.specs.Areas.{is_place_at}
+use Rattle.gb_summaries.specs.Below.gb_relations.Sound.{IsBytePlaced}
 use Rattle.gb_abs_effects.specs.Below.gb_abs.Cells.{IsPlaced}
 use Rattle.gb_summaries.specs.Below.gb_relations.Transfer.{values_of}
 use Rattle.gb_product.specs.declared.parts.Branch.{Branch}
@@ -418,7 +420,7 @@ sides_of_cuts o memory core r sides e =
 
 -- ---- where a side's cell lies
 
-IsPlaced-free : (region : Region) (c : Cell) → is_free region c.address ≡ true → IsPlaced region c
+pub IsPlaced-free : (region : Region) (c : Cell) → is_free region c.address ≡ true → IsPlaced region c
 IsPlaced-free region c h =
     let parts = and_parts _ _ h in
     record { area = itself c.address (is_ram c.address) parts.0; apart = not-true _ parts.1 }
@@ -426,14 +428,14 @@ IsPlaced-free region c h =
     itself : (a : ℕ) (b : Bool) → b ≡ true → (nat_le a a && b) ≡ true
     itself a b h = grind (arith, nat_tests)
 
-IsPlaced-if :
-    (region : Region) (address : Option ℕ) (cell : Option Cell)
-    → IsByteFree region address → IfSome cell (λ c. address ≡ Some c.address) → IfSome cell (IsPlaced region)
-IsPlaced-if region address None h e = tt
-IsPlaced-if region address (Some c) h e = IsPlaced-free region c (subst (λ a. IsByteFree region a) e h)
+placed_if :
+    (stack : StackBytes) (address : Option ℕ) (cell : Option Cell)
+    → IsBytePlaced stack address → IfSome cell (λ c. address ≡ Some c.address) → IfSome cell (λ c. is_place_at stack c.address ≡ true)
+placed_if stack address None h e = tt
+placed_if stack address (Some c) h e = subst (λ a. IsBytePlaced stack a) e h
 
--- in RAM outside the region, as the address among the places does
+-- where a byte may be a place, as the address among the places is
 pub side_placed :
-    (region : Region) (memory : Val) (core : Core) (r : Relations) (b : Branch)
-    → IsByteFree region r.byte.address → IsSideOf memory core r b → IfSome b.cell (IsPlaced region)
-side_placed region memory core r b h is = IsPlaced-if region r.byte.address b.cell h is.address
+    (stack : StackBytes) (memory : Val) (core : Core) (r : Relations) (b : Branch)
+    → IsBytePlaced stack r.byte.address → IsSideOf memory core r b → IfSome b.cell (λ c. is_place_at stack c.address ≡ true)
+side_placed stack memory core r b h is = placed_if stack r.byte.address b.cell h is.address

@@ -1,4 +1,5 @@
 pub mod Covering
+pub mod Held
 pub mod Meaning
 pub mod Reduced
 pub mod Sides

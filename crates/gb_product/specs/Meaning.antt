@@ -1,8 +1,9 @@
 -- Which machine states a whole abstract state means (abstract interpretation: the concretization of a product).
-use Rattle.std.specs.Prelude.{ℕ}
+use Rattle.std.specs.Prelude.{ℕ, length}
 use Rattle.gb_ops.specs.declared.machine.Region.{Region}
 use Rattle.gb_ops.specs.Play.{MState}
 use Rattle.gb_domain.specs.declared.relations.Relations.{Relations}
+use Rattle.gb_domain.specs.declared.setting.Setting.{Setting}
 use Rattle.gb_domain.specs.Types.{AbsState}
 use Rattle.gb_abs_effects.specs.Below.gb_abs.Cells.{ArePlaced}
 use Rattle.gb_abs_effects.specs.Below.gb_abs.Meaning.{Activation, MeansParts}
@@ -10,7 +11,8 @@ use Rattle.gb_abs_effects.specs.Below.gb_abs.Storage.{peek}
 use Rattle.gb_summaries.specs.Elsewhere.{IsFree}
 use Rattle.gb_summaries.specs.Meaning.{HoldSummary}
 use Rattle.gb_summaries.specs.Below.gb_relations.Meaning.{HoldRelations}
-use Rattle.gb_summaries.specs.Below.gb_relations.Sound.{IsByteFree}
+use Rattle.gb_summaries.specs.Below.gb_relations.Sound.{IsBytePlaced}
+use Rattle.gb_product.specs.Held.{stack_held}
 
 -- what is known together holds of a machine state
 abbrev pub AreRelated : Relations → MState → Type 0
@@ -26,8 +28,8 @@ pub record Means (abs : AbsState) (entry : Activation) (base : ℕ) (x : MState)
   pub related : AreRelated abs.relations x
   pub summary : IsSummarized abs entry x
 
--- what a state knows of memory lies in RAM outside the stack region
-pub record IsApart (region : Region) (abs : AbsState) : Type 0 where
+-- what a state of a procedure knows of memory lies in RAM outside the stack region; a byte's address may be an item's
+pub record IsApart (z : Setting) (region : Region) (abs : AbsState) : Type 0 where
   pub cells : ArePlaced region abs.cells
-  pub byte : IsByteFree region abs.relations.byte.address
+  pub byte : IsBytePlaced (stack_held z region (length abs.items)) abs.relations.byte.address
   pub summary : IsFree region abs.summary

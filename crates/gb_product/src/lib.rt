@@ -8,6 +8,7 @@
 
 pub mod bytes;
 pub mod covering;
+pub mod held;
 pub mod parts;
 pub mod program;
 pub mod reduced;
@@ -15,6 +16,7 @@ pub mod sides;
 pub mod states;
 
 pub use bytes::{byte_in, byte_of, covers_lists, uncopied};
+pub use held::{held_relations, relations_outside, stack_held};
 pub use parts::{Branch, Branches, Product};
 pub use program::Program;
 pub use states::States;
@@ -36,5 +38,5 @@ pub use gb_summaries::instruction::{InstructionStore, summary_after};
 pub use gb_summaries::returning::{GivenBack, KnownRam, is_byte_kept, summary_returned};
 pub use gb_summaries::{
     AddressSet, Kept, Values, gb_ram_bounds, is_in, known_bits, known_carry, only_of_a,
-    pointed_bits, pointer_bounds, reduce, relations_after, returned,
+    places_outside, pointed_bits, pointer_bounds, reduce, relations_after, returned,
 };

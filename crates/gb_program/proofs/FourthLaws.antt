@@ -20,7 +20,7 @@ use Rattle.gb_command_line.specs.Below.gb_verify.Below.gb_states.declared.role.R
 use Rattle.gb_command_line.specs.Below.gb_verify.Below.gb_states.Rules.{IsState, IsProcedure, IsNode, IsCertificate, is_state_sayable, is_core_sayable, is_sayable, is_cell_sayable, is_silent, is_after, key}
 use Rattle.gb_command_line.specs.Below.gb_fields.Limits.{node_limit}
 use Rattle.gb_domain.specs.declared.summary.Fact.{Fact}
-use Rattle.gb_command_line.specs.Below.gb_verify.Below.gb_states.WholeRules.{entry_in, address_in}
+use Rattle.gb_command_line.specs.Below.gb_verify.Below.gb_states.WholeRules.{entry_in, address_in, procedure_forms, form_in}
 use Rattle.gb_command_line.specs.Below.gb_verify.Below.gb_states.WholeSpelling as whole
 use Rattle.gb_command_line.specs.Below.gb_verify.Below.gb_states.Spelling as spelled
 use Rattle.gb_command_line.specs.Below.gb_verify.Below.gb_states.Numbers.{word, quad}
@@ -28,7 +28,7 @@ use Rattle.gb_events.specs.Sinks.{Gains}
 use Rattle.gb_events.specs.Sinks.{GainsBeginning}
 use Rattle.gb_events.proofs.Below.gb_text_laws.Remaining.{Remains, remains_less, remains_cut, remains_none}
 use Rattle.gb_command_line.specs.Below.gb_verify.Widened.{below_items, widened_by, widened, widened_node, widened_procedure}
-use Rattle.gb_program.specs.Fourth.{AreNumbers, IsOlder, entry_address, fourth, fourth_by, fourth_text, order, fourth_node, fourth_procedure, grouped, has_return_word, listed, new_entry, nodes_of, place, placed, placed_one, sorted, where_own, widened_node_by, widened_procedure_by}
+use Rattle.gb_program.specs.Fourth.{AreNumbers, IsFree, IsOlder, entry_address, fourth, fourth_by, fourth_forms, fourth_text, order, fourth_node, fourth_procedure, grouped, has_return_word, listed, new_entry, nodes_of, place, placed, placed_one, sorted, where_own, widened_node_by, widened_procedure_by}
 use Rattle.gb_events.proofs.Below.gb_verify_laws.WidenedLaws.{map_long, procedures_long, sayable}
 use Rattle.gb_events.proofs.Below.gb_verify_laws.WidenedText.{node_at, procedure_at}
 
@@ -136,6 +136,18 @@ exit_by rules region (Some s) h = subst (λ (b : Bool). IsOlder b s) (main_by ru
 
 pub exit_older : (c : Certificate) (i : ℕ) (p : ProcedureParts) → IsCertificate c → slice_get c.procedures i ≡ Some p → IfSome p.exit (IsOlder false)
 exit_older c i p h e = exit_by (rules_of c.version) c.region p.exit (procedure_of c i p h e).1.exit
+
+-- and where their one byte is
+
+pub node_free : (c : Certificate) (i : ℕ) (n : Node) → IsCertificate c → slice_get c.nodes i ≡ Some n → IsFree c.region n.state
+node_free c i n h e = (node_of c i n h e).1.state.relations.byte.address
+
+exit_free_by : (rules : Rules) (region : Region) (o : Option AbsState) → IfSome o (IsState rules role.Exit region) → IfSome o (IsFree region)
+exit_free_by rules region None h = tt
+exit_free_by rules region (Some s) h = h.relations.byte.address
+
+pub exit_free : (c : Certificate) (i : ℕ) (p : ProcedureParts) → IsCertificate c → slice_get c.procedures i ≡ Some p → IfSome p.exit (IsFree c.region)
+exit_free c i p h e = exit_free_by (rules_of c.version) c.region p.exit (procedure_of c i p h e).1.exit
 
 -- ---- the order
 
@@ -302,134 +314,134 @@ nothing_grouped nodes (n ∷ ns) (suc i) h = nothing_grouped nodes ns i (omega (
 pub total_end : (nodes : List Node) (ns : List ℕ) (i total : ℕ) → i ≡ length ns → total + length (grouped 0 nodes (drop i ns)) ≡ length (grouped 0 nodes ns) → total ≡ length (grouped 0 nodes ns)
 total_end nodes ns i total e h = omega (arith, h, nothing_grouped nodes ns i (omega (arith, e)))
 
--- ---- texts, part by part
+-- ---- texts, part by part, however a part is spelled
 
-pub placed_is : (c : Certificate) (before number count : ℕ) (p : ProcedureParts) (rules : Rules) → slice_get c.procedures number ≡ Some p → rules ≡ rules_of c.version → count ≡ length (nodes_of number (take p.entry (widened c).nodes))
-    → whole.procedure (fourth_procedure (before + count) (widened_procedure_by rules (number == 0) p)) ≡ flat_map whole.procedure (placed_one (widened c) before number)
-placed_is c before number count p rules e f g =
+pub placed_is : (spell : ProcedureParts → List ℕ) (c : Certificate) (before number count : ℕ) (p : ProcedureParts) (rules : Rules) → slice_get c.procedures number ≡ Some p → rules ≡ rules_of c.version → count ≡ length (nodes_of number (take p.entry (widened c).nodes))
+    → spell (fourth_procedure (before + count) (widened_procedure_by rules (number == 0) p)) ≡ flat_map spell (placed_one (widened c) before number)
+placed_is spell c before number count p rules e f g =
     let w : Certificate = widened c in
     let q : ProcedureParts = widened_procedure_by (rules_of c.version) (number == 0) p in
     let own : (k : ℕ) → before + length (nodes_of number (take k w.nodes)) ≡ before + length (nodes_of number (take k w.nodes)) = λ k. refl in
-    ap (λ (r : Rules). whole.procedure (fourth_procedure (before + count) (widened_procedure_by r (number == 0) p))) f
-    ∙ ap (λ (k : ℕ). whole.procedure (fourth_procedure (before + k) q)) (g ∙ ap (λ (k : ℕ). length (nodes_of number (take k w.nodes))) (sym (same_entry (rules_of c.version) (number == 0) p)))
-    ∙ sym (append-nil (whole.procedure (fourth_procedure (new_entry w.nodes before number q) q)))
-    ∙ sym (ap (λ (o : Option ProcedureParts). flat_map whole.procedure (listed (option_map (λ (z : ProcedureParts). fourth_procedure (new_entry w.nodes before number z) z) o))) (procedure_in c number p e))
+    ap (λ (r : Rules). spell (fourth_procedure (before + count) (widened_procedure_by r (number == 0) p))) f
+    ∙ ap (λ (k : ℕ). spell (fourth_procedure (before + k) q)) (g ∙ ap (λ (k : ℕ). length (nodes_of number (take k w.nodes))) (sym (same_entry (rules_of c.version) (number == 0) p)))
+    ∙ sym (append-nil (spell (fourth_procedure (new_entry w.nodes before number q) q)))
+    ∙ sym (ap (λ (o : Option ProcedureParts). flat_map spell (listed (option_map (λ (z : ProcedureParts). fourth_procedure (new_entry w.nodes before number z) z) o))) (procedure_in c number p e))
 
-pub placed_left : (c : Certificate) (before : ℕ) (ns : List ℕ) (i d : ℕ) → i < length ns
-    → flat_map whole.procedure (placed c before (drop i ns)) ≡ flat_map whole.procedure (placed_one c before (get_or ns i d)) ++ flat_map whole.procedure (placed c (before + length (nodes_of (get_or ns i d) c.nodes)) (drop (i + 1) ns))
+pub placed_left : (spell : ProcedureParts → List ℕ) (c : Certificate) (before : ℕ) (ns : List ℕ) (i d : ℕ) → i < length ns
+    → flat_map spell (placed c before (drop i ns)) ≡ flat_map spell (placed_one c before (get_or ns i d)) ++ flat_map spell (placed c (before + length (nodes_of (get_or ns i d) c.nodes)) (drop (i + 1) ns))
 unfolding placed
-placed_left c before ns i d lt =
-    ap (λ (l : List ℕ). flat_map whole.procedure (placed c before l)) (drop_more ns i d lt)
-    ∙ flat_map-append whole.procedure (placed_one c before (get_or ns i d)) (placed c (before + length (nodes_of (get_or ns i d) c.nodes)) (drop (i + 1) ns))
+placed_left spell c before ns i d lt =
+    ap (λ (l : List ℕ). flat_map spell (placed c before l)) (drop_more ns i d lt)
+    ∙ flat_map-append spell (placed_one c before (get_or ns i d)) (placed c (before + length (nodes_of (get_or ns i d) c.nodes)) (drop (i + 1) ns))
 
-pub placed_end : (c : Certificate) (before : ℕ) (ns : List ℕ) (i : ℕ) → length ns ≤ i → flat_map whole.procedure (placed c before (drop i ns)) ≡ []
+pub placed_end : (spell : ProcedureParts → List ℕ) (c : Certificate) (before : ℕ) (ns : List ℕ) (i : ℕ) → length ns ≤ i → flat_map spell (placed c before (drop i ns)) ≡ []
 unfolding placed
-placed_end c before [] zero h = refl
-placed_end c before [] (suc i) h = refl
-placed_end c before (n ∷ ns) zero h = absurd (omega (arith, h))
-placed_end c before (n ∷ ns) (suc i) h = placed_end c before ns i (omega (arith, h))
+placed_end spell c before [] zero h = refl
+placed_end spell c before [] (suc i) h = refl
+placed_end spell c before (n ∷ ns) zero h = absurd (omega (arith, h))
+placed_end spell c before (n ∷ ns) (suc i) h = placed_end spell c before ns i (omega (arith, h))
 
-pub group_left : (number new : ℕ) (ns : List Node) (i : ℕ) (n : Node) → slice_get ns i ≡ Some n
-    → flat_map (λ m. whole.node (fourth_node new m)) (nodes_of number (drop i ns)) ≡ flat_map (λ m. whole.node (fourth_node new m)) (where_own (n.procedure == number) n (nodes_of number (drop (i + 1) ns)))
+pub group_left : (spell : Node → List ℕ) (number new : ℕ) (ns : List Node) (i : ℕ) (n : Node) → slice_get ns i ≡ Some n
+    → flat_map (λ m. spell (fourth_node new m)) (nodes_of number (drop i ns)) ≡ flat_map (λ m. spell (fourth_node new m)) (where_own (n.procedure == number) n (nodes_of number (drop (i + 1) ns)))
 unfolding nodes_of
-group_left number new ns i n e =
-    ap (λ (l : List Node). flat_map (λ m. whole.node (fourth_node new m)) (nodes_of number l)) (drop_more ns i n (slice_get_within ns i n e))
-    ∙ ap (λ (z : Node). flat_map (λ m. whole.node (fourth_node new m)) (where_own (z.procedure == number) z (nodes_of number (drop (i + 1) ns)))) (get_or_from_slice_get ns i n n e)
+group_left spell number new ns i n e =
+    ap (λ (l : List Node). flat_map (λ m. spell (fourth_node new m)) (nodes_of number l)) (drop_more ns i n (slice_get_within ns i n e))
+    ∙ ap (λ (z : Node). flat_map (λ m. spell (fourth_node new m)) (where_own (z.procedure == number) z (nodes_of number (drop (i + 1) ns)))) (get_or_from_slice_get ns i n n e)
 
-pub group_end : (number new : ℕ) (ns : List Node) (i : ℕ) → length ns ≤ i → flat_map (λ m. whole.node (fourth_node new m)) (nodes_of number (drop i ns)) ≡ []
+pub group_end : (spell : Node → List ℕ) (number new : ℕ) (ns : List Node) (i : ℕ) → length ns ≤ i → flat_map (λ m. spell (fourth_node new m)) (nodes_of number (drop i ns)) ≡ []
 unfolding nodes_of
-group_end number new [] zero h = refl
-group_end number new [] (suc i) h = refl
-group_end number new (n ∷ ns) zero h = absurd (omega (arith, h))
-group_end number new (n ∷ ns) (suc i) h = group_end number new ns i (omega (arith, h))
+group_end spell number new [] zero h = refl
+group_end spell number new [] (suc i) h = refl
+group_end spell number new (n ∷ ns) zero h = absurd (omega (arith, h))
+group_end spell number new (n ∷ ns) (suc i) h = group_end spell number new ns i (omega (arith, h))
 
-pub grouped_left : (nodes : List Node) (ns : List ℕ) (i d : ℕ) → i < length ns
-    → flat_map whole.node (grouped i nodes (drop i ns)) ≡ flat_map (λ n. whole.node (fourth_node i n)) (nodes_of (get_or ns i d) nodes) ++ flat_map whole.node (grouped (i + 1) nodes (drop (i + 1) ns))
+pub grouped_left : (spell : Node → List ℕ) (nodes : List Node) (ns : List ℕ) (i d : ℕ) → i < length ns
+    → flat_map spell (grouped i nodes (drop i ns)) ≡ flat_map (λ n. spell (fourth_node i n)) (nodes_of (get_or ns i d) nodes) ++ flat_map spell (grouped (i + 1) nodes (drop (i + 1) ns))
 unfolding grouped
-grouped_left nodes ns i d lt =
+grouped_left spell nodes ns i d lt =
     let next : suc i ≡ i + 1 = omega arith in
     let old : ℕ = get_or ns i d in
-    ap (λ (l : List ℕ). flat_map whole.node (grouped i nodes l)) (drop_more ns i d lt)
-    ∙ flat_map-append whole.node (map (fourth_node i) (nodes_of old nodes)) (grouped (suc i) nodes (drop (i + 1) ns))
-    ∙ ap (λ (t : List ℕ). t ++ flat_map whole.node (grouped (suc i) nodes (drop (i + 1) ns))) (flat_map-map whole.node (fourth_node i) (nodes_of old nodes))
-    ∙ ap (λ (k : ℕ). flat_map (λ n. whole.node (fourth_node i n)) (nodes_of old nodes) ++ flat_map whole.node (grouped k nodes (drop (i + 1) ns))) next
+    ap (λ (l : List ℕ). flat_map spell (grouped i nodes l)) (drop_more ns i d lt)
+    ∙ flat_map-append spell (map (fourth_node i) (nodes_of old nodes)) (grouped (suc i) nodes (drop (i + 1) ns))
+    ∙ ap (λ (t : List ℕ). t ++ flat_map spell (grouped (suc i) nodes (drop (i + 1) ns))) (flat_map-map spell (fourth_node i) (nodes_of old nodes))
+    ∙ ap (λ (k : ℕ). flat_map (λ n. spell (fourth_node i n)) (nodes_of old nodes) ++ flat_map spell (grouped k nodes (drop (i + 1) ns))) next
 
-pub grouped_end : (k : ℕ) (nodes : List Node) (ns : List ℕ) (i : ℕ) → length ns ≤ i → flat_map whole.node (grouped k nodes (drop i ns)) ≡ []
+pub grouped_end : (spell : Node → List ℕ) (k : ℕ) (nodes : List Node) (ns : List ℕ) (i : ℕ) → length ns ≤ i → flat_map spell (grouped k nodes (drop i ns)) ≡ []
 unfolding grouped
-grouped_end k nodes [] zero h = refl
-grouped_end k nodes [] (suc i) h = refl
-grouped_end k nodes (n ∷ ns) zero h = absurd (omega (arith, h))
-grouped_end k nodes (n ∷ ns) (suc i) h = grouped_end k nodes ns i (omega (arith, h))
+grouped_end spell k nodes [] zero h = refl
+grouped_end spell k nodes [] (suc i) h = refl
+grouped_end spell k nodes (n ∷ ns) zero h = absurd (omega (arith, h))
+grouped_end spell k nodes (n ∷ ns) (suc i) h = grouped_end spell k nodes ns i (omega (arith, h))
 
 -- ---- on their way to a sink
 
-group_now : (c : Certificate) (old new i : ℕ) (n : Node) → slice_get c.nodes i ≡ Some n
-    → flat_map (λ m. whole.node (fourth_node new m)) (nodes_of old (drop i (widened c).nodes))
-    ≡ flat_map (λ m. whole.node (fourth_node new m)) (where_own (n.procedure == old) (widened_node_by (rules_of c.version) n) (nodes_of old (drop (i + 1) (widened c).nodes)))
-group_now c old new i n e =
+group_now : (spell : Node → List ℕ) (c : Certificate) (old new i : ℕ) (n : Node) → slice_get c.nodes i ≡ Some n
+    → flat_map (λ m. spell (fourth_node new m)) (nodes_of old (drop i (widened c).nodes))
+    ≡ flat_map (λ m. spell (fourth_node new m)) (where_own (n.procedure == old) (widened_node_by (rules_of c.version) n) (nodes_of old (drop (i + 1) (widened c).nodes)))
+group_now spell c old new i n e =
     let m : Node = widened_node_by (rules_of c.version) n in
-    group_left old new (widened c).nodes i m (node_in c i n e)
-    ∙ ap (λ (o : ℕ). flat_map (λ z. whole.node (fourth_node new z)) (where_own (o == old) m (nodes_of old (drop (i + 1) (widened c).nodes)))) (same_owner (rules_of c.version) n)
+    group_left spell old new (widened c).nodes i m (node_in c i n e)
+    ∙ ap (λ (o : ℕ). flat_map (λ z. spell (fourth_node new z)) (where_own (o == old) m (nodes_of old (drop (i + 1) (widened c).nodes)))) (same_owner (rules_of c.version) n)
 
-own_now : (c : Certificate) (old new i owner : ℕ) (n : Node) (rules : Rules) (bytes : List ℕ) → slice_get c.nodes i ≡ Some n → owner ≡ n.procedure → owner ≡ old → rules ≡ rules_of c.version
-    → bytes ≡ whole.node (fourth_node new (widened_node_by rules n))
-    → flat_map (λ m. whole.node (fourth_node new m)) (nodes_of old (drop i (widened c).nodes)) ≡ bytes ++ flat_map (λ m. whole.node (fourth_node new m)) (nodes_of old (drop (i + 1) (widened c).nodes))
-own_now c old new i owner n rules bytes e f g h t =
+own_now : (spell : Node → List ℕ) (c : Certificate) (old new i owner : ℕ) (n : Node) (rules : Rules) (bytes : List ℕ) → slice_get c.nodes i ≡ Some n → owner ≡ n.procedure → owner ≡ old → rules ≡ rules_of c.version
+    → bytes ≡ spell (fourth_node new (widened_node_by rules n))
+    → flat_map (λ m. spell (fourth_node new m)) (nodes_of old (drop i (widened c).nodes)) ≡ bytes ++ flat_map (λ m. spell (fourth_node new m)) (nodes_of old (drop (i + 1) (widened c).nodes))
+own_now spell c old new i owner n rules bytes e f g h t =
     let m : Node = widened_node_by (rules_of c.version) n in
     let own : (n.procedure == old) ≡ true = equal n.procedure old (sym f ∙ g) in
-    group_now c old new i n e
-    ∙ ap (λ (b : Bool). flat_map (λ z. whole.node (fourth_node new z)) (where_own b m (nodes_of old (drop (i + 1) (widened c).nodes)))) own
-    ∙ ap (λ (l : List ℕ). l ++ flat_map (λ z. whole.node (fourth_node new z)) (nodes_of old (drop (i + 1) (widened c).nodes))) (sym (t ∙ ap (λ (r : Rules). whole.node (fourth_node new (widened_node_by r n))) h))
+    group_now spell c old new i n e
+    ∙ ap (λ (b : Bool). flat_map (λ z. spell (fourth_node new z)) (where_own b m (nodes_of old (drop (i + 1) (widened c).nodes)))) own
+    ∙ ap (λ (l : List ℕ). l ++ flat_map (λ z. spell (fourth_node new z)) (nodes_of old (drop (i + 1) (widened c).nodes))) (sym (t ∙ ap (λ (r : Rules). spell (fourth_node new (widened_node_by r n))) h))
 
-pub group_taken : (c : Certificate) (old new i owner : ℕ) (n : Node) (rules : Rules) (bytes text : List ℕ) (before mid after : Option (List ℕ)) → slice_get c.nodes i ≡ Some n → owner ≡ n.procedure → owner ≡ old → rules ≡ rules_of c.version
-    → bytes ≡ whole.node (fourth_node new (widened_node_by rules n))
-    → Remains before text mid (flat_map (λ m. whole.node (fourth_node new m)) (nodes_of old (drop i (widened c).nodes))) → Gains mid bytes after
-    → Remains before text after (flat_map (λ m. whole.node (fourth_node new m)) (nodes_of old (drop (i + 1) (widened c).nodes)))
-group_taken c old new i owner n rules bytes text before mid after e f g h t r w = remains_less before mid after text bytes _ (subst (λ (l : List ℕ). Remains before text mid l) (own_now c old new i owner n rules bytes e f g h t) r) w
+pub group_taken : (spell : Node → List ℕ) (c : Certificate) (old new i owner : ℕ) (n : Node) (rules : Rules) (bytes text : List ℕ) (before mid after : Option (List ℕ)) → slice_get c.nodes i ≡ Some n → owner ≡ n.procedure → owner ≡ old → rules ≡ rules_of c.version
+    → bytes ≡ spell (fourth_node new (widened_node_by rules n))
+    → Remains before text mid (flat_map (λ m. spell (fourth_node new m)) (nodes_of old (drop i (widened c).nodes))) → Gains mid bytes after
+    → Remains before text after (flat_map (λ m. spell (fourth_node new m)) (nodes_of old (drop (i + 1) (widened c).nodes)))
+group_taken spell c old new i owner n rules bytes text before mid after e f g h t r w = remains_less before mid after text bytes _ (subst (λ (l : List ℕ). Remains before text mid l) (own_now spell c old new i owner n rules bytes e f g h t) r) w
 
-pub group_cut : (c : Certificate) (old new i owner : ℕ) (n : Node) (rules : Rules) (bytes text : List ℕ) (before mid after : Option (List ℕ)) → slice_get c.nodes i ≡ Some n → owner ≡ n.procedure → owner ≡ old → rules ≡ rules_of c.version
-    → bytes ≡ whole.node (fourth_node new (widened_node_by rules n))
-    → Remains before text mid (flat_map (λ m. whole.node (fourth_node new m)) (nodes_of old (drop i (widened c).nodes))) → GainsBeginning mid bytes after → GainsBeginning before text after
-group_cut c old new i owner n rules bytes text before mid after e f g h t r w = remains_cut before mid after text bytes _ (subst (λ (l : List ℕ). Remains before text mid l) (own_now c old new i owner n rules bytes e f g h t) r) w
+pub group_cut : (spell : Node → List ℕ) (c : Certificate) (old new i owner : ℕ) (n : Node) (rules : Rules) (bytes text : List ℕ) (before mid after : Option (List ℕ)) → slice_get c.nodes i ≡ Some n → owner ≡ n.procedure → owner ≡ old → rules ≡ rules_of c.version
+    → bytes ≡ spell (fourth_node new (widened_node_by rules n))
+    → Remains before text mid (flat_map (λ m. spell (fourth_node new m)) (nodes_of old (drop i (widened c).nodes))) → GainsBeginning mid bytes after → GainsBeginning before text after
+group_cut spell c old new i owner n rules bytes text before mid after e f g h t r w = remains_cut before mid after text bytes _ (subst (λ (l : List ℕ). Remains before text mid l) (own_now spell c old new i owner n rules bytes e f g h t) r) w
 
-pub group_passed : (c : Certificate) (old new i owner : ℕ) (n : Node) (text : List ℕ) (before mid : Option (List ℕ)) → slice_get c.nodes i ≡ Some n → owner ≡ n.procedure → (owner ≡ old → ⊥)
-    → Remains before text mid (flat_map (λ m. whole.node (fourth_node new m)) (nodes_of old (drop i (widened c).nodes)))
-    → Remains before text mid (flat_map (λ m. whole.node (fourth_node new m)) (nodes_of old (drop (i + 1) (widened c).nodes)))
-group_passed c old new i owner n text before mid e f g r =
+pub group_passed : (spell : Node → List ℕ) (c : Certificate) (old new i owner : ℕ) (n : Node) (text : List ℕ) (before mid : Option (List ℕ)) → slice_get c.nodes i ≡ Some n → owner ≡ n.procedure → (owner ≡ old → ⊥)
+    → Remains before text mid (flat_map (λ m. spell (fourth_node new m)) (nodes_of old (drop i (widened c).nodes)))
+    → Remains before text mid (flat_map (λ m. spell (fourth_node new m)) (nodes_of old (drop (i + 1) (widened c).nodes)))
+group_passed spell c old new i owner n text before mid e f g r =
     let other : (n.procedure == old) ≡ false = subst (λ (o : ℕ). (o == old) ≡ false) f (unequal owner old g) in
     subst (λ (l : List ℕ). Remains before text mid l)
-    (group_now c old new i n e ∙ ap (λ (b : Bool). flat_map (λ z. whole.node (fourth_node new z)) (where_own b (widened_node_by (rules_of c.version) n) (nodes_of old (drop (i + 1) (widened c).nodes)))) other) r
+    (group_now spell c old new i n e ∙ ap (λ (b : Bool). flat_map (λ z. spell (fourth_node new z)) (where_own b (widened_node_by (rules_of c.version) n) (nodes_of old (drop (i + 1) (widened c).nodes)))) other) r
 
-pub group_done : (c : Certificate) (old new i : ℕ) (text : List ℕ) (before now : Option (List ℕ)) → length c.nodes ≤ i
-    → Remains before text now (flat_map (λ m. whole.node (fourth_node new m)) (nodes_of old (drop i (widened c).nodes))) → Gains before text now
-group_done c old new i text before now h r =
-    remains_none before now text (subst (λ (l : List ℕ). Remains before text now l) (group_end old new (widened c).nodes i (omega (arith, h, nodes_long c))) r)
+pub group_done : (spell : Node → List ℕ) (c : Certificate) (old new i : ℕ) (text : List ℕ) (before now : Option (List ℕ)) → length c.nodes ≤ i
+    → Remains before text now (flat_map (λ m. spell (fourth_node new m)) (nodes_of old (drop i (widened c).nodes))) → Gains before text now
+group_done spell c old new i text before now h r =
+    remains_none before now text (subst (λ (l : List ℕ). Remains before text now l) (group_end spell old new (widened c).nodes i (omega (arith, h, nodes_long c))) r)
 
-pub nodes_taken : (nodes : List Node) (ns : List ℕ) (i d : ℕ) (text : List ℕ) (before mid after : Option (List ℕ)) → i < length ns → Remains before text mid (flat_map whole.node (grouped i nodes (drop i ns)))
-    → Gains mid (flat_map (λ n. whole.node (fourth_node i n)) (nodes_of (get_or ns i d) nodes)) after → Remains before text after (flat_map whole.node (grouped (i + 1) nodes (drop (i + 1) ns)))
-nodes_taken nodes ns i d text before mid after lt r w = remains_less before mid after text _ _ (subst (λ (l : List ℕ). Remains before text mid l) (grouped_left nodes ns i d lt) r) w
+pub nodes_taken : (spell : Node → List ℕ) (nodes : List Node) (ns : List ℕ) (i d : ℕ) (text : List ℕ) (before mid after : Option (List ℕ)) → i < length ns → Remains before text mid (flat_map spell (grouped i nodes (drop i ns)))
+    → Gains mid (flat_map (λ n. spell (fourth_node i n)) (nodes_of (get_or ns i d) nodes)) after → Remains before text after (flat_map spell (grouped (i + 1) nodes (drop (i + 1) ns)))
+nodes_taken spell nodes ns i d text before mid after lt r w = remains_less before mid after text _ _ (subst (λ (l : List ℕ). Remains before text mid l) (grouped_left spell nodes ns i d lt) r) w
 
-pub nodes_cut : (nodes : List Node) (ns : List ℕ) (i d : ℕ) (text : List ℕ) (before mid after : Option (List ℕ)) → i < length ns → Remains before text mid (flat_map whole.node (grouped i nodes (drop i ns)))
-    → GainsBeginning mid (flat_map (λ n. whole.node (fourth_node i n)) (nodes_of (get_or ns i d) nodes)) after → GainsBeginning before text after
-nodes_cut nodes ns i d text before mid after lt r w = remains_cut before mid after text _ _ (subst (λ (l : List ℕ). Remains before text mid l) (grouped_left nodes ns i d lt) r) w
+pub nodes_cut : (spell : Node → List ℕ) (nodes : List Node) (ns : List ℕ) (i d : ℕ) (text : List ℕ) (before mid after : Option (List ℕ)) → i < length ns → Remains before text mid (flat_map spell (grouped i nodes (drop i ns)))
+    → GainsBeginning mid (flat_map (λ n. spell (fourth_node i n)) (nodes_of (get_or ns i d) nodes)) after → GainsBeginning before text after
+nodes_cut spell nodes ns i d text before mid after lt r w = remains_cut before mid after text _ _ (subst (λ (l : List ℕ). Remains before text mid l) (grouped_left spell nodes ns i d lt) r) w
 
-pub nodes_done : (nodes : List Node) (ns : List ℕ) (i : ℕ) (text : List ℕ) (before now : Option (List ℕ)) → length ns ≤ i → Remains before text now (flat_map whole.node (grouped i nodes (drop i ns))) → Gains before text now
-nodes_done nodes ns i text before now h r = remains_none before now text (subst (λ (l : List ℕ). Remains before text now l) (grouped_end i nodes ns i h) r)
+pub nodes_done : (spell : Node → List ℕ) (nodes : List Node) (ns : List ℕ) (i : ℕ) (text : List ℕ) (before now : Option (List ℕ)) → length ns ≤ i → Remains before text now (flat_map spell (grouped i nodes (drop i ns))) → Gains before text now
+nodes_done spell nodes ns i text before now h r = remains_none before now text (subst (λ (l : List ℕ). Remains before text now l) (grouped_end spell i nodes ns i h) r)
 
-pub procedures_taken : (c : Certificate) (ns : List ℕ) (i d so_far count : ℕ) (bytes text : List ℕ) (before mid after : Option (List ℕ)) → i < length ns → bytes ≡ flat_map whole.procedure (placed_one c so_far (get_or ns i d))
-    → count ≡ length (nodes_of (get_or ns i d) c.nodes) → Remains before text mid (flat_map whole.procedure (placed c so_far (drop i ns))) → Gains mid bytes after
-    → Remains before text after (flat_map whole.procedure (placed c (so_far + count) (drop (i + 1) ns)))
-procedures_taken c ns i d so_far count bytes text before mid after lt e f r w =
-    subst (λ (k : ℕ). Remains before text after (flat_map whole.procedure (placed c (so_far + k) (drop (i + 1) ns)))) (sym f)
-    (remains_less before mid after text _ _ (subst (λ (l : List ℕ). Remains before text mid l) (placed_left c so_far ns i d lt) r) (subst (λ (l : List ℕ). Gains mid l after) e w))
+pub procedures_taken : (spell : ProcedureParts → List ℕ) (c : Certificate) (ns : List ℕ) (i d so_far count : ℕ) (bytes text : List ℕ) (before mid after : Option (List ℕ)) → i < length ns → bytes ≡ flat_map spell (placed_one c so_far (get_or ns i d))
+    → count ≡ length (nodes_of (get_or ns i d) c.nodes) → Remains before text mid (flat_map spell (placed c so_far (drop i ns))) → Gains mid bytes after
+    → Remains before text after (flat_map spell (placed c (so_far + count) (drop (i + 1) ns)))
+procedures_taken spell c ns i d so_far count bytes text before mid after lt e f r w =
+    subst (λ (k : ℕ). Remains before text after (flat_map spell (placed c (so_far + k) (drop (i + 1) ns)))) (sym f)
+    (remains_less before mid after text _ _ (subst (λ (l : List ℕ). Remains before text mid l) (placed_left spell c so_far ns i d lt) r) (subst (λ (l : List ℕ). Gains mid l after) e w))
 
-pub procedures_cut : (c : Certificate) (ns : List ℕ) (i d so_far : ℕ) (bytes text : List ℕ) (before mid after : Option (List ℕ)) → i < length ns → bytes ≡ flat_map whole.procedure (placed_one c so_far (get_or ns i d))
-    → Remains before text mid (flat_map whole.procedure (placed c so_far (drop i ns))) → GainsBeginning mid bytes after → GainsBeginning before text after
-procedures_cut c ns i d so_far bytes text before mid after lt e r w =
-    remains_cut before mid after text _ _ (subst (λ (l : List ℕ). Remains before text mid l) (placed_left c so_far ns i d lt) r) (subst (λ (l : List ℕ). GainsBeginning mid l after) e w)
+pub procedures_cut : (spell : ProcedureParts → List ℕ) (c : Certificate) (ns : List ℕ) (i d so_far : ℕ) (bytes text : List ℕ) (before mid after : Option (List ℕ)) → i < length ns → bytes ≡ flat_map spell (placed_one c so_far (get_or ns i d))
+    → Remains before text mid (flat_map spell (placed c so_far (drop i ns))) → GainsBeginning mid bytes after → GainsBeginning before text after
+procedures_cut spell c ns i d so_far bytes text before mid after lt e r w =
+    remains_cut before mid after text _ _ (subst (λ (l : List ℕ). Remains before text mid l) (placed_left spell c so_far ns i d lt) r) (subst (λ (l : List ℕ). GainsBeginning mid l after) e w)
 
-pub procedures_done : (c : Certificate) (ns : List ℕ) (i so_far : ℕ) (text : List ℕ) (before now : Option (List ℕ)) → length ns ≤ i → Remains before text now (flat_map whole.procedure (placed c so_far (drop i ns))) → Gains before text now
-procedures_done c ns i so_far text before now h r = remains_none before now text (subst (λ (l : List ℕ). Remains before text now l) (placed_end c so_far ns i h) r)
+pub procedures_done : (spell : ProcedureParts → List ℕ) (c : Certificate) (ns : List ℕ) (i so_far : ℕ) (text : List ℕ) (before now : Option (List ℕ)) → length ns ≤ i → Remains before text now (flat_map spell (placed c so_far (drop i ns))) → Gains before text now
+procedures_done spell c ns i so_far text before now h r = remains_none before now text (subst (λ (l : List ℕ). Remains before text now l) (placed_end spell c so_far ns i h) r)
 
 -- ---- the whole
 
@@ -447,20 +459,30 @@ no_facts c h = by (rules_of c.version)
     by Simple = h.facts
     by Extended = h.facts
 
+same_region : (c : Certificate) → (widened c).region ≡ c.region
+same_region c = by (rules_of c.version)
+  where
+    by : (rules : Rules) → (widened_by rules c).region ≡ c.region
+    by Simple = refl
+    by Extended = refl
+
 pub fourth_is : (c : Certificate) → (c.version == 4) ≡ false
     → fourth (widened c) ≡ record (widened c) { version = 4; procedures = placed (widened c) 0 (order (widened c)); nodes = grouped 0 (widened c).nodes (order (widened c)) }
 fourth_is c older = ap (λ (b : Bool). fourth_by b (widened c)) (widened_not_fourth c older)
 
 pub text_is : (c : Certificate) → IsCertificate c → (c.version == 4) ≡ false
-    → (whole.head (fourth (widened c)) ++ (0 ∷ 0 ∷ [])) ++ (flat_map whole.procedure (placed (widened c) 0 (order (widened c))) ++ flat_map whole.node (grouped 0 (widened c).nodes (order (widened c)))) ≡ fourth_text c
+    → (whole.head (fourth (widened c)) ++ (0 ∷ 0 ∷ [])) ++ (flat_map (whole.procedure c.region) (placed (widened c) 0 (order (widened c))) ++ flat_map (whole.node c.region (fourth_forms c)) (grouped 0 (widened c).nodes (order (widened c)))) ≡ fourth_text c
 unfolding whole.spelling whole.facts
 text_is c h older =
     let w : Certificate = widened c in
-    let procedures : List ℕ = flat_map whole.procedure (placed w 0 (order w)) in
-    let nodes : List ℕ = flat_map whole.node (grouped 0 w.nodes (order w)) in
-    append_assoc (whole.head (fourth w)) (0 ∷ 0 ∷ []) (procedures ++ nodes)
-    ∙ ap (λ (fs : List Fact). whole.head (fourth w) ++ (whole.facts fs ++ (procedures ++ nodes))) (sym (no_facts c h))
-    ∙ sym (ap whole.spelling (fourth_is c older) ∙ ap (λ (z : Certificate). whole.head z ++ (whole.facts w.facts ++ (procedures ++ nodes))) (sym (fourth_is c older)))
+    let parts : Region → List ProcedureParts → List ℕ =
+    λ region ps. flat_map (whole.procedure region) (placed w 0 (order w)) ++ flat_map (whole.node region (form_in (procedure_forms ps))) (grouped 0 w.nodes (order w)) in
+    let own : List ℕ = parts w.region (placed w 0 (order w)) in
+    append_assoc (whole.head (fourth w)) (0 ∷ 0 ∷ []) (parts c.region (fourth w).procedures)
+    ∙ ap (λ (region : Region). whole.head (fourth w) ++ (0 ∷ 0 ∷ parts region (fourth w).procedures)) (sym (same_region c))
+    ∙ ap (λ (z : Certificate). whole.head (fourth w) ++ (0 ∷ 0 ∷ parts w.region z.procedures)) (fourth_is c older)
+    ∙ ap (λ (fs : List Fact). whole.head (fourth w) ++ (whole.facts fs ++ own)) (sym (no_facts c h))
+    ∙ sym (ap whole.spelling (fourth_is c older) ∙ ap (λ (z : Certificate). whole.head z ++ (whole.facts w.facts ++ own)) (sym (fourth_is c older)))
 
 -- the head's bytes, one by one
 pub head_is : (c : Certificate) (first last procedures nodes : List ℕ) (count total : ℕ) → (c.version == 4) ≡ false → first ≡ word c.region.first → last ≡ word c.region.last

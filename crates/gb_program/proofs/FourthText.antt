@@ -1,10 +1,11 @@
 -- The text of a certificate in version 4, from its parts.
 use Rattle.std.proofs.Common.{◌≡◌, ℕ, ◌+◌, ◌*◌, ◌/◌, ◌%◌, ◌≤◌, Bool, true, false, not, ◌==◌, ◌&&◌, List, [], ◌∷◌, ◌++◌, length, Option, Some, None, refl, sym, ◌∙◌, ap, subst, arith, append_assoc}
-use Rattle.std.specs.Prelude.{slice_index_or, slice_set, option_map, is_none, is_some}
+use Rattle.std.specs.Prelude.{IfSome, slice_index_or, slice_set, option_map, is_none, is_some}
 use Rattle.std.proofs.lemmas.List.{append-nil}
 use Rattle.std.specs.List.{flat_map, list_all}
 use Rattle.std.proofs.lemmas.Bool.{and_parts}
 use Rattle.std.proofs.lemmas.Bool.Decides.{nat_tests}
+use Rattle.gb_ops.specs.declared.machine.Region.{Region}
 use Rattle.gb_ops.specs.declared.registers.Registers.{Registers}
 use Rattle.gb_domain.specs.declared.types.Origin.{Origin}
 use Rattle.gb_domain.specs.declared.types.Origin.TheVariants.{A, F, B, C, D, E, H, L, Ie, ReturnHigh, ReturnLow, Kept, MarkHigh, MarkLow}
@@ -15,18 +16,20 @@ use Rattle.gb_domain.specs.declared.types.Ctl.{Ctl}
 use Rattle.gb_domain.specs.declared.rules.Rules.{Rules}
 use Rattle.gb_domain.specs.declared.rules.Rules.TheVariants.{Simple, Extended}
 use Rattle.gb_domain.specs.declared.relations.Relations.{Relations}
+use Rattle.gb_domain.specs.Areas.{is_area, meets, is_free_byte}
 use Rattle.gb_domain.specs.RelationRules.{compared}
 use Rattle.gb_domain.specs.Summaries.{SummaryParts}
 use Rattle.gb_domain.specs.declared.pairs.Bounds.{Bounds}
 use Rattle.gb_command_line.specs.Below.gb_fields.Limits.{unit}
 use Rattle.gb_domain.specs.Types.{AbsState, ProcedureParts, Node}
+use Rattle.gb_command_line.specs.Below.gb_verify.Below.gb_states.declared.form.ProcedureForm.{ProcedureForm}
 use Rattle.gb_command_line.specs.Below.gb_verify.Below.gb_states.Rules.{may_be_of, is_declared_origin, is_sayable, are_sayable, is_all_or_none, is_core_sayable, is_cell_sayable, is_silent, is_unshadowed}
 use Rattle.gb_command_line.specs.Below.gb_verify.Below.gb_states.Numbers.{word, quad}
 use Rattle.gb_command_line.specs.Below.gb_verify.Below.gb_states.RelationSpelling as told
 use Rattle.gb_command_line.specs.Below.gb_verify.Below.gb_states.Spelling as spelled
 use Rattle.gb_command_line.specs.Below.gb_verify.Below.gb_states.WholeSpelling as whole
 use Rattle.gb_command_line.specs.Below.gb_verify.Widened.{below_items, above_return_word, widened_node, widened_procedure}
-use Rattle.gb_program.specs.Fourth.{bank_by, fourth_ctl, fourth_state, fourth_node, fourth_procedure, has_return_word, widened_node_by, widened_procedure_by, IsOlder}
+use Rattle.gb_program.specs.Fourth.{bank_by, fourth_ctl, fourth_state, fourth_node, fourth_procedure, has_return_word, widened_node_by, widened_procedure_by, IsFree, IsOlder}
 
 -- ---- values
 
@@ -133,18 +136,32 @@ none_is : (o : Option Bounds) → is_none o ≡ true → o ≡ None
 none_is None h = refl
 none_is (Some b) h = cc
 
+not_true : (b : Bool) → not b ≡ true → b ≡ false
+not_true true h = cc
+not_true false h = refl
+
+-- where there is a place in memory it is an address
+address_told : (region : Region) (base : ℕ) (s : SummaryParts) (r : Relations) (o : Option ℕ) → IfSome o (λ a. is_free_byte region a ≡ true)
+    → told.present_number (told.present_by (is_some o) r) ∷ whole.declared_number (whole.declared_in false s) ∷ (told.parts_by (told.optional word o) r ++ whole.summary s)
+    ≡ whole.told_by (whole.place_in region o) (whole.memory region base o) (r, s)
+address_told region base s r None h = refl
+address_told region base s r (Some a) h =
+    sym (ap (λ (b : Bool). whole.told_by (whole.place_if b) (whole.memory_if b base a) (r, s)) (not_true (meets region a a) (and_parts (is_area a a) (not (meets region a a)) h).1))
+
 -- what says nothing has no bytes, and its number is 0
-pub silent_text : (s : SummaryParts) (r : Relations) → is_silent s ≡ true → (told.present_number (told.present_in r) ∷ 0 ∷ told.parts r) ≡ whole.told (r, s)
+pub silent_text : (region : Region) (base : ℕ) (s : SummaryParts) (r : Relations) → IfSome r.byte.address (λ a. is_free_byte region a ≡ true) → is_silent s ≡ true
+    → (told.present_number (told.present_in r) ∷ 0 ∷ told.parts r) ≡ whole.told region base (r, s)
 unfolding whole.told whole.summary
-silent_text s r h =
+silent_text region base s r free h =
     let p = and_parts (s.level == 0) (length s.fills == 0 && (is_unshadowed s.shadows.first && (is_unshadowed s.shadows.second && is_none s.aside))) h in
     let q = and_parts (length s.fills == 0) (is_unshadowed s.shadows.first && (is_unshadowed s.shadows.second && is_none s.aside)) p.1 in
     let u = and_parts (is_unshadowed s.shadows.first) (is_unshadowed s.shadows.second && is_none s.aside) q.1 in
     let v = and_parts (is_unshadowed s.shadows.second) (is_none s.aside) u.1 in
     by (s.level == 0) (length s.fills == 0) (is_unshadowed s.shadows.first) (is_unshadowed s.shadows.second) s.aside p.0 q.0 u.0 v.0 (none_is s.aside v.1)
+    ∙ address_told region base s r r.byte.address free
   where
     number : (a b c d : Bool) (o : Option Bounds) → ℕ
-    number a b c d o = whole.declared_number (record { shadows = not (c && d); levels = not (a && b); aside = is_some o })
+    number a b c d o = whole.declared_number (record { shadows = not (c && d); levels = not (a && b); aside = is_some o; item = false })
 
     rest : (a b c d : Bool) (o : Option Bounds) → List ℕ
     rest a b c d o = told.where_there (not (c && d)) (whole.bank_shadows s.shadows) ++ (told.where_there (not (a && b)) (whole.levels (s.level, s.fills)) ++ told.optional told.bounds o)
@@ -153,16 +170,16 @@ silent_text s r h =
         → (told.present_number (told.present_in r) ∷ 0 ∷ told.parts r) ≡ told.present_number (told.present_in r) ∷ number a b c d o ∷ (told.parts r ++ rest a b c d o)
     by a b c d o e f g i j = rw (e, f, g, i, j) (ap (λ (t : List ℕ). told.present_number (told.present_in r) ∷ 0 ∷ t) (sym (append-nil (told.parts r))))
 
-pub state_text : (is_entered : Bool) (s : AbsState) → is_silent s.summary ≡ true
+pub state_text : (region : Region) (base : ℕ) (is_entered : Bool) (s : AbsState) → IsFree region s → is_silent s.summary ≡ true
     → ((whole.core (fourth_state s).core (compared s.relations.byte.test) ++ spelled.counted whole.val (below_items is_entered ++ s.items)) ++ (told.present_number (told.present_in s.relations) ∷ 0 ∷ told.parts s.relations)) ++ spelled.counted whole.cell s.cells
-    ≡ whole.state (fourth_state (above_return_word is_entered s))
+    ≡ whole.state region base (fourth_state (above_return_word is_entered s))
 unfolding whole.state
-state_text is_entered s h =
+state_text region base is_entered s free h =
     let core : List ℕ = whole.core (fourth_state s).core (compared s.relations.byte.test) in
     let items : List ℕ = spelled.counted whole.val (below_items is_entered ++ s.items) in
     let said : List ℕ = told.present_number (told.present_in s.relations) ∷ 0 ∷ told.parts s.relations in
     let cells : List ℕ = spelled.counted whole.cell s.cells in
-    append_assoc (core ++ items) said cells ∙ append_assoc core items (said ++ cells) ∙ ap (λ (t : List ℕ). core ++ (items ++ (t ++ cells))) (silent_text s.summary s.relations h)
+    append_assoc (core ++ items) said cells ∙ append_assoc core items (said ++ cells) ∙ ap (λ (t : List ℕ). core ++ (items ++ (t ++ cells))) (silent_text region base s.summary s.relations free h)
 
 -- ---- texts that grow
 
@@ -171,13 +188,15 @@ more old one two first second e f = f ∙ ap (λ (t : List ℕ). t ++ second) e 
 
 -- ---- nodes
 
-pub node_is : (rules : Rules) (n : Node) (number : ℕ) (front first second third : List ℕ) (s : AbsState) (is_entered : Bool) → front ≡ [] → first ≡ word number → second ≡ word n.address → third ≡ word n.bank → s ≡ n.state
+pub node_is : (region : Region) (form_of : ℕ → ProcedureForm) (rules : Rules) (n : Node) (number : ℕ) (front first second third : List ℕ) (s : AbsState) (is_entered : Bool) → front ≡ [] → first ≡ word number → second ≡ word n.address → third ≡ word n.bank → s ≡ n.state
     → is_entered ≡ has_return_word rules n.procedure
-    → front ++ (((first ++ second) ++ third) ++ whole.state (fourth_state (above_return_word is_entered s))) ≡ whole.node (fourth_node number (widened_node_by rules n))
+    → front ++ (((first ++ second) ++ third) ++ whole.state region (form_of number).base (fourth_state (above_return_word is_entered s))) ≡ whole.node region form_of (fourth_node number (widened_node_by rules n))
 unfolding whole.node widened_node
-node_is rules n number front first second third s is_entered e f g h i j = rw (e, f, g, h, i, j) (by rules)
+node_is region form_of rules n number front first second third s is_entered e f g h i j = rw (e, f, g, h, i, j) (by rules)
   where
-    by : (r : Rules) → ((word number ++ word n.address) ++ word n.bank) ++ whole.state (fourth_state (above_return_word (has_return_word r n.procedure) n.state)) ≡ whole.node (fourth_node number (widened_node_by r n))
+    by : (r : Rules)
+        → ((word number ++ word n.address) ++ word n.bank) ++ whole.state region (form_of number).base (fourth_state (above_return_word (has_return_word r n.procedure) n.state))
+        ≡ whole.node region form_of (fourth_node number (widened_node_by r n))
     by Simple = refl
     by Extended = refl
 
@@ -188,44 +207,44 @@ unfolding unit
 one_each n = omega arith
 
 -- one that keeps no cell and whose mark is 0
-whole_procedure : (p : ProcedureParts) (entry : ℕ) → p.kept ≡ [] → p.mark ≡ 0
-    → quad entry ++ (word p.base ++ (word p.need ++ (spelled.counted spelled.range p.ranges ++ ((0 ∷ 0 ∷ []) ++ whole.exit (option_map fourth_state p.exit))))) ≡ whole.procedure (fourth_procedure entry p)
+whole_procedure : (region : Region) (p : ProcedureParts) (entry : ℕ) → p.kept ≡ [] → p.mark ≡ 0
+    → quad entry ++ (word p.base ++ (word p.need ++ (spelled.counted spelled.range p.ranges ++ ((0 ∷ 0 ∷ []) ++ whole.exit region p.base (option_map fourth_state p.exit))))) ≡ whole.procedure region (fourth_procedure entry p)
 unfolding whole.procedure whole.kept_addresses spelled.node_number
-whole_procedure p entry kept mark =
+whole_procedure region p entry kept mark =
     let ranges : List ℕ = spelled.counted spelled.range p.ranges in
-    let exit : List ℕ = whole.exit (option_map fourth_state p.exit) in
+    let exit : List ℕ = whole.exit region p.base (option_map fourth_state p.exit) in
     ap (λ (n : ℕ). quad entry ++ (word p.base ++ (word n ++ (ranges ++ ((0 ∷ 0 ∷ []) ++ exit))))) (one_each p.need)
     ∙ ap (λ (k : List ℕ). quad entry ++ (word p.base ++ (word (p.need / unit Extended) ++ (ranges ++ ((spelled.counted word k ++ (0 ∷ [])) ++ exit))))) (sym kept)
     ∙ ap (λ (m : ℕ). quad entry ++ (word p.base ++ (word (p.need / unit Extended) ++ (ranges ++ ((spelled.counted word p.kept ++ (m ∷ [])) ++ exit))))) (sym mark)
 
-pub procedure_is : (rules : Rules) (is_main : Bool) (p : ProcedureParts) (entry need : ℕ) (front first second third : List ℕ) → front ≡ [] → first ≡ quad entry → second ≡ word p.base → third ≡ word need
+pub procedure_is : (region : Region) (rules : Rules) (is_main : Bool) (p : ProcedureParts) (entry need : ℕ) (front first second third : List ℕ) → front ≡ [] → first ≡ quad entry → second ≡ word p.base → third ≡ word need
     → need ≡ (widened_procedure_by rules is_main p).need → p.kept ≡ [] → p.mark ≡ 0
-    → front ++ (((((first ++ second) ++ third) ++ spelled.counted spelled.range (widened_procedure_by rules is_main p).ranges) ++ (0 ∷ 0 ∷ [])) ++ whole.exit (fourth_procedure 0 p).exit)
-    ≡ whole.procedure (fourth_procedure entry (widened_procedure_by rules is_main p))
+    → front ++ (((((first ++ second) ++ third) ++ spelled.counted spelled.range (widened_procedure_by rules is_main p).ranges) ++ (0 ∷ 0 ∷ [])) ++ whole.exit region p.base (fourth_procedure 0 p).exit)
+    ≡ whole.procedure region (fourth_procedure entry (widened_procedure_by rules is_main p))
 unfolding widened_procedure
-procedure_is rules is_main p entry need front first second third e f g h i kept mark = rw (e, f, g, h, i) (by rules is_main)
+procedure_is region rules is_main p entry need front first second third e f g h i kept mark = rw (e, f, g, h, i) (by rules is_main)
   where
     front_is : (q : ProcedureParts)
-        → ((((quad entry ++ word p.base) ++ word q.need) ++ spelled.counted spelled.range q.ranges) ++ (0 ∷ 0 ∷ [])) ++ whole.exit (fourth_procedure 0 p).exit
-        ≡ quad entry ++ (word p.base ++ (word q.need ++ (spelled.counted spelled.range q.ranges ++ ((0 ∷ 0 ∷ []) ++ whole.exit (option_map fourth_state p.exit)))))
-    front_is q = ap (λ (t : List ℕ). quad entry ++ (word p.base ++ (word q.need ++ t))) (append_assoc (spelled.counted spelled.range q.ranges) (0 ∷ 0 ∷ []) (whole.exit (option_map fourth_state p.exit)))
+        → ((((quad entry ++ word p.base) ++ word q.need) ++ spelled.counted spelled.range q.ranges) ++ (0 ∷ 0 ∷ [])) ++ whole.exit region p.base (fourth_procedure 0 p).exit
+        ≡ quad entry ++ (word p.base ++ (word q.need ++ (spelled.counted spelled.range q.ranges ++ ((0 ∷ 0 ∷ []) ++ whole.exit region p.base (option_map fourth_state p.exit)))))
+    front_is q = ap (λ (t : List ℕ). quad entry ++ (word p.base ++ (word q.need ++ t))) (append_assoc (spelled.counted spelled.range q.ranges) (0 ∷ 0 ∷ []) (whole.exit region p.base (option_map fourth_state p.exit)))
 
     by : (r : Rules) (b : Bool)
-        → ((((quad entry ++ word p.base) ++ word (widened_procedure_by r b p).need) ++ spelled.counted spelled.range (widened_procedure_by r b p).ranges) ++ (0 ∷ 0 ∷ [])) ++ whole.exit (fourth_procedure 0 p).exit
-        ≡ whole.procedure (fourth_procedure entry (widened_procedure_by r b p))
-    by Simple true = front_is (widened_procedure true p) ∙ whole_procedure (widened_procedure true p) entry kept mark
-    by Simple false = front_is (widened_procedure false p) ∙ whole_procedure (widened_procedure false p) entry kept mark
-    by Extended b = front_is p ∙ whole_procedure p entry kept mark
+        → ((((quad entry ++ word p.base) ++ word (widened_procedure_by r b p).need) ++ spelled.counted spelled.range (widened_procedure_by r b p).ranges) ++ (0 ∷ 0 ∷ [])) ++ whole.exit region p.base (fourth_procedure 0 p).exit
+        ≡ whole.procedure region (fourth_procedure entry (widened_procedure_by r b p))
+    by Simple true = front_is (widened_procedure true p) ∙ whole_procedure region (widened_procedure true p) entry kept mark
+    by Simple false = front_is (widened_procedure false p) ∙ whole_procedure region (widened_procedure false p) entry kept mark
+    by Extended b = front_is p ∙ whole_procedure region p entry kept mark
 
 -- ---- exits
 
-pub exit_none : (o : Option AbsState) → None ≡ o → (0 ∷ []) ≡ whole.exit (option_map fourth_state o)
+pub exit_none : (region : Region) (base : ℕ) (o : Option AbsState) → None ≡ o → (0 ∷ []) ≡ whole.exit region base (option_map fourth_state o)
 unfolding whole.exit
-exit_none o e = ap (λ (x : Option AbsState). whole.exit (option_map fourth_state x)) e
+exit_none region base o e = ap (λ (x : Option AbsState). whole.exit region base (option_map fourth_state x)) e
 
-pub exit_some : (o : Option AbsState) (s : AbsState) → Some s ≡ o → (1 ∷ []) ++ whole.state (fourth_state s) ≡ whole.exit (option_map fourth_state o)
+pub exit_some : (region : Region) (base : ℕ) (o : Option AbsState) (s : AbsState) → Some s ≡ o → (1 ∷ []) ++ whole.state region base (fourth_state s) ≡ whole.exit region base (option_map fourth_state o)
 unfolding whole.exit
-exit_some o s e = ap (λ (x : Option AbsState). whole.exit (option_map fourth_state x)) e
+exit_some region base o s e = ap (λ (x : Option AbsState). whole.exit region base (option_map fourth_state x)) e
 
 -- ---- bytes of a number, one by one
 

@@ -1,14 +1,17 @@
 -- A certificate of version 1, 2 or 3 in version 4 of the format (own).
-use Rattle.std.specs.Prelude.{ℕ, zero, suc, ◌+◌, ◌-◌, ◌/◌, ◌==◌, ◌≤◌, ◌<◌, ◌≡◌, nat_le, Bool, true, false, not, if◌then◌else◌, List, [], ◌∷◌, ◌++◌, length, map, take, slice_get, Option, Some, None, option_map}
+use Rattle.std.specs.Prelude.{IfSome, ℕ, zero, suc, ◌+◌, ◌-◌, ◌/◌, ◌==◌, ◌≤◌, ◌<◌, ◌≡◌, nat_le, Bool, true, false, not, if◌then◌else◌, List, [], ◌∷◌, ◌++◌, length, map, take, slice_get, Option, Some, None, option_map}
 use Rattle.std.specs.List.{AllByRecursion, insert, list_all}
+use Rattle.gb_ops.specs.declared.machine.Region.{Region}
 use Rattle.gb_domain.specs.declared.types.Ctl.{Ctl}
 use Rattle.gb_domain.specs.declared.rules.Rules.{Rules}
 use Rattle.gb_domain.specs.declared.rules.Rules.TheVariants.{Simple, Extended}
 use Rattle.gb_domain.specs.Types.{AbsState, ProcedureParts, Node}
 use Rattle.gb_domain.specs.Certificate.{Certificate}
+use Rattle.gb_domain.specs.Areas.{is_free_byte}
 use Rattle.gb_command_line.specs.Below.gb_verify.Below.gb_states.Rules.{is_core_sayable, is_sayable, is_cell_sayable, is_silent}
-use Rattle.gb_command_line.specs.Below.gb_verify.Below.gb_states.WholeRules.{entry_in}
-use Rattle.gb_command_line.specs.Below.gb_verify.Below.gb_states.WholeSpelling.{spelling}
+use Rattle.gb_command_line.specs.Below.gb_verify.Below.gb_states.WholeRules.{entry_in, procedure_forms, form_in}
+use Rattle.gb_command_line.specs.Below.gb_verify.Below.gb_states.declared.form.ProcedureForm.{ProcedureForm}
+use Rattle.gb_command_line.specs.Below.gb_verify.Below.gb_states.WholeSpelling as whole
 use Rattle.gb_command_line.specs.Below.gb_verify.Widened.{below_items, widened_node, widened_procedure, widened}
 
 -- ---- states
@@ -102,7 +105,11 @@ fourth c = fourth_by (c.version == 4) c
 
 -- by way of version 3, its bytes
 abbrev pub fourth_text : Certificate → List ℕ
-fourth_text c = spelling (fourth (widened c))
+fourth_text c = whole.spelling (fourth (widened c))
+
+-- what the spelling of a state depends on, by the new number of its procedure
+abbrev pub fourth_forms : Certificate → ℕ → ProcedureForm
+fourth_forms c = form_in (procedure_forms (fourth (widened c)).procedures)
 
 -- ---- by way of version 3, part by part
 
@@ -127,6 +134,24 @@ pub record IsOlder (is_entered : Bool) (s : AbsState) : Type 0 where
   pub cells : list_all (is_cell_sayable Extended) s.cells ≡ true
   pub silent : is_silent s.summary ≡ true
   pub room : length (below_items is_entered ++ s.items) ≤ 255
+
+-- An address where the one byte is lies outside this stack region, as it does in versions 1 to 3.
+abbrev pub IsFree : Region → AbsState → Type 0
+IsFree region s = IfSome s.relations.byte.address (λ a. is_free_byte region a ≡ true)
+
+-- What is added to a text, whatever the stack region and the procedure's base: a state that stands for this one, an exit, a node, a
+-- procedure.
+abbrev pub AddsState : List ℕ → List ℕ → AbsState → AbsState → Type 0
+AddsState old new s t = (region : Region) (base : ℕ) → IsFree region s → new ≡ old ++ whole.state region base t
+
+abbrev pub AddsExit : List ℕ → List ℕ → Option AbsState → Type 0
+AddsExit old new o = (region : Region) (base : ℕ) → IfSome o (IsFree region) → new ≡ old ++ whole.exit region base (option_map fourth_state o)
+
+abbrev pub IsNodeText : List ℕ → AbsState → Node → Type 0
+IsNodeText text s n = (region : Region) (form_of : ℕ → ProcedureForm) → IsFree region s → text ≡ whole.node region form_of n
+
+abbrev pub IsProcedureText : List ℕ → Option AbsState → ProcedureParts → Type 0
+IsProcedureText text o p = (region : Region) → IfSome o (IsFree region) → text ≡ whole.procedure region p
 
 -- numbers of so many procedures
 abbrev pub AreNumbers : ℕ → List ℕ → Type 0

@@ -11,7 +11,7 @@ ghost use Rattle.gb_command_line.specs.Below.gb_verify.CertificateFile.{HasBegin
 ghost use Rattle.gb_command_line.specs.Below.gb_verify.Upgrade.{fault_outcome, IsOutcome, IfWritten};
 ghost use Rattle.gb_command_line.specs.Below.gb_verify.Widened.{widened};
 ghost use Rattle.gb_program.specs.FourthFile.{written, GainsFourth, GainsSame};
-ghost use Rattle.gb_program.specs.Fourth.{AreNumbers, fourth, fourth_node, fourth_text, grouped, nodes_of, order, placed, placed_one};
+ghost use Rattle.gb_program.specs.Fourth.{AreNumbers, fourth, fourth_forms, fourth_node, fourth_text, grouped, nodes_of, order, placed, placed_one};
 
 use crate::fourth_order::{count, order};
 use crate::fourth_spelled::{node_text, procedure_text, quad};
@@ -75,7 +75,7 @@ fn placed_text(cert: &Cert<'_>, number: u16, before: u32) -> Text
     requires certificate { IsCertificate cert.now }
     requires number { number < length cert.now.procedures }
     requires room { before ≤ 4000000000 }
-    ensures { result.items ≡ flat_map whole.procedure (placed_one (widened cert.now) before number) }
+    ensures { result.items ≡ flat_map (whole.procedure cert.now.region) (placed_one (widened cert.now) before number) }
 {
     let procedure = cert.procedure(number);
     let entry = before + count(cert, number, procedure.entry());
@@ -88,8 +88,8 @@ fn put_procedures<W: Sink>(cert: &Cert<'_>, numbers: &[u16], out: &mut W) -> Res
     requires certificate { IsCertificate cert.now }
     requires numbers { AreNumbers (length cert.now.procedures) numbers.now }
     requires few { length numbers.now ≤ 255 }
-    ensures whole { OnOk result (Gains (W.contents out.old) (flat_map whole.procedure (placed (widened cert.now) 0 numbers.now)) (W.contents out.new)) }
-    ensures beginning { OnErr result (GainsBeginning (W.contents out.old) (flat_map whole.procedure (placed (widened cert.now) 0 numbers.now)) (W.contents out.new)) }
+    ensures whole { OnOk result (Gains (W.contents out.old) (flat_map (whole.procedure cert.now.region) (placed (widened cert.now) 0 numbers.now)) (W.contents out.new)) }
+    ensures beginning { OnErr result (GainsBeginning (W.contents out.old) (flat_map (whole.procedure cert.now.region) (placed (widened cert.now) 0 numbers.now)) (W.contents out.new)) }
     ensures failed { W.has_failed out.new ≡ is_err result }
 {
     let mut before = 0;
@@ -104,8 +104,8 @@ fn put_procedures<W: Sink>(cert: &Cert<'_>, numbers: &[u16], out: &mut W) -> Res
 fn put_group<W: Sink>(cert: &Cert<'_>, old: u16, number: u16, out: &mut W) -> Result<(), OutFault>
     requires works { W.has_failed out.old ≡ false }
     requires certificate { IsCertificate cert.now }
-    ensures whole { OnOk result (Gains (W.contents out.old) (flat_map (λ n. whole.node (fourth_node number n)) (nodes_of old (widened cert.now).nodes)) (W.contents out.new)) }
-    ensures beginning { OnErr result (GainsBeginning (W.contents out.old) (flat_map (λ n. whole.node (fourth_node number n)) (nodes_of old (widened cert.now).nodes)) (W.contents out.new)) }
+    ensures whole { OnOk result (Gains (W.contents out.old) (flat_map (λ n. whole.node cert.now.region (fourth_forms cert.now) (fourth_node number n)) (nodes_of old (widened cert.now).nodes)) (W.contents out.new)) }
+    ensures beginning { OnErr result (GainsBeginning (W.contents out.old) (flat_map (λ n. whole.node cert.now.region (fourth_forms cert.now) (fourth_node number n)) (nodes_of old (widened cert.now).nodes)) (W.contents out.new)) }
     ensures failed { W.has_failed out.new ≡ is_err result }
 {
     let rules = Rules::of(cert.version());
@@ -123,8 +123,8 @@ fn put_nodes<W: Sink>(cert: &Cert<'_>, numbers: &[u16], out: &mut W) -> Result<(
     requires works { W.has_failed out.old ≡ false }
     requires certificate { IsCertificate cert.now }
     requires few { length numbers.now ≤ 255 }
-    ensures whole { OnOk result (Gains (W.contents out.old) (flat_map whole.node (grouped 0 (widened cert.now).nodes numbers.now)) (W.contents out.new)) }
-    ensures beginning { OnErr result (GainsBeginning (W.contents out.old) (flat_map whole.node (grouped 0 (widened cert.now).nodes numbers.now)) (W.contents out.new)) }
+    ensures whole { OnOk result (Gains (W.contents out.old) (flat_map (whole.node cert.now.region (fourth_forms cert.now)) (grouped 0 (widened cert.now).nodes numbers.now)) (W.contents out.new)) }
+    ensures beginning { OnErr result (GainsBeginning (W.contents out.old) (flat_map (whole.node cert.now.region (fourth_forms cert.now)) (grouped 0 (widened cert.now).nodes numbers.now)) (W.contents out.new)) }
     ensures failed { W.has_failed out.new ≡ is_err result }
 {
     for i in 0..numbers.len() {

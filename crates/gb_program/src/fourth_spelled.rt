@@ -10,7 +10,7 @@ ghost use Rattle.gb_command_line.specs.Below.gb_verify.Below.gb_states.Rules.{is
 ghost use Rattle.gb_command_line.specs.Below.gb_verify.Below.gb_states.Spelling as spelled;
 ghost use Rattle.gb_command_line.specs.Below.gb_verify.Below.gb_states.WholeSpelling as whole;
 ghost use Rattle.gb_command_line.specs.Below.gb_verify.Widened.{below_items, above_return_word};
-ghost use Rattle.gb_program.specs.Fourth.{fourth_ctl, fourth_state, fourth_node, fourth_procedure, has_return_word, widened_node_by, widened_procedure_by, IsOlder};
+ghost use Rattle.gb_program.specs.Fourth.{fourth_ctl, fourth_state, fourth_node, fourth_procedure, has_return_word, widened_node_by, widened_procedure_by, AddsExit, AddsState, IsNodeText, IsOlder, IsProcedureText};
 
 use crate::fourth_told::{Text, flag, push, push_told, word};
 use arrayvec::ArrayVec;
@@ -129,7 +129,7 @@ fn push_cells(state: &StateRef<'_>, out: &mut Text)
 fn push_state(state: &StateRef<'_>, is_entered: bool, out: &mut Text)
     requires older { IsOlder is_entered state.now }
     requires room { array_vec_len out.old ≤ 44 }
-    ensures { out.new.items ≡ out.old.items ++ whole.state (fourth_state (above_return_word is_entered state.now)) }
+    ensures { AddsState out.old.items out.new.items state.now (fourth_state (above_return_word is_entered state.now)) }
 {
     push(&core_bytes(state), out);
     push_items(state, is_entered, out);
@@ -152,7 +152,7 @@ fn has_return_word(rules: Rules, number: u16) -> bool
 /// A node under a new number of its procedure.
 pub fn node_text(rules: Rules, node: &NodeRef<'_>, number: u16) -> Text
     requires { IsOlder (has_return_word rules node.now.procedure) node.now.state }
-    ensures { result.items ≡ whole.node (fourth_node number (widened_node_by rules node.now)) }
+    ensures { IsNodeText result.items node.now.state (fourth_node number (widened_node_by rules node.now)) }
 {
     let is_entered = has_return_word(rules, node.procedure());
     let mut text = ArrayVec::new();
@@ -208,7 +208,7 @@ fn push_declared(rules: Rules, procedure: &ProcedureRef<'_>, is_main: bool, out:
 fn push_exit(procedure: &ProcedureRef<'_>, out: &mut Text)
     requires older { IfSome procedure.now.exit (IsOlder false) }
     requires room { array_vec_len out.old ≤ 43 }
-    ensures { out.new.items ≡ out.old.items ++ whole.exit (fourth_procedure 0 procedure.now).exit }
+    ensures { AddsExit out.old.items out.new.items procedure.now.exit }
 {
     match procedure.lent_exit() {
         None => push(&[0], out),
@@ -224,7 +224,7 @@ pub fn procedure_text(rules: Rules, procedure: &ProcedureRef<'_>, is_main: bool,
     requires older { IfSome procedure.now.exit (IsOlder false) }
     requires kept { procedure.now.kept ≡ [] }
     requires mark { procedure.now.mark ≡ 0 }
-    ensures { result.items ≡ whole.procedure (fourth_procedure entry (widened_procedure_by rules is_main procedure.now)) }
+    ensures { IsProcedureText result.items procedure.now.exit (fourth_procedure entry (widened_procedure_by rules is_main procedure.now)) }
 {
     let mut text = ArrayVec::new();
     push(&quad(entry), &mut text);

@@ -109,10 +109,10 @@ fn push_bits(bits: Option<u8>, out: &mut Text)
 }
 
 /// Adds the places that hold one byte.
-#[tactic(auto, unfolding(crate::specs::Opened::places))]
+#[tactic(auto, unfolding(crate::specs::Opened::places_by))]
 fn push_places(byte: &OneByte, out: &mut Text)
     requires { array_vec_len out.old ≤ 1198 }
-    ensures text { out.new.items ≡ out.old.items ++ told.places byte.now }
+    ensures text { out.new.items ≡ out.old.items ++ told.places_by (told.optional number.word byte.now.address) byte.now }
     ensures room { array_vec_len out.new ≤ array_vec_len out.old + 4 }
 {
     push(&[registers_number(&byte.registers)], out);
@@ -123,7 +123,7 @@ fn push_places(byte: &OneByte, out: &mut Text)
 /// Adds them where there are some.
 fn push_byte(byte: &OneByte, out: &mut Text)
     requires { array_vec_len out.old ≤ 1198 }
-    ensures text { out.new.items ≡ out.old.items ++ told.where_there (has_place byte.now) (told.places byte.now) }
+    ensures text { out.new.items ≡ out.old.items ++ told.where_there (has_place byte.now) (told.places_by (told.optional number.word byte.now.address) byte.now) }
     ensures room { array_vec_len out.new ≤ array_vec_len out.old + 4 }
 {
     if has_place(byte) {

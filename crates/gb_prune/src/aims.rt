@@ -80,6 +80,7 @@ fn meets(site: &NodeSite<'_, '_>, after: &Abs, aim: &Aim) -> bool {
 fn entered_in(site: &NodeSite<'_, '_>, callee: u16, after: &Abs) -> Abs {
     enter(
         &site.program(),
+        site.cert.region(),
         Rules::Extended,
         taken_by(site.cert, callee),
         &kept_of(site.cert, callee),
@@ -127,7 +128,7 @@ impl Asked<'_> {
             })
     }
 
-    /// The cells and items that one instruction may look at: what it loads or pops, and the cell whose byte is known to be a
+    /// The cells and items that one instruction may look at: what it loads or pops, and the one whose byte is known to be a
     /// register's.
     pub(crate) fn at_hand(&self) -> Wanted {
         let mut wanted = Wanted::nothing();
@@ -154,17 +155,22 @@ impl Asked<'_> {
         }
     }
 
-    /// The numbers of the newest two items, and of the one that is loaded: one that no state has where there is none.
-    fn items_at_hand(&self) -> [usize; 3] {
-        let count = self.state.items().len();
-        let loaded = match (self.loaded_from(), self.site.stack.setting.known_base()) {
+    /// The number of the item at an address: one that no state has where there is none.
+    fn item_number(&self, address: Option<u16>) -> usize {
+        match (address, self.site.stack.setting.known_base()) {
             (Some(address), Some(base)) if address < base => usize::from(base - address - 1),
             _ => ITEMS,
-        };
+        }
+    }
+
+    /// The numbers of the newest two items, of the one that is loaded, and of the one among the places of a byte.
+    fn items_at_hand(&self) -> [usize; 4] {
+        let count = self.state.items().len();
         [
             count.checked_sub(1).unwrap_or(ITEMS),
             count.checked_sub(2).unwrap_or(ITEMS),
-            loaded,
+            self.item_number(self.loaded_from()),
+            self.item_number(self.state.relations().byte.address),
         ]
     }
 

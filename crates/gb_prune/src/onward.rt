@@ -119,8 +119,8 @@ impl<'c, 'a> NodeSite<'c, 'a> {
         let program = self.program();
         resume(
             &program,
-            Rules::Extended,
-            self.stack.setting.is_whole,
+            self.stack.setting,
+            self.stack.region,
             taken,
             ranges.as_slice(),
             &kept_of(self.cert, callee),

@@ -238,6 +238,7 @@ fn add_entered(
                 &program,
                 &enter(
                     &program,
+                    cert.region(),
                     Rules::Extended,
                     taken_by(cert, other),
                     &kept_of(cert, other),

@@ -5,3 +5,4 @@ pub mod JoinedLaws
 pub mod FillLaws
 pub mod ReturnedLaws
 pub mod ThroughoutLaws
+pub mod ReachedLaws

@@ -4,5 +4,6 @@ pub mod Facts
 pub mod Fills
 pub mod Covering
 pub mod Throughout
+pub mod Reached
 pub mod Meaning
 pub mod Returned

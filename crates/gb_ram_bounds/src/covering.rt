@@ -2,11 +2,12 @@
 
 ghost use Rattle.std.specs.Prelude.{◌≡◌, true};
 ghost use Rattle.gb_ram_bounds.specs.Covering as Covering;
+ghost use Rattle.gb_ram_bounds.specs.Reached as Reached;
 ghost use Rattle.gb_ram_bounds.specs.Meaning.{IsSoundByte, GivesFacts, GivesFills};
 
 use crate::cells::{cell_at, has_cell};
 use crate::facts::{cut_by_facts, has_address};
-use crate::fills::{cut_by_fills, may_reach};
+use crate::fills::{cut_by_fills, may_reach, reached_stretch};
 use crate::pointers::{Pointers, is_same};
 use crate::throughout::{is_filled_throughout, is_given_throughout};
 use gb_domain::interval::{bounds, lies_in};
@@ -200,7 +201,28 @@ fn is_filled_at(
         )
 }
 
-#[tactic(auto, using(crate::proofs::AddressLaws::each_of_none, crate::proofs::AddressLaws::each_of_failed, crate::proofs::AddressLaws::each_of_next), unfolding(crate::specs::Covering::gives_fill))]
+#[tactic(auto, using(crate::proofs::AddressLaws::each_of_none, crate::proofs::AddressLaws::each_of_failed, crate::proofs::AddressLaws::each_of_next), unfolding(crate::specs::Reached::are_filled))]
+fn are_filled(
+    facts: &[Fact],
+    cells: &[Cell],
+    fills: &[Fill],
+    pointers: &Pointers<Bounds>,
+    kept: &[Cell],
+    fill: &Fill,
+    stretch: Bounds,
+) -> bool
+    ensures { result ≡ Reached.are_filled facts.now cells.now fills.now pointers.now kept.now fill.now stretch }
+{
+    for address in stretch.first..=stretch.last {
+        if !is_filled_at(facts, cells, fills, pointers, kept, fill, address) {
+            return false;
+        }
+    }
+    true
+}
+
+/// Whether a fill holds: only addresses that its pointer may reach are asked, since a stretch may have thousands of others.
+#[tactic(auto, using(crate::proofs::ReachedLaws::gives_fill_reached, crate::proofs::ReachedLaws::gives_fill_unreached))]
 fn gives_fill(
     facts: &[Fact],
     cells: &[Cell],
@@ -211,12 +233,10 @@ fn gives_fill(
 ) -> bool
     ensures { result ≡ Covering.gives_fill facts.now cells.now fills.now pointers.now kept.now fill.now }
 {
-    for address in fill.first..=fill.last {
-        if !is_filled_at(facts, cells, fills, pointers, kept, fill, address) {
-            return false;
-        }
+    match reached_stretch(pointers, fill) {
+        Some(stretch) => are_filled(facts, cells, fills, pointers, kept, fill, stretch),
+        None => true,
     }
-    true
 }
 
 /// Whether a fill holds, as `gives_fill` says. A loop that clears comes round with the fill that it had, so the ends are asked first:

@@ -2,6 +2,7 @@
 
 ghost use Rattle.std.specs.Prelude.{◌≡◌, true, Option, IfSome};
 ghost use Rattle.gb_ram_bounds.specs.Fills as Fills;
+ghost use Rattle.gb_ram_bounds.specs.Reached as Reached;
 ghost use Rattle.gb_ram_bounds.specs.Meaning.{IsSoundByFills, IsSoundStore, IsSoundWrite, IsSoundRise, IsSoundFall};
 
 use crate::addresses::{AddressSet, is_in};
@@ -62,6 +63,48 @@ pub(crate) fn may_reach(end: Option<FillEnd>, pointers: &Pointers<Bounds>, addre
     match end {
         Some(end) => may_be_reached(end, pointers, address),
         None => true,
+    }
+}
+
+/// The part of a stretch that is on an end's side of an edge, a pointer and a distance together.
+#[tactic(auto, unfolding(crate::specs::Reached::stretch_at))]
+fn stretch_at(reach: Reach, edge: u32, fill: &Fill) -> Option<Bounds>
+    ensures { result ≡ Reached.stretch_at reach edge fill.now }
+{
+    let first = u32::from(fill.first) + u32::from(NO_DISTANCE);
+    let last = u32::from(fill.last) + u32::from(NO_DISTANCE);
+    match reach {
+        Reach::Below if edge <= first => None,
+        Reach::Below if edge <= last => Some(Bounds {
+            first: fill.first,
+            last: (edge - 1 - u32::from(NO_DISTANCE)) as u16,
+        }),
+        Reach::Above if last <= edge => None,
+        Reach::Above if first <= edge => Some(Bounds {
+            first: (edge + 1 - u32::from(NO_DISTANCE)) as u16,
+            last: fill.last,
+        }),
+        _ => Some(Bounds {
+            first: fill.first,
+            last: fill.last,
+        }),
+    }
+}
+
+/// The part of a fill's stretch that it may be about: with some value of those that its pointer has. None where it is about no address.
+#[tactic(auto, unfolding(crate::specs::Reached::reached_stretch))]
+pub(crate) fn reached_stretch(pointers: &Pointers<Bounds>, fill: &Fill) -> Option<Bounds>
+    ensures { result ≡ Reached.reached_stretch pointers.now fill.now }
+{
+    match fill.end {
+        Some(end) => {
+            let pointer = farthest(end.reach, pointers.get(end.pointer));
+            stretch_at(end.reach, u32::from(pointer) + u32::from(end.offset), fill)
+        }
+        None => Some(Bounds {
+            first: fill.first,
+            last: fill.last,
+        }),
     }
 }
 

@@ -9,7 +9,7 @@ use Rattle.gb_ops.specs.declared.op.Indirect.{Indirect}
 use Rattle.gb_ops.specs.declared.op.Indirect.TheVariants as indirect
 use Rattle.gb_ops.specs.declared.op.Op.{Op}
 use Rattle.gb_ops.specs.declared.op.Op.TheVariants as op
-use Rattle.gb_ops.specs.declared.machine.Region.{Region}
+use Rattle.gb_domain.specs.declared.places.StackBytes.{StackBytes}
 use Rattle.gb_ops.specs.declared.machine.Read.TheVariants as read
 use Rattle.gb_ops.specs.declared.machine.Write.TheVariants as write
 use Rattle.gb_ops.specs.declared.registers.Registers.{Registers}
@@ -32,21 +32,21 @@ use Rattle.gb_pairs.specs.Sound.{Within}
 use Rattle.gb_pairs.proofs.BoundsLaws.{bounds_of_sound}
 use Rattle.gb_copies.specs.Meaning.{HoldOneByte}
 use Rattle.gb_relations.specs.Written.{counted, written, writes_flags}
-use Rattle.gb_relations.specs.Places.{stored_place, behind_echo, loaded_place}
+use Rattle.gb_relations.specs.Places.{stored_at, behind_echo, loaded_at}
 use Rattle.gb_relations.specs.PointedBits.{HasIf, WritesHas}
 use Rattle.gb_relations.specs.Bytes as bytes
 use Rattle.gb_relations.specs.Transfer.{values_of}
 use Rattle.gb_relations.specs.Sound.{HasBytes, IsKeptBut, Writes, Reads, Begins}
 use Rattle.gb_relations.proofs.MachineLaws.{Overwrites, Overwrites-indirect, with_indirect-flags, operand-byte, incremented-byte, decremented-byte, shift-byte, effect_of-registers, effect_of-flags, effect_of-outside, places-stay}
-use Rattle.gb_relations.proofs.AddressLaws.{IsAt-stored_place, IsAt-loaded_place}
+use Rattle.gb_relations.proofs.AddressLaws.{IsAt-stored_at, IsAt-loaded_at}
 use Rattle.gb_relations.proofs.ByteLaws.{HoldOneByte-elsewhere, HoldOneByte-left, HoldOneByte-registers, HoldOneByte-without_all, HoldOneByte-loaded, HoldOneByte-stored, HoldOneByte-moved, HoldOneByte-computed, HoldOneByte-bit}
 use Rattle.gb_relations.proofs.AluLaws.{HoldOneByte-of_a, HoldOneByte-of_a_with}
 
 -- ---- addresses
 
 pub Holds-begun :
-    {region : Region} {o : Op} {sp : Bounds} {vals : Registers Val} {low : Val} {r : Relations} {p : Processor} {memory : ℕ → ℕ} {l h : ℕ}
-    → Begins region o sp vals low r p memory l h → Holds (values_of vals r.pairs) p.registers
+    {stack : StackBytes} {o : Op} {sp : Bounds} {vals : Registers Val} {low : Val} {r : Relations} {p : Processor} {memory : ℕ → ℕ} {l h : ℕ}
+    → Begins stack o sp vals low r p memory l h → Holds (values_of vals r.pairs) p.registers
 Holds-begun b = record { registers = b.registers; pairs = b.relations.pairs }
 
 pub Within-hl : (v : Values) (p : Processor) → Holds v p.registers → Within (bytes.at_hl v) (hl p)
@@ -72,19 +72,19 @@ Within-high v c m =
 -- ---- loads and stores of A
 
 HoldOneByte-stored_a :
-    (bits : Option LowBits) (region : Region) (addresses : Bounds) (a : ℕ) (b : OneByte) (p : Processor) (memory after : ℕ → ℕ)
-    → HasIf bits a → Within addresses a → AreBytes p.registers → Writes region (write.Byte a p.registers.a) memory after
-    → HoldOneByte b p.registers memory p.flags → HoldOneByte (bytes.stored_a bits region addresses b) p.registers after p.flags
-HoldOneByte-stored_a bits region addresses a b p memory after has in_it small w h =
-    HoldOneByte-stored bits A region addresses a (stored_place region addresses) b p.registers memory after p.flags has (IsAt-stored_place region addresses a in_it.least in_it.most) in_it (small.each A) w.0 w.1 h
+    (bits : Option LowBits) (stack : StackBytes) (addresses : Bounds) (a : ℕ) (b : OneByte) (p : Processor) (memory after : ℕ → ℕ)
+    → HasIf bits a → Within addresses a → AreBytes p.registers → Writes stack (write.Byte a p.registers.a) memory after
+    → HoldOneByte b p.registers memory p.flags → HoldOneByte (bytes.stored_a bits stack addresses b) p.registers after p.flags
+HoldOneByte-stored_a bits stack addresses a b p memory after has in_it small w h =
+    HoldOneByte-stored bits A stack addresses a (stored_at stack addresses) b p.registers memory after p.flags has (IsAt-stored_at stack addresses a in_it.least in_it.most) in_it (small.each A) w.0 w.1 h
 
 HoldOneByte-loaded_a :
-    (region : Region) (addresses : Bounds) (a l : ℕ) (b : OneByte) (p : Processor) (memory after : ℕ → ℕ)
-    → Within addresses a → l < 256 → Reads (read.Byte a) memory l → Writes region write.Nothing memory after
-    → HoldOneByte b p.registers memory p.flags → HoldOneByte (bytes.loaded_a region addresses b) (set A l p.registers) after p.flags
-HoldOneByte-loaded_a region addresses a l b p memory after in_it small reads w h =
+    (stack : StackBytes) (addresses : Bounds) (a l : ℕ) (b : OneByte) (p : Processor) (memory after : ℕ → ℕ)
+    → Within addresses a → l < 256 → Reads (read.Byte a) memory l → Writes stack write.Nothing memory after
+    → HoldOneByte b p.registers memory p.flags → HoldOneByte (bytes.loaded_a stack addresses b) (set A l p.registers) after p.flags
+HoldOneByte-loaded_a stack addresses a l b p memory after in_it small reads w h =
     HoldOneByte-elsewhere _ _ memory after p.flags (λ c e. w c)
-    (HoldOneByte-loaded A region (behind_echo a) l (loaded_place region addresses) b p.registers memory p.flags (IsAt-loaded_place region addresses a in_it.least in_it.most) small reads h)
+    (HoldOneByte-loaded A stack (behind_echo a) l (loaded_at stack addresses) b p.registers memory p.flags (IsAt-loaded_at stack addresses a in_it.least in_it.most) small reads h)
 
 -- HL counts
 HoldOneByte-counted :
@@ -162,61 +162,61 @@ shifted-zero how v c = refl
 
 -- instructions that store nowhere but on the stack
 HoldOneByte-forgotten :
-    (region : Region) (o : Op) (b : OneByte) (p : Processor) (memory after : ℕ → ℕ) (l h : ℕ)
+    (stack : StackBytes) (o : Op) (b : OneByte) (p : Processor) (memory after : ℕ → ℕ) (l h : ℕ)
     → ((a : ℕ) → b.address ≡ Some a → after a ≡ memory a) → HoldOneByte b p.registers memory p.flags
     → HoldOneByte (bytes.without_test_if (writes_flags o) (bytes.without_registers (written o) b)) (effect_of o p l h).processor.registers after (effect_of o p l h).processor.flags
-HoldOneByte-forgotten region o b p memory after l h same m =
+HoldOneByte-forgotten stack o b p memory after l h same m =
     HoldOneByte-left (writes_flags o) (written o) b p.registers (effect_of o p l h).processor.registers after p.flags (effect_of o p l h).processor.flags (effect_of-registers o p l h) (effect_of-flags o p l h)
     (HoldOneByte-elsewhere b p.registers memory after p.flags same m)
 
 pub HoldOneByte-byte_after :
-    (bits : Option LowBits) (region : Region) (o : Op) (sp : Bounds) (vals : Registers Val) (low : Val) (r : Relations) (p : Processor) (memory after : ℕ → ℕ) (l h : ℕ)
-    → WritesHas bits (effect_of o p l h).write → HasBytes o → Begins region o sp vals low r p memory l h → Writes region (effect_of o p l h).write memory after
-    → HoldOneByte (bytes.byte_after bits region o (values_of vals r.pairs) low r.byte) (effect_of o p l h).processor.registers after (effect_of o p l h).processor.flags
+    (bits : Option LowBits) (stack : StackBytes) (o : Op) (sp : Bounds) (vals : Registers Val) (low : Val) (r : Relations) (p : Processor) (memory after : ℕ → ℕ) (l h : ℕ)
+    → WritesHas bits (effect_of o p l h).write → HasBytes o → Begins stack o sp vals low r p memory l h → Writes stack (effect_of o p l h).write memory after
+    → HoldOneByte (bytes.byte_after bits stack o (values_of vals r.pairs) low r.byte) (effect_of o p l h).processor.registers after (effect_of o p l h).processor.flags
 unfolding bytes.byte_after effect_of read_of store_operand update_a
-HoldOneByte-byte_after bits region (op.StoreA to) sp vals low r p memory after l h at has b w =
+HoldOneByte-byte_after bits stack (op.StoreA to) sp vals low r p memory after l h at has b w =
     HoldOneByte-counted to _ p after
-    (HoldOneByte-stored_a bits region (bytes.at_indirect to (values_of vals r.pairs)) (indirect_address p to) r.byte p memory after at (Within-indirect to _ p (Holds-begun b)) b.bytes w b.relations.byte)
-HoldOneByte-byte_after bits region (op.LoadA from) sp vals low r p memory after l h at has b w =
+    (HoldOneByte-stored_a bits stack (bytes.at_indirect to (values_of vals r.pairs)) (indirect_address p to) r.byte p memory after at (Within-indirect to _ p (Holds-begun b)) b.bytes w b.relations.byte)
+HoldOneByte-byte_after bits stack (op.LoadA from) sp vals low r p memory after l h at has b w =
     HoldOneByte-counted_beside_a from l _ p after
-    (HoldOneByte-loaded_a region (bytes.at_indirect from (values_of vals r.pairs)) (indirect_address p from) l r.byte p memory after (Within-indirect from _ p (Holds-begun b)) b.low_small b.reads w b.relations.byte)
-HoldOneByte-byte_after bits region (op.Increment which) sp vals low r p memory after l h at has b w =
-    HoldOneByte-computed bits region which (values_of vals r.pairs) r.byte p (incremented (operand_value p which l) p.flags) memory after at (Within-hl _ p (Holds-begun b)) (incremented-byte _ _) (incremented-zero _ _) w b.relations.byte
-HoldOneByte-byte_after bits region (op.Decrement which) sp vals low r p memory after l h at has b w =
-    HoldOneByte-computed bits region which (values_of vals r.pairs) r.byte p (decremented (operand_value p which l) p.flags) memory after at (Within-hl _ p (Holds-begun b)) (decremented-byte _ _) (decremented-zero _ _) w b.relations.byte
-HoldOneByte-byte_after bits region (op.LoadImmediate operand.AtHl n) sp vals low r p memory after l h at has b w =
+    (HoldOneByte-loaded_a stack (bytes.at_indirect from (values_of vals r.pairs)) (indirect_address p from) l r.byte p memory after (Within-indirect from _ p (Holds-begun b)) b.low_small b.reads w b.relations.byte)
+HoldOneByte-byte_after bits stack (op.Increment which) sp vals low r p memory after l h at has b w =
+    HoldOneByte-computed bits stack which (values_of vals r.pairs) r.byte p (incremented (operand_value p which l) p.flags) memory after at (Within-hl _ p (Holds-begun b)) (incremented-byte _ _) (incremented-zero _ _) w b.relations.byte
+HoldOneByte-byte_after bits stack (op.Decrement which) sp vals low r p memory after l h at has b w =
+    HoldOneByte-computed bits stack which (values_of vals r.pairs) r.byte p (decremented (operand_value p which l) p.flags) memory after at (Within-hl _ p (Holds-begun b)) (decremented-byte _ _) (decremented-zero _ _) w b.relations.byte
+HoldOneByte-byte_after bits stack (op.LoadImmediate operand.AtHl n) sp vals low r p memory after l h at has b w =
     HoldOneByte-without_all bits (bytes.at_hl (values_of vals r.pairs)) (hl p) r.byte p.registers memory after p.flags at (Within-hl _ p (Holds-begun b)) w.1 b.relations.byte
-HoldOneByte-byte_after bits region (op.StoreSp n) sp vals low r p memory after l h at has b w =
+HoldOneByte-byte_after bits stack (op.StoreSp n) sp vals low r p memory after l h at has b w =
     HoldOneByte-word n r.byte p.registers memory after p.flags w b.relations.byte
-HoldOneByte-byte_after bits region (op.Load to from) sp vals low r p memory after l h at has b w =
-    HoldOneByte-moved bits region to from (values_of vals r.pairs) r.byte p memory after l at (Within-hl _ p (Holds-begun b)) b.bytes b.low_small b.reads w b.relations.byte
-HoldOneByte-byte_after bits region (op.Alu how from) sp vals low r p memory after l h at has b w =
+HoldOneByte-byte_after bits stack (op.Load to from) sp vals low r p memory after l h at has b w =
+    HoldOneByte-moved bits stack to from (values_of vals r.pairs) r.byte p memory after l at (Within-hl _ p (Holds-begun b)) b.bytes b.low_small b.reads w b.relations.byte
+HoldOneByte-byte_after bits stack (op.Alu how from) sp vals low r p memory after l h at has b w =
     HoldOneByte-elsewhere _ _ memory after _ (λ a e. w a)
     (HoldOneByte-of_a_with how from (values_of vals r.pairs) low l r.byte p memory b.registers b.low_read b.low_small b.bytes b.relations.byte)
-HoldOneByte-byte_after bits region (op.AluImmediate how n) sp vals low r p memory after l h at has b w =
+HoldOneByte-byte_after bits stack (op.AluImmediate how n) sp vals low r p memory after l h at has b w =
     HoldOneByte-elsewhere _ _ memory after _ (λ a e. w a)
     (HoldOneByte-of_a how (Some n) n r.byte p.registers memory p.flags refl has b.bytes b.relations.byte)
-HoldOneByte-byte_after bits region (op.StoreHigh n) sp vals low r p memory after l h at has b w =
-    HoldOneByte-stored_a None region (bytes.one (0xFF00 + n)) (0xFF00 + n) r.byte p memory after tt (Within-one _) b.bytes w b.relations.byte
-HoldOneByte-byte_after bits region (op.LoadHigh n) sp vals low r p memory after l h at has b w =
-    HoldOneByte-loaded_a region (bytes.one (0xFF00 + n)) (0xFF00 + n) l r.byte p memory after (Within-one _) b.low_small b.reads w b.relations.byte
-HoldOneByte-byte_after bits region op.StoreHighC sp vals low r p memory after l h at has b w =
-    HoldOneByte-stored_a bits region (bytes.at_high (values_of vals r.pairs)) (0xFF00 + p.registers.c) r.byte p memory after at (Within-high (values_of vals r.pairs) p.registers.c (b.registers C)) b.bytes w b.relations.byte
-HoldOneByte-byte_after bits region op.LoadHighC sp vals low r p memory after l h at has b w =
-    HoldOneByte-loaded_a region (bytes.at_high (values_of vals r.pairs)) (0xFF00 + p.registers.c) l r.byte p memory after (Within-high (values_of vals r.pairs) p.registers.c (b.registers C)) b.low_small b.reads w b.relations.byte
-HoldOneByte-byte_after bits region (op.StoreAbsolute n) sp vals low r p memory after l h at has b w =
-    HoldOneByte-stored_a None region (bytes.one n) n r.byte p memory after tt (Within-one n) b.bytes w b.relations.byte
-HoldOneByte-byte_after bits region (op.LoadAbsolute n) sp vals low r p memory after l h at has b w =
-    HoldOneByte-loaded_a region (bytes.one n) n l r.byte p memory after (Within-one n) b.low_small b.reads w b.relations.byte
-HoldOneByte-byte_after bits region (op.Shift how which) sp vals low r p memory after l h at has b w =
-    HoldOneByte-computed bits region which (values_of vals r.pairs) r.byte p (shifted how (operand_value p which l) p.flags.carry) memory after at (Within-hl _ p (Holds-begun b)) (shift-byte how _ _ (operand-byte which p l b.low_small b.bytes)) (shifted-zero how _ _) w b.relations.byte
-HoldOneByte-byte_after bits region (op.Bit n which) sp vals low r p memory after l h at has b w =
+HoldOneByte-byte_after bits stack (op.StoreHigh n) sp vals low r p memory after l h at has b w =
+    HoldOneByte-stored_a None stack (bytes.one (0xFF00 + n)) (0xFF00 + n) r.byte p memory after tt (Within-one _) b.bytes w b.relations.byte
+HoldOneByte-byte_after bits stack (op.LoadHigh n) sp vals low r p memory after l h at has b w =
+    HoldOneByte-loaded_a stack (bytes.one (0xFF00 + n)) (0xFF00 + n) l r.byte p memory after (Within-one _) b.low_small b.reads w b.relations.byte
+HoldOneByte-byte_after bits stack op.StoreHighC sp vals low r p memory after l h at has b w =
+    HoldOneByte-stored_a bits stack (bytes.at_high (values_of vals r.pairs)) (0xFF00 + p.registers.c) r.byte p memory after at (Within-high (values_of vals r.pairs) p.registers.c (b.registers C)) b.bytes w b.relations.byte
+HoldOneByte-byte_after bits stack op.LoadHighC sp vals low r p memory after l h at has b w =
+    HoldOneByte-loaded_a stack (bytes.at_high (values_of vals r.pairs)) (0xFF00 + p.registers.c) l r.byte p memory after (Within-high (values_of vals r.pairs) p.registers.c (b.registers C)) b.low_small b.reads w b.relations.byte
+HoldOneByte-byte_after bits stack (op.StoreAbsolute n) sp vals low r p memory after l h at has b w =
+    HoldOneByte-stored_a None stack (bytes.one n) n r.byte p memory after tt (Within-one n) b.bytes w b.relations.byte
+HoldOneByte-byte_after bits stack (op.LoadAbsolute n) sp vals low r p memory after l h at has b w =
+    HoldOneByte-loaded_a stack (bytes.one n) n l r.byte p memory after (Within-one n) b.low_small b.reads w b.relations.byte
+HoldOneByte-byte_after bits stack (op.Shift how which) sp vals low r p memory after l h at has b w =
+    HoldOneByte-computed bits stack which (values_of vals r.pairs) r.byte p (shifted how (operand_value p which l) p.flags.carry) memory after at (Within-hl _ p (Holds-begun b)) (shift-byte how _ _ (operand-byte which p l b.low_small b.bytes)) (shifted-zero how _ _) w b.relations.byte
+HoldOneByte-byte_after bits stack (op.Bit n which) sp vals low r p memory after l h at has b w =
     HoldOneByte-elsewhere _ _ memory after _ (λ a e. w a)
-    (HoldOneByte-bit region n which (values_of vals r.pairs) r.byte p memory l (Within-hl _ p (Holds-begun b)) b.bytes b.low_small b.reads b.relations.byte)
-HoldOneByte-byte_after bits region (op.Reset n operand.AtHl) sp vals low r p memory after l h at has b w =
+    (HoldOneByte-bit stack n which (values_of vals r.pairs) r.byte p memory l (Within-hl _ p (Holds-begun b)) b.bytes b.low_small b.reads b.relations.byte)
+HoldOneByte-byte_after bits stack (op.Reset n operand.AtHl) sp vals low r p memory after l h at has b w =
     HoldOneByte-without_all bits (bytes.at_hl (values_of vals r.pairs)) (hl p) r.byte p.registers memory after p.flags at (Within-hl _ p (Holds-begun b)) w.1 b.relations.byte
-HoldOneByte-byte_after bits region (op.Set n operand.AtHl) sp vals low r p memory after l h at has b w =
+HoldOneByte-byte_after bits stack (op.Set n operand.AtHl) sp vals low r p memory after l h at has b w =
     HoldOneByte-without_all bits (bytes.at_hl (values_of vals r.pairs)) (hl p) r.byte p.registers memory after p.flags at (Within-hl _ p (Holds-begun b)) w.1 b.relations.byte
-HoldOneByte-byte_after bits region o sp vals low r p memory after l h at has b w =
-    HoldOneByte-forgotten region o r.byte p memory after l h
-    (places-stay region (effect_of o p l h).write r.byte.address memory after (effect_of-outside o p l h refl) w b.free) b.relations.byte
+HoldOneByte-byte_after bits stack o sp vals low r p memory after l h at has b w =
+    HoldOneByte-forgotten stack o r.byte p memory after l h
+    (places-stay stack (effect_of o p l h).write r.byte.address memory after (effect_of-outside o p l h refl) w b.placed) b.relations.byte

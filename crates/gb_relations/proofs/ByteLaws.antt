@@ -4,7 +4,7 @@ use Rattle.gb_ops.specs.declared.op.Register.{Register}
 use Rattle.gb_ops.specs.declared.op.Operand.{Operand}
 use Rattle.gb_ops.specs.declared.op.Operand.TheVariants as operand
 use Rattle.gb_ops.specs.declared.machine.Computed.{Computed}
-use Rattle.gb_ops.specs.declared.machine.Region.{Region}
+use Rattle.gb_domain.specs.declared.places.StackBytes.{StackBytes}
 use Rattle.gb_ops.specs.declared.registers.Registers.{Registers}
 use Rattle.gb_ops.specs.declared.registers.Flags.{Flags}
 use Rattle.gb_ops.specs.declared.registers.Processor.{Processor}
@@ -25,14 +25,15 @@ use Rattle.gb_copies.specs.Meaning.{HoldOneByte, held_at}
 use Rattle.gb_copies.specs.Places.{without_addresses, only_tested, tested}
 use Rattle.gb_copies.proofs.PlaceLaws.{without_register_sound, without_addresses_sound, without_test_sound, only_tested_sound, tested_sound}
 use Rattle.gb_copies.proofs.CopyLaws.{copied_sound_register, copied_sound_address}
-use Rattle.gb_relations.specs.Places.{is_ram, stored_place, behind_echo, loaded_place}
+use Rattle.gb_domain.specs.Areas.{is_place_at}
+use Rattle.gb_relations.specs.Places.{is_ram, stored_at, behind_echo, loaded_at}
 use Rattle.gb_relations.specs.PointedBits.{HasIf, WritesHas}
 use Rattle.gb_relations.specs.Bytes as bytes
 use Rattle.gb_relations.specs.Sound.{IsKeptBut, Writes, Reads}
 use Rattle.gb_relations.proofs.ResultLaws.{IsTested-zero}
 use Rattle.gb_relations.proofs.MachineLaws.{Overwrites, overwritten}
 use Rattle.gb_relations.proofs.PointedBitsLaws.{not_both, elsewhere}
-use Rattle.gb_relations.proofs.AddressLaws.{IsAt, free-ram, IsAt-stored_place, IsAt-loaded_place}
+use Rattle.gb_relations.proofs.AddressLaws.{IsAt, placed-ram, IsAt-stored_at, IsAt-loaded_at}
 
 -- ---- forgetting
 
@@ -98,45 +99,45 @@ HoldOneByte-without_all bits addresses a b x memory after f has in_it kept h = c
 
 -- a register gets what was read, at the place if that is known
 pub HoldOneByte-loaded :
-    (to : Register) (region : Region) (a n : ℕ) (from : Option Place) (b : OneByte) (x : Registers ℕ) (memory : ℕ → ℕ) (f : Flags)
-    → IsAt region a from → n < 256 → (is_ram a ≡ true → memory a ≡ n) → HoldOneByte b x memory f
+    (to : Register) (stack : StackBytes) (a n : ℕ) (from : Option Place) (b : OneByte) (x : Registers ℕ) (memory : ℕ → ℕ) (f : Flags)
+    → IsAt (is_place_at stack) a from → n < 256 → (is_ram a ≡ true → memory a ≡ n) → HoldOneByte b x memory f
     → HoldOneByte (bytes.loaded to from b) (set to n x) memory f
-HoldOneByte-loaded to region a n None b x memory f at small reads h = (without_register_sound to b _ refl).gives x memory f n h
-HoldOneByte-loaded to region a n (Some p) b x memory f at small reads h =
-    let e : memory a ≡ n = reads (free-ram region a at.1) in
+HoldOneByte-loaded to stack a n None b x memory f at small reads h = (without_register_sound to b _ refl).gives x memory f n h
+HoldOneByte-loaded to stack a n (Some p) b x memory f at small reads h =
+    let e : memory a ≡ n = reads (placed-ram stack a at.1) in
     subst (λ m. HoldOneByte (bytes.loaded to (Some p) b) (set to m x) memory f) e
     (subst (λ q. HoldOneByte (bytes.loaded to (Some q) b) (set to (memory a) x) memory f) (sym at.0)
     ((copied_sound_register to (place.Register to) (place.Address a) b _ refl refl).gives x memory f (omega arith) h))
 
 -- a register is stored
 pub HoldOneByte-stored :
-    (bits : Option LowBits) (from : Register) (region : Region) (addresses : Bounds) (a : ℕ) (to : Option Place) (b : OneByte) (x : Registers ℕ) (memory after : ℕ → ℕ) (f : Flags)
-    → HasIf bits a → IsAt region a to → Within addresses a → get from x < 256
+    (bits : Option LowBits) (from : Register) (stack : StackBytes) (addresses : Bounds) (a : ℕ) (to : Option Place) (b : OneByte) (x : Registers ℕ) (memory after : ℕ → ℕ) (f : Flags)
+    → HasIf bits a → IsAt (is_place_at stack) a to → Within addresses a → get from x < 256
     → (is_ram a ≡ true → after a ≡ get from x) → IsKeptBut a memory after → HoldOneByte b x memory f
     → HoldOneByte (bytes.stored bits from addresses to b) x after f
-HoldOneByte-stored bits from region addresses a None b x memory after f has at in_it small writes kept h =
+HoldOneByte-stored bits from stack addresses a None b x memory after f has at in_it small writes kept h =
     HoldOneByte-without_all bits addresses a b x memory after f has in_it kept h
-HoldOneByte-stored bits from region addresses a (Some p) b x memory after f has at in_it small writes kept h =
+HoldOneByte-stored bits from stack addresses a (Some p) b x memory after f has at in_it small writes kept h =
     subst (λ q. HoldOneByte (bytes.stored bits from addresses (Some q) b) x after f) (sym at.0)
-    ((copied_sound_address a from (place.Address a) (place.Register from) b _ refl refl refl).gives x memory after f small (writes (free-ram region a at.1)) kept h)
+    ((copied_sound_address a from (place.Address a) (place.Register from) b _ refl refl refl).gives x memory after f small (writes (placed-ram stack a at.1)) kept h)
 
 -- LD of a byte
 pub HoldOneByte-moved :
-    (bits : Option LowBits) (region : Region) (to from : Operand) (v : Values) (b : OneByte) (p : Processor) (memory after : ℕ → ℕ) (l : ℕ)
+    (bits : Option LowBits) (stack : StackBytes) (to from : Operand) (v : Values) (b : OneByte) (p : Processor) (memory after : ℕ → ℕ) (l : ℕ)
     → WritesHas bits (store_operand p to (operand_value p from l)).write → Within (bytes.at_hl v) (hl p) → AreBytes p.registers → l < 256
-    → Reads (operand_read p from) memory l → Writes region (store_operand p to (operand_value p from l)).write memory after
+    → Reads (operand_read p from) memory l → Writes stack (store_operand p to (operand_value p from l)).write memory after
     → HoldOneByte b p.registers memory p.flags
-    → HoldOneByte (bytes.moved bits region to from v b) (store_operand p to (operand_value p from l)).processor.registers after (store_operand p to (operand_value p from l)).processor.flags
+    → HoldOneByte (bytes.moved bits stack to from v b) (store_operand p to (operand_value p from l)).processor.registers after (store_operand p to (operand_value p from l)).processor.flags
 unfolding store_operand operand_value operand_read
-HoldOneByte-moved bits region (operand.Register to) (operand.Register from) v b p memory after l has in_it small byte reads w h =
+HoldOneByte-moved bits stack (operand.Register to) (operand.Register from) v b p memory after l has in_it small byte reads w h =
     HoldOneByte-elsewhere _ _ memory after p.flags (λ a e. w a)
     ((copied_sound_register to (place.Register to) (place.Register from) b _ refl refl).gives p.registers memory p.flags (small.each from) h)
-HoldOneByte-moved bits region (operand.Register to) operand.AtHl v b p memory after l has in_it small byte reads w h =
+HoldOneByte-moved bits stack (operand.Register to) operand.AtHl v b p memory after l has in_it small byte reads w h =
     HoldOneByte-elsewhere _ _ memory after p.flags (λ a e. w a)
-    (HoldOneByte-loaded to region (behind_echo (hl p)) l (loaded_place region (bytes.at_hl v)) b p.registers memory p.flags (IsAt-loaded_place region (bytes.at_hl v) (hl p) in_it.least in_it.most) byte reads h)
-HoldOneByte-moved bits region operand.AtHl (operand.Register from) v b p memory after l has in_it small byte reads w h =
-    HoldOneByte-stored bits from region (bytes.at_hl v) (hl p) (stored_place region (bytes.at_hl v)) b p.registers memory after p.flags has (IsAt-stored_place region (bytes.at_hl v) (hl p) in_it.least in_it.most) in_it (small.each from) w.0 w.1 h
-HoldOneByte-moved bits region operand.AtHl operand.AtHl v b p memory after l has in_it small byte reads w h =
+    (HoldOneByte-loaded to stack (behind_echo (hl p)) l (loaded_at stack (bytes.at_hl v)) b p.registers memory p.flags (IsAt-loaded_at stack (bytes.at_hl v) (hl p) in_it.least in_it.most) byte reads h)
+HoldOneByte-moved bits stack operand.AtHl (operand.Register from) v b p memory after l has in_it small byte reads w h =
+    HoldOneByte-stored bits from stack (bytes.at_hl v) (hl p) (stored_at stack (bytes.at_hl v)) b p.registers memory after p.flags has (IsAt-stored_at stack (bytes.at_hl v) (hl p) in_it.least in_it.most) in_it (small.each from) w.0 w.1 h
+HoldOneByte-moved bits stack operand.AtHl operand.AtHl v b p memory after l has in_it small byte reads w h =
     HoldOneByte-without_all bits (bytes.at_hl v) (hl p) b p.registers memory after p.flags has in_it w.1 h
 
 -- ---- tests
@@ -157,38 +158,38 @@ HoldOneByte-zero_register r n x memory f small e =
     (subst (λ m. f.zero ≡ (m == 0)) (sym is) e)
 
 HoldOneByte-computed_at :
-    (bits : Option LowBits) (region : Region) (addresses : Bounds) (a n : ℕ) (to : Option Place) (b : OneByte) (x : Registers ℕ) (memory after : ℕ → ℕ) (f g : Flags)
-    → HasIf bits a → IsAt region a to → Within addresses a → n < 256 → g.zero ≡ (n == 0)
+    (bits : Option LowBits) (stack : StackBytes) (addresses : Bounds) (a n : ℕ) (to : Option Place) (b : OneByte) (x : Registers ℕ) (memory after : ℕ → ℕ) (f g : Flags)
+    → HasIf bits a → IsAt (is_place_at stack) a to → Within addresses a → n < 256 → g.zero ≡ (n == 0)
     → (is_ram a ≡ true → after a ≡ n) → IsKeptBut a memory after → HoldOneByte b x memory f
     → HoldOneByte (bytes.computed_at bits to addresses b) x after g
-HoldOneByte-computed_at bits region addresses a n None b x memory after f g has at in_it small e writes kept h =
+HoldOneByte-computed_at bits stack addresses a n None b x memory after f g has at in_it small e writes kept h =
     (without_test_sound (bytes.without_all bits addresses b) _ refl).gives x after f g (HoldOneByte-without_all bits addresses a b x memory after f has in_it kept h)
-HoldOneByte-computed_at bits region addresses a n (Some p) b x memory after f g has at in_it small e writes kept h =
-    let is : after a ≡ n = writes (free-ram region a at.1) in
+HoldOneByte-computed_at bits stack addresses a n (Some p) b x memory after f g has at in_it small e writes kept h =
+    let is : after a ≡ n = writes (placed-ram stack a at.1) in
     subst (λ q. HoldOneByte (only_tested q bytes.is_zero_test) x after g) (sym at.0)
     (HoldOneByte-zero (place.Address a) x after g (subst (λ m. m < 256) (sym is) small) (subst (λ m. g.zero ≡ (m == 0)) (sym is) e))
 
 -- an operand becomes what is computed, and Z says whether that is 0
 pub HoldOneByte-computed :
-    (bits : Option LowBits) (region : Region) (which : Operand) (v : Values) (b : OneByte) (p : Processor) (c : Computed) (memory after : ℕ → ℕ)
+    (bits : Option LowBits) (stack : StackBytes) (which : Operand) (v : Values) (b : OneByte) (p : Processor) (c : Computed) (memory after : ℕ → ℕ)
     → WritesHas bits (update_operand p which c).write → Within (bytes.at_hl v) (hl p) → c.value < 256 → c.flags.zero ≡ (c.value == 0)
-    → Writes region (update_operand p which c).write memory after
+    → Writes stack (update_operand p which c).write memory after
     → HoldOneByte b p.registers memory p.flags
-    → HoldOneByte (bytes.computed bits region which v b) (update_operand p which c).processor.registers after (update_operand p which c).processor.flags
+    → HoldOneByte (bytes.computed bits stack which v b) (update_operand p which c).processor.registers after (update_operand p which c).processor.flags
 unfolding update_operand store_operand pair_value
-HoldOneByte-computed bits region (operand.Register r) v b p c memory after has in_it small e w h =
+HoldOneByte-computed bits stack (operand.Register r) v b p c memory after has in_it small e w h =
     HoldOneByte-zero_register r c.value p.registers after c.flags small e
-HoldOneByte-computed bits region operand.AtHl v b p c memory after has in_it small e w h =
-    HoldOneByte-computed_at bits region (bytes.at_hl v) (hl p) c.value (stored_place region (bytes.at_hl v)) b p.registers memory after p.flags c.flags has (IsAt-stored_place region (bytes.at_hl v) (hl p) in_it.least in_it.most) in_it small e w.0 w.1 h
+HoldOneByte-computed bits stack operand.AtHl v b p c memory after has in_it small e w h =
+    HoldOneByte-computed_at bits stack (bytes.at_hl v) (hl p) c.value (stored_at stack (bytes.at_hl v)) b p.registers memory after p.flags c.flags has (IsAt-stored_at stack (bytes.at_hl v) (hl p) in_it.least in_it.most) in_it small e w.0 w.1 h
 
 HoldOneByte-bit_at :
-    (region : Region) (a l n : ℕ) (from : Option Place) (b : OneByte) (x : Registers ℕ) (memory : ℕ → ℕ) (f : Flags)
-    → IsAt region a from → l < 256 → (is_ram a ≡ true → memory a ≡ l) → HoldOneByte b x memory f
+    (stack : StackBytes) (a l n : ℕ) (from : Option Place) (b : OneByte) (x : Registers ℕ) (memory : ℕ → ℕ) (f : Flags)
+    → IsAt (is_place_at stack) a from → l < 256 → (is_ram a ≡ true → memory a ≡ l) → HoldOneByte b x memory f
     → HoldOneByte (bytes.bit_tested_at from n b) x memory (bit_tested n l f)
 unfolding bit_tested
-HoldOneByte-bit_at region a l n None b x memory f at small reads h = (without_test_sound b _ refl).gives x memory f _ h
-HoldOneByte-bit_at region a l n (Some p) b x memory f at small reads h =
-    let e : memory a ≡ l = reads (free-ram region a at.1) in
+HoldOneByte-bit_at stack a l n None b x memory f at small reads h = (without_test_sound b _ refl).gives x memory f _ h
+HoldOneByte-bit_at stack a l n (Some p) b x memory f at small reads h =
+    let e : memory a ≡ l = reads (placed-ram stack a at.1) in
     subst (λ m. HoldOneByte (bytes.bit_tested_at (Some p) n b) x memory (bit_tested n m f)) e
     (subst (λ q. HoldOneByte (bytes.bit_tested_at (Some q) n b) x memory (bit_tested n (memory a) f)) (sym at.0)
     ((tested_sound (place.Address a) (bytes.bit_of n) b _ refl).gives x memory f (bit_tested n (memory a) f) (omega arith) refl h))
@@ -202,12 +203,12 @@ HoldOneByte-bit_of r n b x memory f small h = (tested_sound (place.Register r) (
 
 -- BIT
 pub HoldOneByte-bit :
-    (region : Region) (n : ℕ) (which : Operand) (v : Values) (b : OneByte) (p : Processor) (memory : ℕ → ℕ) (l : ℕ)
+    (stack : StackBytes) (n : ℕ) (which : Operand) (v : Values) (b : OneByte) (p : Processor) (memory : ℕ → ℕ) (l : ℕ)
     → Within (bytes.at_hl v) (hl p) → AreBytes p.registers → l < 256 → Reads (operand_read p which) memory l
     → HoldOneByte b p.registers memory p.flags
-    → HoldOneByte (bytes.bit_tested region n which v b) p.registers memory (bit_tested n (operand_value p which l) p.flags)
+    → HoldOneByte (bytes.bit_tested stack n which v b) p.registers memory (bit_tested n (operand_value p which l) p.flags)
 unfolding operand_value operand_read
-HoldOneByte-bit region n (operand.Register r) v b p memory l in_it small byte reads h =
+HoldOneByte-bit stack n (operand.Register r) v b p memory l in_it small byte reads h =
     HoldOneByte-bit_of r n b p.registers memory p.flags (small.each r) h
-HoldOneByte-bit region n operand.AtHl v b p memory l in_it small byte reads h =
-    HoldOneByte-bit_at region (behind_echo (hl p)) l n (loaded_place region (bytes.at_hl v)) b p.registers memory p.flags (IsAt-loaded_place region (bytes.at_hl v) (hl p) in_it.least in_it.most) byte reads h
+HoldOneByte-bit stack n operand.AtHl v b p memory l in_it small byte reads h =
+    HoldOneByte-bit_at stack (behind_echo (hl p)) l n (loaded_at stack (bytes.at_hl v)) b p.registers memory p.flags (IsAt-loaded_at stack (bytes.at_hl v) (hl p) in_it.least in_it.most) byte reads h

@@ -9,7 +9,7 @@ use Rattle.gb_ops.specs.declared.op.AluOp.TheVariants as alu
 use Rattle.gb_ops.specs.declared.op.Operand.TheVariants as operand
 use Rattle.gb_ops.specs.declared.op.Op.{Op}
 use Rattle.gb_ops.specs.declared.op.Op.TheVariants as op
-use Rattle.gb_ops.specs.declared.machine.Region.{Region}
+use Rattle.gb_domain.specs.declared.places.StackBytes.{StackBytes}
 use Rattle.gb_ops.specs.declared.registers.Registers.{Registers}
 use Rattle.gb_ops.specs.declared.registers.Flags.{Flags}
 use Rattle.gb_ops.specs.declared.registers.Processor.{Processor}
@@ -27,7 +27,7 @@ use Rattle.gb_copies.specs.Places.{byte_at, with_place}
 use Rattle.gb_copies.proofs.PlaceLaws.{only_tested_sound}
 use Rattle.gb_relations.specs.Written.{written, writes_flags}
 use Rattle.gb_relations.specs.Compared.{comparison_of, writes_a, only_of_a, compared_by, compared_after}
-use Rattle.gb_relations.specs.Sound.{HasBytes, IsByteFree}
+use Rattle.gb_relations.specs.Sound.{HasBytes, IsBytePlaced}
 use Rattle.gb_relations.proofs.ResultLaws.{compared-zero, compared-carry, below_zero}
 use Rattle.gb_relations.proofs.MachineLaws.{overwritten, not_so, effect_of-registers, effect_of-flags}
 
@@ -125,23 +125,23 @@ HoldOneByte-compared_after (op.Alu alu.Or (operand.Register A)) b p memory after
 HoldOneByte-compared_after o b p memory after l h has bytes holds = stays o b p memory after l h holds
 
 -- A has no address
-only_of_a-free : (region : Region) (b : OneByte) → IsByteFree region (only_of_a b).address
+only_of_a-placed : (stack : StackBytes) (b : OneByte) → IsBytePlaced stack (only_of_a b).address
 unfolding only_of_a with_place
-only_of_a-free region b = by b.registers.a
+only_of_a-placed stack b = by b.registers.a
   where
-    by : (is : Bool) → IsByteFree region (cond is (record (byte_at (place.Register A)) { test = b.test }) no_byte).address
+    by : (is : Bool) → IsBytePlaced stack (cond is (record (byte_at (place.Register A)) { test = b.test }) no_byte).address
     by true = tt
     by false = tt
 
-compared_by-free : (region : Region) (k : Option ℕ) (o : Op) (b : OneByte) → IsByteFree region (compared_by k o b).address
+compared_by-placed : (stack : StackBytes) (k : Option ℕ) (o : Op) (b : OneByte) → IsBytePlaced stack (compared_by k o b).address
 unfolding with_place
-compared_by-free region (Some n) o b = tt
-compared_by-free region None o b = by (writes_flags o || writes_a o)
+compared_by-placed stack (Some n) o b = tt
+compared_by-placed stack None o b = by (writes_flags o || writes_a o)
   where
-    by : (c : Bool) → IsByteFree region (cond c no_byte (only_of_a b)).address
+    by : (c : Bool) → IsBytePlaced stack (cond c no_byte (only_of_a b)).address
     by true = tt
-    by false = only_of_a-free region b
+    by false = only_of_a-placed stack b
 
-pub compared_after-free : (region : Region) (o : Op) (b : OneByte) → IsByteFree region (compared_after o b).address
+pub compared_after-placed : (stack : StackBytes) (o : Op) (b : OneByte) → IsBytePlaced stack (compared_after o b).address
 unfolding compared_after
-compared_after-free region o b = compared_by-free region (comparison_of o) o b
+compared_after-placed stack o b = compared_by-placed stack (comparison_of o) o b

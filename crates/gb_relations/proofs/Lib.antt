@@ -1,4 +1,5 @@
 pub mod ResultLaws
+pub mod ItemLaws
 pub mod MachineLaws
 pub mod AddressLaws
 pub mod PointedBitsLaws
@@ -6,7 +7,7 @@ pub mod ByteLaws
 pub mod AluLaws
 pub mod ByteAfterLaws
 pub mod ComparedLaws
-pub mod FreeLaws
+pub mod PlacedLaws
 pub mod ZeroLaws
 pub mod PairLaws
 pub mod PairCopyLaws

@@ -19,7 +19,7 @@ use Rattle.gb_ops.specs.declared.op.Op.{Op}
 use Rattle.gb_ops.specs.declared.op.Op.TheVariants as op
 use Rattle.gb_ops.specs.declared.machine.Computed.{Computed}
 use Rattle.gb_ops.specs.declared.machine.Effect.{Effect}
-use Rattle.gb_ops.specs.declared.machine.Region.{Region}
+use Rattle.gb_domain.specs.declared.places.StackBytes.{StackBytes}
 use Rattle.gb_ops.specs.declared.machine.Write.{Write}
 use Rattle.gb_ops.specs.declared.machine.Write.TheVariants as write
 use Rattle.gb_ops.specs.declared.registers.Registers.{Registers}
@@ -30,14 +30,12 @@ use Rattle.gb_ops.specs.Flags.{is_met}
 use Rattle.gb_ops.specs.Pairs.{pair_value, with_pair, with_stack_pair}
 use Rattle.gb_ops.specs.Arithmetic.{alu_result, incremented, decremented, shifted, displaced}
 use Rattle.gb_ops.specs.Effects.{hl, with_indirect, operand_value, store_operand, update_operand, update_a, jump, push, call, return_to, only_if, effect_of}
-use Rattle.gb_domain.specs.Areas.{meets}
 use Rattle.gb_pairs.specs.Meaning.{AreBytes}
 use Rattle.gb_domain.specs.Places.{is_same_register}
 use Rattle.gb_domain.proofs.RegisterLaws.{same_register}
 use Rattle.gb_pairs.proofs.RegisterLaws.{AreBytes-set}
 use Rattle.gb_relations.specs.Written.{halves, stack_halves, counted, operand_register, moved_register, alu_register, written, is_af, writes_flags}
-use Rattle.gb_relations.specs.Places.{is_ram, is_free}
-use Rattle.gb_relations.specs.Sound.{HasBytes, Writes, IsByteFree}
+use Rattle.gb_relations.specs.Sound.{HasBytes, Writes, IsBytePlaced}
 use Rattle.gb_relations.proofs.ResultLaws.{shifted-byte, adjusted-byte, reset-byte, set-byte, alu-byte}
 
 -- ---- registers
@@ -304,23 +302,15 @@ effect_of-outside (op.Reset n which) p l h e = store_operand-outside which p _ e
 effect_of-outside (op.Set n which) p l h e = store_operand-outside which p _ e
 effect_of-outside o p l h e = refl
 
-not-met : (region : Region) (a : ℕ) → is_free region a ≡ true → (region.first ≤ a) × (a ≤ region.last) → ⊥
-not-met region a free in_region =
-    let low : region.first ≤ a = in_region.0 in
-    let high : a ≤ region.last = in_region.1 in
-    let apart : not (nat_le a region.last && nat_le region.first a) ≡ true = (and_parts (is_ram a) (not (meets region a a)) free).1 in
-    grind (arith, nat_tests)
-
 -- the address among the places stays as it was, where an instruction stores nowhere but on the stack
 pub places-stay :
-    (region : Region) (w : Write) (address : Option ℕ) (memory after : ℕ → ℕ)
-    → is_outside w ≡ true → Writes region w memory after → IsByteFree region address
+    (held : StackBytes) (w : Write) (address : Option ℕ) (memory after : ℕ → ℕ)
+    → is_outside w ≡ true → Writes held w memory after → IsBytePlaced held address
     → (a : ℕ) → address ≡ Some a → after a ≡ memory a
-places-stay region write.Nothing address memory after e w free a is = w a
-places-stay region (write.Byte b n) address memory after e w free a is = not_so (sym e)
-places-stay region (write.Word b n) address memory after e w free a is = not_so (sym e)
-places-stay region (write.Push sp n) address memory after e w free a is =
-    w a (not-met region a (subst (λ o. IsByteFree region o) is free))
+places-stay held write.Nothing address memory after e w placed a is = w a
+places-stay held (write.Byte b n) address memory after e w placed a is = not_so (sym e)
+places-stay held (write.Word b n) address memory after e w placed a is = not_so (sym e)
+places-stay held (write.Push sp n) address memory after e w placed a is = w a (subst (λ o. IsBytePlaced held o) is placed)
 
 -- ---- bytes
 

@@ -2,7 +2,7 @@
 use Rattle.std.proofs.Common.{◌≡◌, Bool, ℕ, ◌<◌, refl, sym, subst, arith}
 use Rattle.gb_ops.specs.declared.op.Register.TheVariants.{B, C, D, E, H, L}
 use Rattle.gb_ops.specs.declared.op.Op.{Op}
-use Rattle.gb_ops.specs.declared.machine.Region.{Region}
+use Rattle.gb_domain.specs.declared.places.StackBytes.{StackBytes}
 use Rattle.gb_ops.specs.declared.registers.Registers.{Registers}
 use Rattle.gb_ops.specs.declared.registers.Processor.{Processor}
 use Rattle.gb_ops.specs.Effects.{effect_of}
@@ -20,11 +20,11 @@ use Rattle.gb_relations.specs.PointedBits.{known_bits}
 use Rattle.gb_relations.proofs.PointedBitsLaws.{known_bits_sound}
 use Rattle.gb_relations.specs.Meaning.{HoldRelations}
 use Rattle.gb_relations.specs.Transfer.{values_of, relations_after}
-use Rattle.gb_relations.specs.Sound.{HasBytes, Writes, IsByteFree, Begins, IsSoundTransfer}
+use Rattle.gb_relations.specs.Sound.{HasBytes, Writes, IsBytePlaced, Begins, IsSoundTransfer}
 use Rattle.gb_relations.proofs.ByteAfterLaws.{Holds-begun, HoldOneByte-byte_after}
-use Rattle.gb_relations.proofs.FreeLaws.{byte_after-free}
+use Rattle.gb_relations.proofs.PlacedLaws.{byte_after-placed}
 use Rattle.gb_relations.proofs.MachineLaws.{effect_of-bytes}
-use Rattle.gb_relations.proofs.ComparedLaws.{HoldOneByte-compared_after, compared_after-free}
+use Rattle.gb_relations.proofs.ComparedLaws.{HoldOneByte-compared_after, compared_after-placed}
 use Rattle.gb_relations.proofs.ZeroLaws.{IsZero-zero_after}
 use Rattle.gb_relations.proofs.PairLaws.{AreWords, HoldPairs-pairs_after, pairs_after-kept}
 use Rattle.gb_relations.proofs.PairCopyLaws.{HoldPairs-with_pair_copied, with_pair_copied-kept}
@@ -54,27 +54,27 @@ ArePairs-nothing = record { each = each }
     each words.De = record { last = omega arith; link = tt }
     each words.Hl = record { last = omega arith; link = tt }
 
-relations_after-free : (rules : Rules) (is_whole : Bool) (region : Region) (o : Op) (sp : Bounds) (vals : Registers Val) (low : Val) (r : Relations)
-    → IsByteFree region r.byte.address → IsByteFree region (relations_after rules is_whole region o sp vals low r).byte.address
+relations_after-placed : (rules : Rules) (is_whole : Bool) (stack : StackBytes) (o : Op) (sp : Bounds) (vals : Registers Val) (low : Val) (r : Relations)
+    → IsBytePlaced stack r.byte.address → IsBytePlaced stack (relations_after rules is_whole stack o sp vals low r).byte.address
 unfolding relations_after
-relations_after-free Simple is_whole region o sp vals low r h = compared_after-free region o r.byte
-relations_after-free Extended is_whole region o sp vals low r h = byte_after-free region (known_bits Extended is_whole o vals) o (values_of vals r.pairs) low r.byte h
+relations_after-placed Simple is_whole stack o sp vals low r h = compared_after-placed stack o r.byte
+relations_after-placed Extended is_whole stack o sp vals low r h = byte_after-placed stack (known_bits Extended is_whole o vals) o (values_of vals r.pairs) low r.byte h
 
 HoldRelations-relations_after :
-    (rules : Rules) (is_whole : Bool) (region : Region) (o : Op) (sp : Bounds) (vals : Registers Val) (low : Val) (r : Relations) (p : Processor) (memory after : ℕ → ℕ) (l h : ℕ)
+    (rules : Rules) (is_whole : Bool) (stack : StackBytes) (o : Op) (sp : Bounds) (vals : Registers Val) (low : Val) (r : Relations) (p : Processor) (memory after : ℕ → ℕ) (l h : ℕ)
     → HasBytes o → sp.last < 65536 → AreWords r.pairs
-    → Begins region o sp vals low r p memory l h → Writes region (effect_of o p l h).write memory after
-    → HoldRelations (relations_after rules is_whole region o sp vals low r) (effect_of o p l h).processor.registers after (effect_of o p l h).processor.flags
+    → Begins stack o sp vals low r p memory l h → Writes stack (effect_of o p l h).write memory after
+    → HoldRelations (relations_after rules is_whole stack o sp vals low r) (effect_of o p l h).processor.registers after (effect_of o p l h).processor.flags
 unfolding relations_after
-HoldRelations-relations_after Simple is_whole region o sp vals low r p memory after l h has small are b w =
+HoldRelations-relations_after Simple is_whole stack o sp vals low r p memory after l h has small are b w =
     record {
       byte = HoldOneByte-compared_after o r.byte p memory after l h has b.bytes b.relations.byte;
       zero = tt;
       pairs = HoldPairs-nothing _ (effect_of-bytes o p l h has b.low_small b.high_small b.bytes);
     }
-HoldRelations-relations_after Extended is_whole region o sp vals low r p memory after l h has small are b w =
+HoldRelations-relations_after Extended is_whole stack o sp vals low r p memory after l h has small are b w =
     record {
-      byte = HoldOneByte-byte_after (known_bits Extended is_whole o vals) region o sp vals low r p memory after l h
+      byte = HoldOneByte-byte_after (known_bits Extended is_whole o vals) stack o sp vals low r p memory after l h
           ((known_bits_sound Extended is_whole o vals _ refl).writes p l h b.bytes b.registers) has b w;
       zero = IsZero-zero_after o r.byte r.zero p memory l h b.relations.byte b.relations.zero;
       pairs =
@@ -83,26 +83,26 @@ HoldRelations-relations_after Extended is_whole region o sp vals low r p memory 
     }
 
 pub relations_after_sound :
-    (rules : Rules) (is_whole : Bool) (region : Region) (o : Op) (sp : Bounds) (vals : Registers Val) (low : Val) (r after : Relations)
-    → after ≡ relations_after rules is_whole region o sp vals low r → HasBytes o → sp.last < 65536
+    (rules : Rules) (is_whole : Bool) (stack : StackBytes) (o : Op) (sp : Bounds) (vals : Registers Val) (low : Val) (r after : Relations)
+    → after ≡ relations_after rules is_whole stack o sp vals low r → HasBytes o → sp.last < 65536
     → r.pairs.bc.bounds.last < 65536 → r.pairs.de.bounds.last < 65536 → r.pairs.hl.bounds.last < 65536
-    → IsSoundTransfer region o sp vals low r after
+    → IsSoundTransfer stack o sp vals low r after
 unfolding relations_after
-relations_after_sound rules is_whole region o sp vals low r after e has small bc de hl =
+relations_after_sound rules is_whole stack o sp vals low r after e has small bc de hl =
     let are = are_words r.pairs bc de hl in
-    subst (λ k. IsSoundTransfer region o sp vals low r k) (sym e)
+    subst (λ k. IsSoundTransfer stack o sp vals low r k) (sym e)
     (record {
-      gives = λ p memory written l h b w. HoldRelations-relations_after rules is_whole region o sp vals low r p memory written l h has small are b w;
-      free = λ h. relations_after-free rules is_whole region o sp vals low r h;
+      gives = λ p memory written l h b w. HoldRelations-relations_after rules is_whole stack o sp vals low r p memory written l h has small are b w;
+      placed = λ h. relations_after-placed rules is_whole stack o sp vals low r h;
     })
 
 pub relations_after_kept :
-    (rules : Rules) (is_whole : Bool) (region : Region) (o : Op) (sp : Bounds) (vals : Registers Val) (low : Val) (r after : Relations)
-    → after ≡ relations_after rules is_whole region o sp vals low r → ArePairs r.pairs → ArePairs after.pairs
+    (rules : Rules) (is_whole : Bool) (stack : StackBytes) (o : Op) (sp : Bounds) (vals : Registers Val) (low : Val) (r after : Relations)
+    → after ≡ relations_after rules is_whole stack o sp vals low r → ArePairs r.pairs → ArePairs after.pairs
 unfolding relations_after
-relations_after_kept rules is_whole region o sp vals low r after e are =
+relations_after_kept rules is_whole stack o sp vals low r after e are =
     subst (λ (k : Relations). ArePairs k.pairs) (sym e) (kept rules)
   where
-    kept : (z : Rules) → ArePairs (relations_after z is_whole region o sp vals low r).pairs
+    kept : (z : Rules) → ArePairs (relations_after z is_whole stack o sp vals low r).pairs
     kept Simple = ArePairs-nothing
     kept Extended = with_pair_copied-kept is_whole o r.byte (values_of vals r.pairs) _ are (pairs_after-kept o sp (values_of vals r.pairs) are)

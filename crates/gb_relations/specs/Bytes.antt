@@ -11,7 +11,7 @@ use Rattle.gb_ops.specs.declared.op.Indirect.{Indirect}
 use Rattle.gb_ops.specs.declared.op.Indirect.TheVariants as indirect
 use Rattle.gb_ops.specs.declared.op.Op.{Op}
 use Rattle.gb_ops.specs.declared.op.Op.TheVariants as op
-use Rattle.gb_ops.specs.declared.machine.Region.{Region}
+use Rattle.gb_domain.specs.declared.places.StackBytes.{StackBytes}
 use Rattle.gb_ops.specs.Registers.{get}
 use Rattle.gb_ops.specs.Arithmetic.{mask_of}
 use Rattle.gb_domain.specs.declared.low_bits.LowBits.{LowBits}
@@ -28,7 +28,7 @@ use Rattle.gb_pairs.specs.declared.values.Values.{Values}
 use Rattle.gb_pairs.specs.Bounds.{bounds_of}
 use Rattle.gb_copies.specs.Places.{without_register, without_addresses, without_test, only_tested, tested, tested_before_a}
 use Rattle.gb_copies.specs.Copies.{copied}
-use Rattle.gb_relations.specs.Places.{stored_place, loaded_place}
+use Rattle.gb_relations.specs.Places.{stored_at, loaded_at}
 use Rattle.gb_relations.specs.PointedBits.{may_be_at}
 use Rattle.gb_relations.specs.Written.{written, writes_flags, counted}
 
@@ -82,18 +82,18 @@ abbrev pub stored : Option LowBits → Register → Bounds → Option Place → 
 stored bits from addresses None b = without_all bits addresses b
 stored bits from addresses (Some to) b = copied to (place.Register from) b
 
-abbrev pub loaded_a : Region → Bounds → OneByte → OneByte
-loaded_a region addresses b = loaded A (loaded_place region addresses) b
+abbrev pub loaded_a : StackBytes → Bounds → OneByte → OneByte
+loaded_a stack addresses b = loaded A (loaded_at stack addresses) b
 
-abbrev pub stored_a : Option LowBits → Region → Bounds → OneByte → OneByte
-stored_a bits region addresses b = stored bits A addresses (stored_place region addresses) b
+abbrev pub stored_a : Option LowBits → StackBytes → Bounds → OneByte → OneByte
+stored_a bits stack addresses b = stored bits A addresses (stored_at stack addresses) b
 
 -- LD r,r; LD r,(HL); LD (HL),r
-abbrev pub moved : Option LowBits → Region → Operand → Operand → Values → OneByte → OneByte
-moved bits region (operand.Register to) (operand.Register from) v b = copied (place.Register to) (place.Register from) b
-moved bits region (operand.Register to) operand.AtHl v b = loaded to (loaded_place region (at_hl v)) b
-moved bits region operand.AtHl (operand.Register from) v b = stored bits from (at_hl v) (stored_place region (at_hl v)) b
-moved bits region operand.AtHl operand.AtHl v b = without_all bits (at_hl v) b
+abbrev pub moved : Option LowBits → StackBytes → Operand → Operand → Values → OneByte → OneByte
+moved bits stack (operand.Register to) (operand.Register from) v b = copied (place.Register to) (place.Register from) b
+moved bits stack (operand.Register to) operand.AtHl v b = loaded to (loaded_at stack (at_hl v)) b
+moved bits stack operand.AtHl (operand.Register from) v b = stored bits from (at_hl v) (stored_at stack (at_hl v)) b
+moved bits stack operand.AtHl operand.AtHl v b = without_all bits (at_hl v) b
 
 -- ---- tests
 
@@ -105,9 +105,9 @@ abbrev pub computed_at : Option LowBits → Option Place → Bounds → OneByte 
 computed_at bits None addresses b = without_test (without_all bits addresses b)
 computed_at bits (Some p) addresses b = only_tested p is_zero_test
 
-abbrev pub computed : Option LowBits → Region → Operand → Values → OneByte → OneByte
-computed bits region (operand.Register r) v b = only_tested (place.Register r) is_zero_test
-computed bits region operand.AtHl v b = computed_at bits (stored_place region (at_hl v)) (at_hl v) b
+abbrev pub computed : Option LowBits → StackBytes → Operand → Values → OneByte → OneByte
+computed bits stack (operand.Register r) v b = only_tested (place.Register r) is_zero_test
+computed bits stack operand.AtHl v b = computed_at bits (stored_at stack (at_hl v)) (at_hl v) b
 
 abbrev pub bit_of : ℕ → Test
 bit_of n = test.Bits (mask_of n)
@@ -116,9 +116,9 @@ abbrev pub bit_tested_at : Option Place → ℕ → OneByte → OneByte
 bit_tested_at None n b = without_test b
 bit_tested_at (Some p) n b = tested p (bit_of n) b
 
-abbrev pub bit_tested : Region → ℕ → Operand → Values → OneByte → OneByte
-bit_tested region n (operand.Register r) v b = tested (place.Register r) (bit_of n) b
-bit_tested region n operand.AtHl v b = bit_tested_at (loaded_place region (at_hl v)) n b
+abbrev pub bit_tested : StackBytes → ℕ → Operand → Values → OneByte → OneByte
+bit_tested stack n (operand.Register r) v b = tested (place.Register r) (bit_of n) b
+bit_tested stack n operand.AtHl v b = bit_tested_at (loaded_at stack (at_hl v)) n b
 
 abbrev pub place_a : Place
 place_a = place.Register A
@@ -151,24 +151,24 @@ of_a_with how operand.AtHl v low b = of_a how (known low) b
 
 -- the places behind a taken instruction; the values are those before it, low is what it read at an address, and bits is what is known
 -- of the low bits of an address that it stores at by a pointer
-unfoldable pub byte_after : Option LowBits → Region → Op → Values → Val → OneByte → OneByte
-byte_after bits region (op.StoreA to) v low b = without_registers (counted to) (stored_a bits region (at_indirect to v) b)
-byte_after bits region (op.LoadA from) v low b = without_registers (counted from) (loaded_a region (at_indirect from v) b)
-byte_after bits region (op.Increment which) v low b = computed bits region which v b
-byte_after bits region (op.Decrement which) v low b = computed bits region which v b
-byte_after bits region (op.LoadImmediate operand.AtHl n) v low b = without_all bits (at_hl v) b
-byte_after bits region (op.StoreSp w) v low b = without_all None (one ((w + 1) % 65536)) (without_all None (one w) b)
-byte_after bits region (op.Load to from) v low b = moved bits region to from v b
-byte_after bits region (op.Alu how from) v low b = of_a_with how from v low b
-byte_after bits region (op.AluImmediate how n) v low b = of_a how (Some n) b
-byte_after bits region (op.StoreHigh n) v low b = stored_a None region (one (0xFF00 + n)) b
-byte_after bits region (op.LoadHigh n) v low b = loaded_a region (one (0xFF00 + n)) b
-byte_after bits region op.StoreHighC v low b = stored_a bits region (at_high v) b
-byte_after bits region op.LoadHighC v low b = loaded_a region (at_high v) b
-byte_after bits region (op.StoreAbsolute w) v low b = stored_a None region (one w) b
-byte_after bits region (op.LoadAbsolute w) v low b = loaded_a region (one w) b
-byte_after bits region (op.Shift how which) v low b = computed bits region which v b
-byte_after bits region (op.Bit n which) v low b = bit_tested region n which v b
-byte_after bits region (op.Reset n operand.AtHl) v low b = without_all bits (at_hl v) b
-byte_after bits region (op.Set n operand.AtHl) v low b = without_all bits (at_hl v) b
-byte_after bits region o v low b = without_test_if (writes_flags o) (without_registers (written o) b)
+unfoldable pub byte_after : Option LowBits → StackBytes → Op → Values → Val → OneByte → OneByte
+byte_after bits stack (op.StoreA to) v low b = without_registers (counted to) (stored_a bits stack (at_indirect to v) b)
+byte_after bits stack (op.LoadA from) v low b = without_registers (counted from) (loaded_a stack (at_indirect from v) b)
+byte_after bits stack (op.Increment which) v low b = computed bits stack which v b
+byte_after bits stack (op.Decrement which) v low b = computed bits stack which v b
+byte_after bits stack (op.LoadImmediate operand.AtHl n) v low b = without_all bits (at_hl v) b
+byte_after bits stack (op.StoreSp w) v low b = without_all None (one ((w + 1) % 65536)) (without_all None (one w) b)
+byte_after bits stack (op.Load to from) v low b = moved bits stack to from v b
+byte_after bits stack (op.Alu how from) v low b = of_a_with how from v low b
+byte_after bits stack (op.AluImmediate how n) v low b = of_a how (Some n) b
+byte_after bits stack (op.StoreHigh n) v low b = stored_a None stack (one (0xFF00 + n)) b
+byte_after bits stack (op.LoadHigh n) v low b = loaded_a stack (one (0xFF00 + n)) b
+byte_after bits stack op.StoreHighC v low b = stored_a bits stack (at_high v) b
+byte_after bits stack op.LoadHighC v low b = loaded_a stack (at_high v) b
+byte_after bits stack (op.StoreAbsolute w) v low b = stored_a None stack (one w) b
+byte_after bits stack (op.LoadAbsolute w) v low b = loaded_a stack (one w) b
+byte_after bits stack (op.Shift how which) v low b = computed bits stack which v b
+byte_after bits stack (op.Bit n which) v low b = bit_tested stack n which v b
+byte_after bits stack (op.Reset n operand.AtHl) v low b = without_all bits (at_hl v) b
+byte_after bits stack (op.Set n operand.AtHl) v low b = without_all bits (at_hl v) b
+byte_after bits stack o v low b = without_test_if (writes_flags o) (without_registers (written o) b)

@@ -6,6 +6,7 @@ pub mod PointedBits
 pub mod PairCopies
 pub mod Bytes
 pub mod Compared
+pub mod Items
 pub mod Transfer
 pub mod Pointers
 pub mod Returned

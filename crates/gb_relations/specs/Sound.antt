@@ -4,6 +4,8 @@ use Rattle.gb_ops.specs.declared.op.Register.{Register}
 use Rattle.gb_ops.specs.declared.op.Op.{Op}
 use Rattle.gb_ops.specs.declared.op.Op.TheVariants as op
 use Rattle.gb_ops.specs.declared.machine.Region.{Region}
+use Rattle.gb_domain.specs.declared.places.StackBytes.{StackBytes}
+use Rattle.gb_domain.specs.Areas.{is_place_at}
 use Rattle.gb_ops.specs.declared.machine.Read.{Read}
 use Rattle.gb_ops.specs.declared.machine.Read.TheVariants as read
 use Rattle.gb_ops.specs.declared.machine.Write.{Write}
@@ -31,14 +33,14 @@ HasBytes _ = Unit {0}
 abbrev pub IsKeptBut : ℕ → (ℕ → ℕ) → (ℕ → ℕ) → Type 0
 IsKeptBut a memory after = (b : ℕ) → (b ≡ a → ⊥) → after b ≡ memory b
 
--- a write changes memory where it says: a byte of RAM becomes what is written, and all others stay; a push stays in the stack region
-abbrev pub Writes : Region → Write → (ℕ → ℕ) → (ℕ → ℕ) → Type 0
-Writes region write.Nothing memory after = (b : ℕ) → after b ≡ memory b
-Writes region (write.Byte a n) memory after = (is_ram a ≡ true → after a ≡ n) × IsKeptBut a memory after
-Writes region (write.Word a w) memory after =
+-- a write changes memory where it says: a byte of RAM becomes what is written, and all others stay; a push leaves RAM outside the
+-- stack region, and the items
+abbrev pub Writes : StackBytes → Write → (ℕ → ℕ) → (ℕ → ℕ) → Type 0
+Writes stack write.Nothing memory after = (b : ℕ) → after b ≡ memory b
+Writes stack (write.Byte a n) memory after = (is_ram a ≡ true → after a ≡ n) × IsKeptBut a memory after
+Writes stack (write.Word a w) memory after =
     (b : ℕ) → (b ≡ a → ⊥) → (b ≡ (a + 1) % 65536 → ⊥) → after b ≡ memory b
-Writes region (write.Push sp w) memory after =
-    (b : ℕ) → ((region.first ≤ b) × (b ≤ region.last) → ⊥) → after b ≡ memory b
+Writes stack (write.Push sp w) memory after = (b : ℕ) → is_place_at stack b ≡ true → after b ≡ memory b
 
 -- a byte that is read from RAM is the one in memory, through the echo too
 abbrev pub Reads : Read → (ℕ → ℕ) → ℕ → Type 0
@@ -50,8 +52,13 @@ abbrev pub IsByteFree : Region → Option ℕ → Type 0
 IsByteFree region None = Unit {0}
 IsByteFree region (Some a) = is_free region a ≡ true
 
+-- the address among the places, if there is one, is one at which a byte may be a place
+abbrev pub IsBytePlaced : StackBytes → Option ℕ → Type 0
+IsBytePlaced stack None = Unit {0}
+IsBytePlaced stack (Some a) = is_place_at stack a ≡ true
+
 -- the machine as an instruction, taken or not, begins its work: its bytes are fetched, and its reads gave l and h
-pub record Begins (region : Region) (o : Op) (sp : Bounds) (vals : Registers Val) (low : Val) (r : Relations) (p : Processor) (memory : ℕ → ℕ) (l h : ℕ) : Type 0 where
+pub record Begins (stack : StackBytes) (o : Op) (sp : Bounds) (vals : Registers Val) (low : Val) (r : Relations) (p : Processor) (memory : ℕ → ℕ) (l h : ℕ) : Type 0 where
   pub registers : (q : Register) → In (get q vals) (get q p.registers)
   pub bytes : AreBytes p.registers
   pub sp_first : sp.first ≤ p.sp
@@ -59,15 +66,15 @@ pub record Begins (region : Region) (o : Op) (sp : Bounds) (vals : Registers Val
   pub low_read : In low l
   pub low_small : l < 256
   pub high_small : h < 256
-  pub free : IsByteFree region r.byte.address
+  pub placed : IsBytePlaced stack r.byte.address
   pub relations : HoldRelations r p.registers memory p.flags
   pub reads : Reads (Effects.read_of o p) memory l
 
 -- what is known together holds behind each effect of the instruction, whatever it makes of the rest of memory
-pub record IsSoundTransfer (region : Region) (o : Op) (sp : Bounds) (vals : Registers Val) (low : Val) (r after : Relations) : Type 0 where
+pub record IsSoundTransfer (stack : StackBytes) (o : Op) (sp : Bounds) (vals : Registers Val) (low : Val) (r after : Relations) : Type 0 where
   pub gives :
       (p : Processor) (memory written : ℕ → ℕ) (l h : ℕ)
-      → Begins region o sp vals low r p memory l h
-      → Writes region (Effects.effect_of o p l h).write memory written
+      → Begins stack o sp vals low r p memory l h
+      → Writes stack (Effects.effect_of o p l h).write memory written
       → HoldRelations after (Effects.effect_of o p l h).processor.registers written (Effects.effect_of o p l h).processor.flags
-  pub free : IsByteFree region r.byte.address → IsByteFree region after.byte.address
+  pub placed : IsBytePlaced stack r.byte.address → IsBytePlaced stack after.byte.address

@@ -5,7 +5,7 @@ use Rattle.gb_ops.specs.declared.op.AluOp.TheVariants as alu
 use Rattle.gb_ops.specs.declared.op.Operand.TheVariants as operand
 use Rattle.gb_ops.specs.declared.op.Op.{Op}
 use Rattle.gb_ops.specs.declared.op.Op.TheVariants as op
-use Rattle.gb_ops.specs.declared.machine.Region.{Region}
+use Rattle.gb_domain.specs.declared.places.StackBytes.{StackBytes}
 use Rattle.gb_ops.specs.declared.registers.Registers.{Registers}
 use Rattle.gb_ops.specs.Registers.{get}
 use Rattle.gb_domain.specs.declared.types.Val.{Val}
@@ -49,12 +49,12 @@ zero_after o b zero = if writes_flags o then None else zero_without_registers (w
 -- what is known together behind a taken instruction; registers and relations are those before it, sp has SP's bounds, and low is
 -- what was read at an address; by the rules of versions 1 and 2 a comparison of A alone; by those of version 4, is_whole, pairs that
 -- become equal share their bounds, and a store by a pointer whose low bits are known spares places with others
-unfoldable pub relations_after : Rules → Bool → Region → Op → Bounds → Registers Val → Val → Relations → Relations
-relations_after Simple is_whole region o sp registers low r = record no_relations { byte = compared_after o r.byte }
-relations_after Extended is_whole region o sp registers low r =
+unfoldable pub relations_after : Rules → Bool → StackBytes → Op → Bounds → Registers Val → Val → Relations → Relations
+relations_after Simple is_whole stack o sp registers low r = record no_relations { byte = compared_after o r.byte }
+relations_after Extended is_whole stack o sp registers low r =
     let v = values_of registers r.pairs in
     record {
-      byte = byte_after (known_bits Extended is_whole o registers) region o v low r.byte;
+      byte = byte_after (known_bits Extended is_whole o registers) stack o v low r.byte;
       zero = zero_after o r.byte r.zero;
       pairs = with_pair_copied is_whole o r.byte v (pairs_after o sp v);
     }

@@ -4,7 +4,7 @@ ghost use Rattle.std.specs.Prelude.{◌≡◌, ◌+◌};
 ghost use Rattle.gb_relations.specs.Written.{list_of};
 ghost use Rattle.gb_relations.specs.Bytes as Bytes;
 
-use crate::places::{loaded_place, stored_place};
+use crate::places::{loaded_at, stored_at};
 use crate::pointed_bits::may_be_at;
 use crate::written::{Written, counted, writes_flags, written_by};
 use gb_copies::copies::copied;
@@ -13,9 +13,8 @@ use gb_copies::places::{
 };
 use gb_domain::LowBits;
 use gb_domain::pairs::{Bounds, WordPair};
-use gb_domain::places::{OneByte, Place, Test};
+use gb_domain::places::{OneByte, Place, StackBytes, Test};
 use gb_domain::types::Val;
-use gb_ops::machine::Region;
 use gb_ops::op::{AluOp, Indirect, Op, Operand, Register};
 use gb_pairs::bounds::bounds_of;
 use gb_pairs::is_single;
@@ -146,20 +145,20 @@ fn stored(
     }
 }
 
-fn loaded_a(region: Region, addresses: Bounds, byte: &OneByte) -> OneByte
-    ensures { result ≡ Bytes.loaded_a region addresses byte.now }
+fn loaded_a(stack: StackBytes, addresses: Bounds, byte: &OneByte) -> OneByte
+    ensures { result ≡ Bytes.loaded_a stack addresses byte.now }
 {
-    loaded(Register::A, loaded_place(region, addresses), byte)
+    loaded(Register::A, loaded_at(stack, addresses), byte)
 }
 
-fn stored_a(bits: Option<LowBits>, region: Region, addresses: Bounds, byte: &OneByte) -> OneByte
-    ensures { result ≡ Bytes.stored_a bits region addresses byte.now }
+fn stored_a(bits: Option<LowBits>, stack: StackBytes, addresses: Bounds, byte: &OneByte) -> OneByte
+    ensures { result ≡ Bytes.stored_a bits stack addresses byte.now }
 {
     stored(
         bits,
         Register::A,
         addresses,
-        stored_place(region, addresses),
+        stored_at(stack, addresses),
         byte,
     )
 }
@@ -167,13 +166,13 @@ fn stored_a(bits: Option<LowBits>, region: Region, addresses: Bounds, byte: &One
 /// LD of a byte.
 fn moved(
     bits: Option<LowBits>,
-    region: Region,
+    stack: StackBytes,
     to: Operand,
     from: Operand,
     values: &Values,
     byte: &OneByte,
 ) -> OneByte
-    ensures { result ≡ Bytes.moved bits region to from values.now byte.now }
+    ensures { result ≡ Bytes.moved bits stack to from values.now byte.now }
 {
     match (to, from) {
         (Operand::Register(to), Operand::Register(from)) => copied(
@@ -181,14 +180,10 @@ fn moved(
             Place::Register(from),
             byte,
         ),
-        (Operand::Register(to), Operand::AtHl) => loaded(
-            to,
-            loaded_place(region, at_hl(values)),
-            byte,
-        ),
+        (Operand::Register(to), Operand::AtHl) => loaded(to, loaded_at(stack, at_hl(values)), byte),
         (Operand::AtHl, Operand::Register(from)) => {
             let addresses = at_hl(values);
-            stored(bits, from, addresses, stored_place(region, addresses), byte)
+            stored(bits, from, addresses, stored_at(stack, addresses), byte)
         }
         (Operand::AtHl, Operand::AtHl) => without_all(bits, at_hl(values), byte),
     }
@@ -213,18 +208,18 @@ fn computed_at(
 /// Z says whether what was computed is 0.
 fn computed(
     bits: Option<LowBits>,
-    region: Region,
+    stack: StackBytes,
     operand: Operand,
     values: &Values,
     byte: &OneByte,
 ) -> OneByte
-    ensures { result ≡ Bytes.computed bits region operand values.now byte.now }
+    ensures { result ≡ Bytes.computed bits stack operand values.now byte.now }
 {
     match operand {
         Operand::Register(register) => only_tested(Place::Register(register), IS_ZERO),
         Operand::AtHl => {
             let addresses = at_hl(values);
-            computed_at(bits, stored_place(region, addresses), addresses, byte)
+            computed_at(bits, stored_at(stack, addresses), addresses, byte)
         }
     }
 }
@@ -245,12 +240,18 @@ fn bit_tested_at(from: Option<Place>, n: u8, byte: &OneByte) -> OneByte
     }
 }
 
-fn bit_tested(region: Region, n: u8, operand: Operand, values: &Values, byte: &OneByte) -> OneByte
-    ensures { result ≡ Bytes.bit_tested region n operand values.now byte.now }
+fn bit_tested(
+    stack: StackBytes,
+    n: u8,
+    operand: Operand,
+    values: &Values,
+    byte: &OneByte,
+) -> OneByte
+    ensures { result ≡ Bytes.bit_tested stack n operand values.now byte.now }
 {
     match operand {
         Operand::Register(register) => tested(Place::Register(register), bit_of(n), byte),
-        Operand::AtHl => bit_tested_at(loaded_place(region, at_hl(values)), n, byte),
+        Operand::AtHl => bit_tested_at(loaded_at(stack, at_hl(values)), n, byte),
     }
 }
 
@@ -301,25 +302,25 @@ fn of_a_with(how: AluOp, operand: Operand, values: &Values, low: Val, byte: &One
 #[tactic(auto, unfolding(crate::specs::Bytes::byte_after))]
 pub(crate) fn byte_after(
     bits: Option<LowBits>,
-    region: Region,
+    stack: StackBytes,
     op: Op,
     values: &Values,
     low: Val,
     byte: &OneByte,
 ) -> OneByte
-    ensures { result ≡ Bytes.byte_after bits region op values.now low byte.now }
+    ensures { result ≡ Bytes.byte_after bits stack op values.now low byte.now }
 {
     match op {
         Op::StoreA(to) => {
-            let left = stored_a(bits, region, at_indirect(to, values), byte);
+            let left = stored_a(bits, stack, at_indirect(to, values), byte);
             without_registers(counted(to), &left)
         }
         Op::LoadA(from) => {
-            let left = loaded_a(region, at_indirect(from, values), byte);
+            let left = loaded_a(stack, at_indirect(from, values), byte);
             without_registers(counted(from), &left)
         }
         Op::Increment(operand) | Op::Decrement(operand) | Op::Shift(_, operand) => {
-            computed(bits, region, operand, values, byte)
+            computed(bits, stack, operand, values, byte)
         }
         Op::LoadImmediate(Operand::AtHl, _)
         | Op::Reset(_, Operand::AtHl)
@@ -328,16 +329,16 @@ pub(crate) fn byte_after(
             let left = without_all(None, one(address), byte);
             without_all(None, one(address.wrapping_add(1)), &left)
         }
-        Op::Load(to, from) => moved(bits, region, to, from, values, byte),
+        Op::Load(to, from) => moved(bits, stack, to, from, values, byte),
         Op::Alu(how, operand) => of_a_with(how, operand, values, low, byte),
         Op::AluImmediate(how, n) => of_a(how, Some(n), byte),
-        Op::StoreHigh(n) => stored_a(None, region, one(high(n)), byte),
-        Op::LoadHigh(n) => loaded_a(region, one(high(n)), byte),
-        Op::StoreHighC => stored_a(bits, region, at_high(values), byte),
-        Op::LoadHighC => loaded_a(region, at_high(values), byte),
-        Op::StoreAbsolute(address) => stored_a(None, region, one(address), byte),
-        Op::LoadAbsolute(address) => loaded_a(region, one(address), byte),
-        Op::Bit(n, operand) => bit_tested(region, n, operand, values, byte),
+        Op::StoreHigh(n) => stored_a(None, stack, one(high(n)), byte),
+        Op::LoadHigh(n) => loaded_a(stack, one(high(n)), byte),
+        Op::StoreHighC => stored_a(bits, stack, at_high(values), byte),
+        Op::LoadHighC => loaded_a(stack, at_high(values), byte),
+        Op::StoreAbsolute(address) => stored_a(None, stack, one(address), byte),
+        Op::LoadAbsolute(address) => loaded_a(stack, one(address), byte),
+        Op::Bit(n, operand) => bit_tested(stack, n, operand, values, byte),
         _ => without_test_if(writes_flags(op), without_registers(written_by(op), byte)),
     }
 }

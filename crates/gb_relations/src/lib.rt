@@ -10,6 +10,7 @@
 
 pub mod bytes;
 pub mod compared;
+pub mod items;
 pub mod pair_copies;
 pub mod pairs;
 pub mod places;

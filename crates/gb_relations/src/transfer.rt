@@ -15,10 +15,9 @@ use crate::pairs::{other_half, pairs_after};
 use crate::pointed_bits::known_bits;
 use crate::written::{Written, writes_flags, written_by};
 use gb_domain::pairs::{Bounds, Pairs, WordPair};
-use gb_domain::places::OneByte;
+use gb_domain::places::{OneByte, StackBytes};
 use gb_domain::relations::Relations;
 use gb_domain::types::{Rules, Val};
-use gb_ops::machine::Region;
 use gb_ops::op::{AluOp, Op, Operand, Register};
 use gb_ops::registers::Registers;
 use gb_pairs::values::Values;
@@ -86,14 +85,14 @@ pub(crate) fn holds_words(pairs: Pairs)
 #[tactic(auto, unfolding(crate::specs::Transfer::relations_after))]
 fn related_after(
     is_whole: bool,
-    region: Region,
+    stack: StackBytes,
     op: Op,
     sp: Bounds,
     registers: &Registers<Val>,
     low: Val,
     relations: &Relations,
 ) -> Relations
-    ensures { result ≡ Transfer.relations_after Extended is_whole region op sp registers.now low relations.now }
+    ensures { result ≡ Transfer.relations_after Extended is_whole stack op sp registers.now low relations.now }
 {
     let values = Values {
         registers: *registers,
@@ -102,7 +101,7 @@ fn related_after(
     let byte = &relations.byte;
     let bits = known_bits(Rules::Extended, is_whole, op, registers);
     Relations {
-        byte: byte_after(bits, region, op, &values, low, byte),
+        byte: byte_after(bits, stack, op, &values, low, byte),
         zero: zero_after(op, byte, relations.zero),
         pairs: copy_pair(is_whole, op, byte, &values, pairs_after(op, sp, &values)),
     }
@@ -112,7 +111,7 @@ fn related_after(
 #[inline(always)]
 #[tactic(auto, unfolding(crate::specs::Transfer::relations_after, crate::specs::Bytes::byte_after, crate::specs::Transfer::zero_after, crate::specs::Pairs::pairs_after, crate::specs::PairCopies::pair_copy, crate::specs::Written::written, crate::specs::Written::writes_flags))]
 fn leaves_all_known(op: Op) -> bool
-    ensures { result ≡ true → (is_whole : Bool) (region : Region) (sp : Bounds) (registers : Registers Val) (low : Val) (r : Relations) → Transfer.relations_after Extended is_whole region op sp registers low r ≡ r }
+    ensures { result ≡ true → (is_whole : Bool) (stack : StackBytes) (sp : Bounds) (registers : Registers Val) (low : Val) (r : Relations) → Transfer.relations_after Extended is_whole stack op sp registers low r ≡ r }
 {
     matches!(
         op,
@@ -139,14 +138,14 @@ fn leaves_all_known(op: Op) -> bool
 fn apply(
     rules: Rules,
     is_whole: bool,
-    region: Region,
+    stack: StackBytes,
     op: Op,
     sp: Bounds,
     registers: &Registers<Val>,
     low: Val,
     relations: &Relations,
 ) -> Relations
-    ensures { result ≡ Transfer.relations_after rules is_whole region op sp registers.now low relations.now }
+    ensures { result ≡ Transfer.relations_after rules is_whole stack op sp registers.now low relations.now }
 {
     match rules {
         Rules::Simple => Relations {
@@ -157,7 +156,7 @@ fn apply(
             if leaves_all_known(op) {
                 *relations
             } else {
-                related_after(is_whole, region, op, sp, registers, low, relations)
+                related_after(is_whole, stack, op, sp, registers, low, relations)
             }
         }
     }
@@ -170,18 +169,18 @@ fn apply(
 pub fn relations_after(
     rules: Rules,
     is_whole: bool,
-    region: Region,
+    stack: StackBytes,
     op: Op,
     sp: Bounds,
     registers: &Registers<Val>,
     low: Val,
     relations: &Relations,
 ) -> Relations
-    ensures exact { result ≡ Transfer.relations_after rules is_whole region op sp registers.now low relations.now }
-    ensures sound { IsSoundTransfer region op sp registers.now low relations.now result }
+    ensures exact { result ≡ Transfer.relations_after rules is_whole stack op sp registers.now low relations.now }
+    ensures sound { IsSoundTransfer stack op sp registers.now low relations.now result }
     ensures kept { ArePairs relations.now.pairs → ArePairs result.pairs }
 {
     holds_bytes(op);
     holds_words(relations.pairs);
-    apply(rules, is_whole, region, op, sp, registers, low, relations)
+    apply(rules, is_whole, stack, op, sp, registers, low, relations)
 }

@@ -15,6 +15,9 @@ use gb_findings::gb_ops::op::Register;
 use gb_findings::gb_symbols::{ShownAddress, SymbolOffset};
 use std::fmt;
 
+/// How many values a byte has.
+const BYTES: usize = 256;
+
 /// A finding as lines for a person, the last without its end.
 #[derive(Clone, Copy)]
 pub struct ShownFinding<'a> {
@@ -273,6 +276,16 @@ fn fmt_register<W: fmt::Write>(
     }
 }
 
+/// How many values a byte has at a place: ranges of values were counted, and there may be more of them than values.
+fn fmt_values<W: fmt::Write>(
+    values: usize,
+    place: &'static str,
+    f: &mut fmt::Formatter<W>,
+) -> fmt::Result {
+    let values = values.min(BYTES);
+    write!(f, " has {values} values {place}.")
+}
+
 /// What multiplies the first of some places, and where.
 fn fmt_multiplied<W: fmt::Write>(
     multiplied: Multiplied,
@@ -285,11 +298,11 @@ fn fmt_multiplied<W: fmt::Write>(
     match multiplied.by {
         Multiplier::Register(register) => {
             fmt_register(symbols, register, f)?;
-            write!(f, " has {values} values {place}.")
+            fmt_values(values, place, f)
         }
         Multiplier::Cell(address) => {
             fmt_variable(symbols, address, f)?;
-            write!(f, " has {values} values {place}.")
+            fmt_values(values, place, f)
         }
         Multiplier::Bank => write!(f, "the mapped bank has {values} values {place}."),
         Multiplier::Stack => write!(f, "the stack has {values} different contents {place}."),

@@ -59,9 +59,16 @@ fn moves_pointer(op: Option<Op>) -> bool {
 fn pointer_advice(finding: &InstructionFinding) -> Advice {
     if moves_pointer(finding.op) {
         advice::POINTER_OF_LOOP
+    } else if finding.is_in_loop {
+        advice::POINTER_IN_LOOP
     } else {
         advice::POINTER
     }
+}
+
+/// Whether a store to echo RAM is meant for the byte that it shows: no loop brought its pointer there.
+fn is_meant_for_echo(finding: &InstructionFinding, span: Span) -> bool {
+    is_echo(span) && (finding.registers.is_empty() || !finding.is_in_loop)
 }
 
 /// A store: by a pointer that comes from RAM, over the stack, by another pointer, or to an address that is named.
@@ -72,7 +79,7 @@ fn store_advice(finding: &InstructionFinding, span: Span) -> Advice {
         advice::KEPT_POINTER
     } else if meets_stack(span, finding.region) {
         advice::CLEARS_STACK
-    } else if is_echo(span) {
+    } else if is_meant_for_echo(finding, span) {
         advice::STORE_TO_ECHO
     } else if !finding.registers.is_empty() {
         pointer_advice(finding)
@@ -97,6 +104,7 @@ fn pointer_to_ram_advice(finding: &InstructionFinding) -> Advice {
         (true, true) => advice::LOOP_TO_CARTRIDGE_RAM,
         (true, false) => advice::LOOP_TO_NO_RAM,
         (false, true) => advice::POINTER_TO_CARTRIDGE_RAM,
+        (false, false) if finding.is_in_loop => advice::IN_LOOP_TO_NO_RAM,
         (false, false) => advice::POINTER_TO_NO_RAM,
     }
 }
@@ -177,8 +185,48 @@ fn recursion_advice(target: u16) -> Advice {
     }
 }
 
+/// Whether an index that a division gave may be what isn't bounded: the pointer comes from no byte of RAM, and runs on in no loop.
+fn is_by_division(finding: &InstructionFinding) -> bool {
+    finding.is_divided
+        && finding.load.is_none()
+        && finding.kept_in.is_empty()
+        && !moves_pointer(finding.op)
+}
+
+/// Whether what is read is a text whose end isn't known.
+fn is_of_text(finding: &InstructionFinding) -> bool {
+    let is_read = finding.is_in_loop && matches!(finding.cause, Cause::CartridgeRam { .. });
+    is_read && finding.reads_text && finding.load.is_none() && finding.kept_in.is_empty()
+}
+
+/// The fix that fits better than that of the cause alone.
+fn better_fix(finding: &InstructionFinding) -> Option<Advice> {
+    if finding.pushed_return.is_some() {
+        None
+    } else if is_of_text(finding) {
+        Some(advice::TEXT)
+    } else if is_by_division(finding) {
+        Some(advice::DIVIDED)
+    } else {
+        None
+    }
+}
+
 /// A failure at an instruction.
 pub(crate) fn instruction_advice(finding: &InstructionFinding) -> Advice {
+    let advice = cause_advice(finding);
+    match better_fix(finding) {
+        Some(fix) => Advice {
+            remedy: fix.remedy,
+            remedy_in_c: fix.remedy_in_c,
+            ..advice
+        },
+        None => advice,
+    }
+}
+
+/// What a failure at an instruction is about.
+fn cause_advice(finding: &InstructionFinding) -> Advice {
     if finding.pushed_return.is_some() {
         return advice::RETURN_WITH_BYTES;
     }

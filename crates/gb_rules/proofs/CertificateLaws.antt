@@ -1,5 +1,5 @@
 -- What certificates of any version have in common: the parts of their states, nodes and procedures.
-use Rattle.std.proofs.Common.{◌≡◌, ℕ, ◌-◌, ◌%◌, ◌<◌, ◌==◌, Bool, true, false, not, ◌&&◌, ◌||◌, nat_le, nat_lt, List, [], ◌∷◌, length, Option, Some, None, refl, sym, ◌∙◌, subst, arith, ap}
+use Rattle.std.proofs.Common.{◌≡◌, ℕ, ◌-◌, ◌%◌, ◌<◌, ◌==◌, Bool, true, false, not, ◌&&◌, ◌||◌, nat_le, nat_lt, List, [], ◌∷◌, length, Option, Some, None, refl, sym, ◌∙◌, subst, arith, ap, cond}
 use Rattle.std.proofs.lemmas.Bool.{and_parts, not-true, eqb-true}
 use Rattle.std.proofs.lemmas.Bool.Decides.{nat_tests}
 use Rattle.std.specs.Prelude.{IfSome, is_some}
@@ -12,7 +12,7 @@ use Rattle.gb_successors.specs.Below.gb_domain.declared.summary.Fill.{Fill}
 use Rattle.gb_successors.specs.Below.gb_domain.declared.types.Cell.{Cell}
 use Rattle.gb_successors.specs.Below.gb_domain.declared.types.Core.{Core}
 use Rattle.gb_successors.specs.Below.gb_domain.declared.types.Val.{Val}
-use Rattle.gb_successors.specs.Below.gb_domain.Areas.{are_in_ram, is_area, is_free_byte, meets}
+use Rattle.gb_successors.specs.Below.gb_domain.Areas.{are_in_ram, is_area, is_free_byte, is_item, is_place_at, meets}
 use Rattle.gb_successors.specs.Below.gb_domain.Certificate.{Certificate}
 use Rattle.gb_successors.specs.Below.gb_domain.Limits.{rules_of}
 use Rattle.gb_successors.specs.Below.gb_domain.RelationRules.{IsRelations}
@@ -23,14 +23,17 @@ use Rattle.gb_successors.specs.Below.gb_domain.Types.{AbsState, ProcedureParts, 
 use Rattle.gb_calls.specs.Below.gb_states.declared.role.Role.{Role}
 use Rattle.gb_calls.specs.Below.gb_states.declared.role.Role.TheVariants as role
 use Rattle.gb_calls.specs.Below.gb_states.Rules.{fits, is_base_of, is_silent, is_sayable, is_core_sayable, is_cell_sayable, is_state_sayable, needs_stack, may_be_pushed, role_of, IsRange, after_range, is_after, IsState}
-use Rattle.gb_calls.specs.Below.gb_states.WholeRules.{IsValIn, IsStretch, IsFact, IsFill, IsSummary, AreFactsBy, IsCoreIn, IsCellIn, IsStateIn, IsProcedureBy, IsNodeBy, IsCertificate, IsWithin, may_be_aside}
+use Rattle.gb_calls.specs.Below.gb_states.WholeRules.{IsValIn, IsStretch, IsFact, IsFill, IsSummary, AreFactsBy, IsCoreIn, IsCellIn, IsStateIn, IsProcedureBy, IsNodeBy, IsCertificate, IsWithin, may_be_aside, procedure_form, named_items, stack_bytes}
 use Rattle.gb_calls.proofs.Below.gb_states_laws.SummaryLaws.{silent-is}
 use Rattle.gb_successors.specs.Below.gb_abs.Cells.{ArePlaced}
 use Rattle.gb_successors.specs.Below.gb_abs_memory.Sound.{AreVals}
 use Rattle.gb_successors.specs.Below.gb_product.Below.gb_summaries.Below.gb_ram_bounds.Facts.{has_address}
 use Rattle.gb_successors.specs.Below.gb_product.Below.gb_summaries.Elsewhere.{IsFreeFact, IsFreeFill, AreFreeFacts, IsFree}
 use Rattle.gb_successors.specs.Below.gb_relations.Places.{is_free}
-use Rattle.gb_successors.specs.Below.gb_relations.Sound.{IsByteFree}
+use Rattle.gb_successors.specs.Below.gb_relations.Sound.{IsByteFree, IsBytePlaced}
+use Rattle.gb_calls.specs.Below.gb_states.declared.form.ProcedureForm.{ProcedureForm}
+use Rattle.gb_successors.specs.Below.gb_domain.declared.places.StackBytes.{StackBytes}
+use Rattle.gb_successors.specs.Below.gb_domain.Pairs.{ArePairs}
 
 -- ---- versions
 
@@ -126,7 +129,7 @@ pub record HasStateParts (rules : Rules) (of : Role) (region : Region) (s : AbsS
   pub items : AllByRecursion IsVal s.items
   pub placed : ArePlaced region s.cells
   pub vals : AreVals s.cells
-  pub relations : IsRelations region s.relations
+  pub pairs : ArePairs s.relations.pairs
   pub quiet : rules ≡ Simple → s.summary ≡ no_summary
   pub apart : IsFree region s.summary
   pub aside : IfSome s.summary.aside (λ b. b.last < 65536)
@@ -165,7 +168,7 @@ has_parts rules role region s h = record {
   items = h.items;
   placed = placed_from region 0 s.cells h.cells;
   vals = vals_from region 0 s.cells h.cells;
-  relations = h.relations;
+  pairs = h.relations.pairs;
   quiet = λ simple. nothing_said rules s h.sayable;
   apart = free_quiet region s.summary (nothing_said rules s h.sayable);
   aside = small_none s.summary.aside (not_aside s.summary (nothing_said rules s h.sayable));
@@ -190,15 +193,15 @@ vals_in kept region least [] h = tt
 vals_in kept region least (c ∷ rest) h = (h.0.val.val, vals_in kept region (after_cell c) rest h.1)
 
 -- one of version 4
-has_parts_in : (facts kept : ℕ) (role : Role) (region : Region) (s : AbsState) → IsStateIn facts kept role region s → HasStateParts Extended role region s
-has_parts_in facts kept role region s h = record {
-  core = core_in kept s.core h.core;
+has_parts_in : (facts : ℕ) (form : ProcedureForm) (role : Role) (region : Region) (s : AbsState) → IsStateIn facts form role region s → HasStateParts Extended role region s
+has_parts_in facts form role region s h = record {
+  core = core_in form.kept s.core h.core;
   stack = h.stack;
   pushed = h.pushed;
-  items = items_in kept s.items h.items;
-  placed = placed_in kept region 0 s.cells h.cells;
-  vals = vals_in kept region 0 s.cells h.cells;
-  relations = h.relations;
+  items = items_in form.kept s.items h.items;
+  placed = placed_in form.kept region 0 s.cells h.cells;
+  vals = vals_in form.kept region 0 s.cells h.cells;
+  pairs = h.relations.pairs;
   quiet = λ simple. unlike simple;
   apart = free_summary facts region _ s.summary h.summary;
   aside = small_within s.summary.aside h.summary.aside;
@@ -207,16 +210,53 @@ has_parts_in facts kept role region s h = record {
 
 -- ---- nodes
 
-pub record HasNodeParts (rules : Rules) (region : Region) (n : Node) : Type 0 where
+-- the stack that a node's places may lie in: in versions 1 to 3 no item is one
+abbrev pub node_stack : Bool → ProcedureForm → Region → Node → StackBytes
+node_stack fourth form region n = record { region = region; base = cond fourth form.base 0; count = length n.state.items }
+
+pub record HasNodeParts (fourth : Bool) (form : ProcedureForm) (rules : Rules) (region : Region) (n : Node) : Type 0 where
   pub address : n.address < 65536
   pub state : HasStateParts rules (role_of n.procedure) region n.state
+  pub place : IsBytePlaced (node_stack fourth form region n) n.state.relations.byte.address
 
-pub node_parts : (fourth : Bool) (version facts : ℕ) (kept : ℕ → ℕ) (region : Region) (procedures : ℕ) (before : ℕ × ℕ) (n : Node) → (version == 4) ≡ fourth
-    → IsNodeBy fourth version facts kept region procedures before n → HasNodeParts (rules_of version) region n
-node_parts true version facts kept region procedures before n e h =
-    subst (λ r. HasNodeParts r region n) (sym (fourth_rules version e)) (record { address = h.address; state = has_parts_in facts (kept n.procedure) (role_of n.procedure) region n.state h.state })
-node_parts false version facts kept region procedures before n e h =
-    record { address = h.address; state = has_parts (rules_of version) (role_of n.procedure) region n.state h.state }
+placed_free : (k : StackBytes) (o : Option ℕ) → IfSome o (λ a. is_free_byte k.region a ≡ true) → IsBytePlaced k o
+placed_free k None h = tt
+placed_free k (Some a) h = by (nat_le a a && are_in_ram a a) (not (meets k.region a a)) (is_item k.base k.count a) h
+  where
+    by : (area apart item : Bool) → (area && apart) ≡ true → (area && (apart || item)) ≡ true
+    by true true item h = refl
+    by true false item h = cc
+    by false apart item h = h
+
+-- the states of nodes name their items
+named_by_nodes : (procedure count : ℕ) → named_items (role_of procedure) count ≡ count
+named_by_nodes procedure count = by (procedure == 0)
+  where
+    by : (b : Bool) → named_items (cond b role.Main role.Other) count ≡ count
+    by true = refl
+    by false = refl
+
+placed_in_form : (form : ProcedureForm) (region : Region) (n : Node) (o : Option ℕ)
+    → IfSome o (λ a. is_place_at (stack_bytes form (role_of n.procedure) region (length n.state.items)) a ≡ true) → IsBytePlaced (node_stack true form region n) o
+placed_in_form form region n None h = tt
+placed_in_form form region n (Some a) h =
+    subst (λ m. is_place_at (record { region = region; base = form.base; count = m }) a ≡ true) (named_by_nodes n.procedure (length n.state.items)) h
+
+pub node_parts : (fourth : Bool) (version facts : ℕ) (form_of : ℕ → ProcedureForm) (region : Region) (procedures : ℕ) (before : ℕ × ℕ) (n : Node) → (version == 4) ≡ fourth
+    → IsNodeBy fourth version facts form_of region procedures before n → HasNodeParts fourth (form_of n.procedure) (rules_of version) region n
+node_parts true version facts form_of region procedures before n e h =
+    subst (λ r. HasNodeParts true (form_of n.procedure) r region n) (sym (fourth_rules version e))
+    (record {
+      address = h.address;
+      state = has_parts_in facts (form_of n.procedure) (role_of n.procedure) region n.state h.state;
+      place = placed_in_form (form_of n.procedure) region n n.state.relations.byte.address h.state.relations.byte.address;
+    })
+node_parts false version facts form_of region procedures before n e h =
+    record {
+      address = h.address;
+      state = has_parts (rules_of version) (role_of n.procedure) region n.state h.state;
+      place = placed_free (node_stack false (form_of n.procedure) region n) n.state.relations.byte.address h.state.relations.byte.address;
+    }
 
 -- ---- procedures
 
@@ -230,15 +270,15 @@ exit_parts : (rules : Rules) (region : Region) (o : Option AbsState) → IfSome 
 exit_parts rules region None h = tt
 exit_parts rules region (Some s) h = has_parts rules role.Exit region s h
 
-exit_parts_in : (facts kept : ℕ) (region : Region) (o : Option AbsState) → IfSome o (IsStateIn facts kept role.Exit region) → IfSome o (HasStateParts Extended role.Exit region)
-exit_parts_in facts kept region None h = tt
-exit_parts_in facts kept region (Some s) h = has_parts_in facts kept role.Exit region s h
+exit_parts_in : (facts : ℕ) (form : ProcedureForm) (region : Region) (o : Option AbsState) → IfSome o (IsStateIn facts form role.Exit region) → IfSome o (HasStateParts Extended role.Exit region)
+exit_parts_in facts form region None h = tt
+exit_parts_in facts form region (Some s) h = has_parts_in facts form role.Exit region s h
 
 procedure_parts : (fourth : Bool) (version facts : ℕ) (region : Region) (nodes : ℕ) (is_main : Bool) (p : ProcedureParts) → (version == 4) ≡ fourth
     → IsProcedureBy fourth version facts region nodes is_main p → HasProcedureParts (rules_of version) region is_main p
 procedure_parts true version facts region nodes is_main p e h =
     subst (λ r. HasProcedureParts r region is_main p) (sym (fourth_rules version e))
-    (record { base = h.base; room = h.room; ranges = h.ranges; exit = exit_parts_in facts (length p.kept) region p.exit h.exit })
+    (record { base = h.base; room = h.room; ranges = h.ranges; exit = exit_parts_in facts (procedure_form p) region p.exit h.exit })
 procedure_parts false version facts region nodes is_main p e h =
     record { base = h.base; room = h.room; ranges = h.ranges; exit = exit_parts (rules_of version) region p.exit h.exit }
 

@@ -26,11 +26,11 @@ use Rattle.gb_successors.specs.Below.gb_domain.declared.relations.Relations.{Rel
 use Rattle.gb_successors.specs.Below.gb_domain.declared.types.Cell.{Cell}
 use Rattle.gb_successors.specs.Below.gb_domain.declared.rules.Rules.TheVariants.{Simple}
 use Rattle.gb_successors.specs.Below.gb_domain.declared.types.Core.{Core}
-use Rattle.gb_successors.specs.Below.gb_domain.Areas.{meets}
+use Rattle.gb_successors.specs.Below.gb_domain.Areas.{meets, is_place_at}
 use Rattle.gb_successors.specs.Below.gb_domain.Limits.{rules_of}
 use Rattle.gb_successors.specs.Below.gb_relations.Meaning.{HoldRelations}
 use Rattle.gb_successors.specs.Below.gb_relations.Places.{is_ram, is_free}
-use Rattle.gb_successors.specs.Below.gb_relations.Sound.{IsByteFree}
+use Rattle.gb_successors.specs.Below.gb_relations.Sound.{IsBytePlaced}
 use Rattle.gb_successors.specs.Below.gb_product.Below.gb_summaries.Elsewhere.{AreFreeFacts, IsFree, IsLeft}
 use Rattle.gb_successors.specs.Below.gb_product.Below.gb_summaries.Meaning.{IsAside, HoldSummary}
 use Rattle.gb_successors.proofs.Below.gb_product_laws.Below.gb_summaries_laws.ElsewhereLaws.{stays_elsewhere}
@@ -48,7 +48,7 @@ use Rattle.gb_successors.specs.Below.gb_domain.Summaries.{SummaryParts, Program,
 use Rattle.gb_successors.specs.Below.gb_product.Meaning.{AreRelated, IsSummarized, Means}
 use Rattle.gb_successors.specs.Below.gb_abs.Meaning.{Activation, MeansCore, MeansParts, ime_may_be, is_located}
 use Rattle.gb_successors.specs.Below.gb_abs.Operations.{core_end, with_core}
-use Rattle.gb_successors.specs.Below.gb_abs.Stack.{pushed}
+use Rattle.gb_successors.specs.Below.gb_abs.Stack.{AreInRegion, pushed}
 use Rattle.gb_successors.specs.Below.gb_abs.Storage.{peek}
 use Rattle.gb_successors.proofs.Below.gb_abs_laws.OperationLaws.{Holds-single}
 use Rattle.gb_successors.proofs.Below.gb_abs_laws.StackLaws.{IsRegionOpen-bound, MeansParts-pushed, MeansParts-with_core}
@@ -73,6 +73,12 @@ use Rattle.gb_rules.proofs.NodeLaws.{IsNodeState-node, simple_at}
 use Rattle.gb_rules.proofs.RegionLaws.{fewer_bytes}
 use Rattle.gb_rules.proofs.WayLaws.{is_own, same_number, simply_leads}
 use Rattle.gb_rules.proofs.EventLaws.{IsSafeHappening, IsSafeEvent-where}
+use Rattle.gb_successors.specs.Below.gb_product.Held.{stack_held}
+use Rattle.gb_successors.specs.Below.gb_domain.declared.setting.Setting.{Setting}
+use Rattle.gb_successors.specs.Below.gb_domain.Settings.{IsBase}
+use Rattle.gb_calls.proofs.ResumingLaws.{place_above}
+use Rattle.gb_successors.proofs.Below.gb_relations_laws.AddressLaws.{placed-ram}
+use Rattle.gb_rules.specs.Rules.{setting_by}
 
 -- ---- where a dispatch is possible
 
@@ -217,8 +223,21 @@ HoldRelations-apart r x memory after f same h = record {
 not_so : {X : Type 0} → true ≡ false → X
 not_so h = cc
 
-free_at : (region : Region) (o : Option ℕ) (a : ℕ) → IsByteFree region o → o ≡ Some a → is_free region a ≡ true
-free_at region o a free e = subst (λ w. IsByteFree region w) e free
+-- a place isn't below the stack pointer, where the stack holds as much as the state says
+IsPlacedAt : Setting → Region → ℕ → ℕ → Type 0
+IsPlacedAt z region count a = is_place_at (stack_held z region count) a ≡ true
+
+placed_at : (z : Setting) (region : Region) (count : ℕ) (o : Option ℕ) (a : ℕ) → IsBytePlaced (stack_held z region count) o → o ≡ Some a → is_place_at (stack_held z region count) a ≡ true
+placed_at z region count o a place e = subst (λ w. IsBytePlaced (stack_held z region count) w) e place
+
+above_pointer : (z : Setting) (region : Region) (count a base sp : ℕ) → IsBase z base → sp + count ≡ base → is_place_at (stack_held z region count) a ≡ true → meets region a a ≡ true → sp ≤ a
+above_pointer z region count a base sp based top place m = let least = place_above z region count a base based place m in omega arith
+
+room_below : (region : Region) (base count sp : ℕ) → AreInRegion region base (count + 2) → sp + count ≡ base → AreInRegion region sp (0 + 2)
+room_below region base count sp room top = let first = room.first in let last = room.last in record { first = omega arith; last = omega arith }
+
+nothing_more : (n : ℕ) → n + 0 ≡ n
+nothing_more n = omega arith
 
 pub record IsDispatched (rom : List ℕ) (cert : Certificate) (n : Node) (entry : Activation) (base : ℕ) (x : MState) (i : ℕ) : Type 0 where
   pub located : is_located n.state ≡ true
@@ -260,13 +279,22 @@ is_dispatched rom cert n entry base x i at is_node certificate on set unlimited 
     passed_peek (stored (view rom x false) (write.Push x.processor.sp n.address)) 5 b
     ∙ done.others b p.0 (not_pushed cert.region base x.processor.sp (length n.state.items) (x.processor.sp - 1) b room top (inl refl) (λ m. not_so (sym m ∙ not-true _ p.1)))
     (not_pushed cert.region base x.processor.sp (length n.state.items) (x.processor.sp - 2) b room top (inr refl) (λ m. not_so (sym m ∙ not-true _ p.1))) in
+    let held : (b : ℕ) → n.state.relations.byte.address ≡ Some b → peek (left_by rom x i n.address).storage b ≡ peek x.storage b =
+    λ b e.
+    let place = placed_at (setting_of cert n.procedure) cert.region (length n.state.items) n.state.relations.byte.address b s.place e in
+    let above = above_pointer (setting_of cert n.procedure) cert.region (length n.state.items) b base x.processor.sp at.based top place in
+    let below = room_below cert.region base (length n.state.items) x.processor.sp room top in
+    passed_peek (stored (view rom x false) (write.Push x.processor.sp n.address)) 5 b
+    ∙ done.others b (placed-ram (stack_held (setting_of cert n.procedure) cert.region (length n.state.items)) b place)
+    (not_pushed cert.region x.processor.sp x.processor.sp 0 (x.processor.sp - 1) b below (nothing_more x.processor.sp) (inl refl) above)
+    (not_pushed cert.region x.processor.sp x.processor.sp 0 (x.processor.sp - 2) b below (nothing_more x.processor.sp) (inr refl) above) in
     record {
       located = located;
       means = dispatched_means n.state n.address entry base (left_by rom x i n.address) (subst (λ z. MeansParts z entry base (left_by rom x i n.address)) (pushed_ended n.state n.address)
           (MeansParts-related n.state.relations (ended false 5 (pushed (known_word n.address) (with_core n.state (masked n.state.core)))) entry base (left_by rom x i n.address)
           (MeansParts-ended rom (pushed (known_word n.address) (with_core n.state (masked n.state.core))) entry base (left_by rom x i n.address).processor (stored (view rom x false) (write.Push x.processor.sp n.address)) false 5 done.starting done.means)))
           (HoldRelations-apart n.state.relations x.processor.registers (peek x.storage) (peek (left_by rom x i n.address).storage) x.processor.flags
-          (λ b e. left b (free_at cert.region n.state.relations.byte.address b s.free e))
+          held
           at.means.related)
           (IsSummarized-dispatched rom cert.region n.state entry x i n.address facts s.apart on
           (passed_banks (stored (view rom x false) (write.Push x.processor.sp n.address)) 5 ∙ done.banks) left at.means.summary);
@@ -306,7 +334,7 @@ left_is a s = refl
 abbrev pub GoesOn : Program → Certificate → Node → ℕ → Type 0
 GoesOn program cert n q =
     (exit : AbsState) → exit_of cert q ≡ Some exit
-    → IfSome (resumed program Simple (setting_of cert n.procedure).is_whole (taken_by cert q) (ranges_of cert q) (kept_of cert q) (left_by_dispatch Simple n.address n.state) exit) (λ after. covered_at program Simple cert n.procedure n.address after ≡ true)
+    → IfSome (resumed program (setting_by Simple cert n.procedure) cert.region (taken_by cert q) (ranges_of cert q) (kept_of cert q) (left_by_dispatch Simple n.address n.state) exit) (λ after. covered_at program Simple cert n.procedure n.address after ≡ true)
 
 handled : (rom : List ℕ) (cert : Certificate) (n : Node) (entry : Activation) (base : ℕ) (x : MState) (i q : ℕ) → IsAt rom cert n entry base x → Contains cert.nodes n → IsCertificate cert → rules_of cert.version ≡ Simple
     → IsDispatched rom cert n entry base x i → x.processor.halt_mark ≡ false → n.state.core.stack_set ≡ true → handler_of entry.program cert (simple_at cert n) i n.address n.state ≡ Some q
@@ -331,15 +359,15 @@ handled rom cert n entry base x i q at is_node certificate simple d mark set han
       is_node = Contains-slice_get cert.nodes callee.procedure.entry begin.node begin.is_node;
       not_main = subst (λ m. 0 < m) (sym number) callee.not_main;
       address = sym begin.address;
-      begins = subst (λ ks. covers entry.program (entered_by entry.program Simple (length begin.node.state.items) ks (dispatched n.state)) begin.node.state ≡ true)
+      begins = subst (λ ks. covers entry.program (entered_by entry.program cert.region Simple (length begin.node.state.items) ks (dispatched n.state)) begin.node.state ≡ true)
           (sym (ap (kept_of cert) number ∙ kept_is cert q callee.procedure callee.is_procedure)) begin.covering;
       mark = mark;
       depth = subst (λ items. length items + 2 + need_of cert begin.node.procedure ≤ need_of cert n.procedure) (sym (dispatched_items n.state))
           (subst (λ m. length n.state.items + 2 + need_of cert m ≤ need_of cert n.procedure) (sym number) depth);
       inside = subst (λ m. are_ranges_inside (ranges_of cert m) (ranges_of cert n.procedure) ≡ true) (sym number) inside;
       resumes = λ exit is.
-          subst (λ m. IfSome (resumed entry.program Simple (setting_of cert n.procedure).is_whole (taken_by cert m) (ranges_of cert m) (kept_of cert m) (dispatched n.state) exit) (λ after. covered_at entry.program Simple cert n.procedure n.address after ≡ true)) (sym number)
-          (subst (λ (s : AbsState). IfSome (resumed entry.program Simple (setting_of cert n.procedure).is_whole (taken_by cert q) (ranges_of cert q) (kept_of cert q) s exit) (λ after. covered_at entry.program Simple cert n.procedure n.address after ≡ true)) (left_is n.address n.state)
+          subst (λ m. IfSome (resumed entry.program (setting_by Simple cert n.procedure) cert.region (taken_by cert m) (ranges_of cert m) (kept_of cert m) (dispatched n.state) exit) (λ after. covered_at entry.program Simple cert n.procedure n.address after ≡ true)) (sym number)
+          (subst (λ (s : AbsState). IfSome (resumed entry.program (setting_by Simple cert n.procedure) cert.region (taken_by cert q) (ranges_of cert q) (kept_of cert q) s exit) (λ after. covered_at entry.program Simple cert n.procedure n.address after ≡ true)) (left_is n.address n.state)
           (resumes exit (subst (λ m. exit_of cert m ≡ Some exit) number is)));
     }
 

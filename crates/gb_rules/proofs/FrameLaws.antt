@@ -19,7 +19,7 @@ use Rattle.gb_successors.proofs.Below.gb_product_laws.CoveringLaws.{Means-covere
 use Rattle.gb_successors.proofs.Below.gb_abs_laws.StorageLaws.{region_in_ram}
 use Rattle.gb_successors.specs.Below.gb_abs_memory.Kept.{keeps, keeps_by, IsKept}
 use Rattle.gb_calls.specs.Calls.{entered_by, are_ranges_inside}
-use Rattle.gb_calls.specs.Resuming.{resumed_alone, resumed}
+use Rattle.gb_calls.specs.Resuming.{resumed_alone, resumed_by, resumed}
 use Rattle.std.specs.Prelude.{◌==◌}
 use Rattle.gb_calls.specs.Sound.{without_word, ComesBack}
 use Rattle.gb_calls.proofs.EnteringLaws.{Means-entered}
@@ -37,6 +37,7 @@ use Rattle.gb_rules.specs.Frames.{Keeps, Frame, IsWaiting, AreWaiting, Stands}
 use Rattle.gb_rules.proofs.CoveringLaws.{IsFoundAt, covered_items, found_at}
 use Rattle.gb_rules.proofs.ProcedureLaws.{based_setting, HasReturnWord-simply, return_word_of, ranges_apart, apart_outside, exit_state, exit_located, exit_items}
 use Rattle.gb_rules.proofs.CallLaws.{sp_pushed, Means-without_word, pushed_word, region_end}
+use Rattle.gb_ops.specs.declared.machine.Region.{Region}
 
 -- ---- what is kept
 
@@ -91,16 +92,16 @@ caller_means cert procedure entry base t c p = Means-without_word (known_word c.
 -- ---- a frame is put on
 
 -- by the rules of versions 1 and 2 the callee begins with nothing
-no_items : (program : Program) (k : ℕ) (kept : List ℕ) (s : AbsState) (n : Node) → covers program (entered_by program Simple k kept s) n.state ≡ true → length n.state.items ≡ 0
+no_items : (program : Program) (region : Region) (k : ℕ) (kept : List ℕ) (s : AbsState) (n : Node) → covers program (entered_by program region Simple k kept s) n.state ≡ true → length n.state.items ≡ 0
 unfolding entered_by
-no_items program k kept s n h = covered_items program (entered_by program Simple k kept s) n.state h
+no_items program region k kept s n h = covered_items program (entered_by program region Simple k kept s) n.state h
 
 -- the callee stands at its entry, and was entered just now
 IsAt-called : (rom : List ℕ) (cert : Certificate) (procedure : ℕ) (entry : Activation) (base : ℕ) (t : MState) → IsCertificate cert → rules_of cert.version ≡ Simple → entry.program ≡ program_of rom cert
     → (c : Calls cert procedure entry base t) → IsPlacedCall cert procedure entry base t c → IsAt rom cert c.node (begun rom cert c.node.procedure t.processor.sp t) t.processor.sp t
 IsAt-called rom cert procedure entry base t certificate simple program c p =
     let small : t.processor.sp < 65536 = (let h = p.small in omega arith) in
-    let none = no_items entry.program (length c.node.state.items) (kept_of cert c.node.procedure) c.state c.node c.begins in
+    let none = no_items entry.program cert.region (length c.node.state.items) (kept_of cert c.node.procedure) c.state c.node c.begins in
     let some = c.not_main in
     let first = p.callee_room.first in
     let last = p.callee_room.last in
@@ -108,9 +109,9 @@ IsAt-called rom cert procedure entry base t certificate simple program c p =
       address = c.address;
       program = refl;
       names = record { kept = refl; mark = refl };
-      means = Means-covered (entered_by (program_of rom cert) Simple (length c.node.state.items) (kept_of cert c.node.procedure) c.state) c.node.state (begun rom cert c.node.procedure t.processor.sp t) t.processor.sp t
-          (subst (λ q. covers q (entered_by q Simple (length c.node.state.items) (kept_of cert c.node.procedure) c.state) c.node.state ≡ true) program c.begins)
-          (Means-entered (program_of rom cert) (length c.node.state.items) (kept_of cert c.node.procedure) c.state entry base (begun rom cert c.node.procedure t.processor.sp t) program refl refl (caller_means cert procedure entry base t c p) small);
+      means = Means-covered (entered_by (program_of rom cert) cert.region Simple (length c.node.state.items) (kept_of cert c.node.procedure) c.state) c.node.state (begun rom cert c.node.procedure t.processor.sp t) t.processor.sp t
+          (subst (λ q. covers q (entered_by q cert.region Simple (length c.node.state.items) (kept_of cert c.node.procedure) c.state) c.node.state ≡ true) program c.begins)
+          (Means-entered (program_of rom cert) cert.region (length c.node.state.items) (kept_of cert c.node.procedure) c.state entry base (begun rom cert c.node.procedure t.processor.sp t) program refl refl (caller_means cert procedure entry base t c p) small);
       mark = inl c.mark;
       main = λ e. absurd (omega arith);
       based = based_setting cert c.node.procedure t.processor.sp certificate simple (λ e. absurd (omega arith));
@@ -230,7 +231,7 @@ comes_back rom cert f procedure entry base s t certificate simple program w befo
 -- the state that the caller goes on with is covered at the address behind the call
 is_resumed : (cert : Certificate) (f : Frame) (procedure : ℕ) (entry : Activation) (base : ℕ) (exit : AbsState) → (w : IsWaiting cert f procedure entry base) → exit_of cert procedure ≡ Some exit
     → covered_at f.entry.program Simple cert f.procedure w.calls.back (resumed_alone (ranges_of cert procedure) w.calls.state exit) ≡ true
-unfolding resumed
+unfolding resumed_by
 is_resumed cert f procedure entry base exit w is =
     subst (λ n. covered_at f.entry.program Simple cert f.procedure w.calls.back (resumed_alone (ranges_of cert n) w.calls.state exit) ≡ true) w.callee
     (w.calls.resumes exit (ap (exit_of cert) w.callee ∙ is))

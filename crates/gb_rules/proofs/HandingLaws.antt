@@ -11,12 +11,12 @@ use Rattle.gb_successors.specs.Below.gb_domain.Summaries.{Program}
 use Rattle.gb_successors.specs.Below.gb_domain.Types.{AbsState}
 use Rattle.gb_successors.specs.Below.gb_domain.Certificate.{Certificate}
 use Rattle.gb_successors.specs.Below.gb_domain.Limits.{rules_of}
-use Rattle.gb_successors.specs.Below.gb_domain.Settings.{IsBase}
+use Rattle.gb_successors.specs.Below.gb_domain.Settings.{known_base, IsBase}
 use Rattle.gb_calls.specs.Below.gb_states.declared.role.Role.TheVariants as role
 use Rattle.gb_calls.specs.Below.gb_states.WholeRules.{IsCertificate}
 use Rattle.gb_successors.specs.Below.gb_abs.Stack.{AreInRegion}
 use Rattle.gb_successors.specs.Below.gb_product.Covering.{covers}
-use Rattle.gb_successors.specs.Below.gb_product.Meaning.{Means}
+use Rattle.gb_successors.specs.Below.gb_product.Meaning.{Means, IsApart}
 use Rattle.gb_successors.proofs.Below.gb_product_laws.CoveringLaws.{Means-covered}
 use Rattle.gb_successors.proofs.Below.gb_product_laws.MeaningLaws.{AreBytes-core}
 use Rattle.gb_successors.specs.Below.gb_abs_memory.Kept.{keeps, keeps_by, IsKept}
@@ -39,6 +39,10 @@ use Rattle.gb_rules.proofs.FrameLaws.{Keeps-none, Keeps-then, waiting_by, waitin
 use Rattle.gb_successors.specs.Below.gb_product.Below.gb_summaries.Elsewhere.{AreFreeFacts}
 use Rattle.gb_rules.proofs.CertificateLaws.{HasStateParts}
 use Rattle.gb_rules.proofs.ProgramLaws.{is_program}
+use Rattle.gb_successors.specs.Below.gb_domain.declared.setting.Setting.{Setting}
+use Rattle.gb_successors.specs.Below.gb_product.Held.{stack_held}
+use Rattle.gb_ops.specs.declared.machine.Region.{Region}
+use Rattle.gb_rules.specs.Rules.{setting_by}
 
 -- ---- who keeps something
 
@@ -60,10 +64,10 @@ who_keeps cert procedure extended h = other procedure (subst (λ (r : Rules). ke
 -- ---- a frame is put on
 
 -- how many items a callee begins with
-items_begun : (program : Program) (k : ℕ) (kept : List ℕ) (s t : AbsState) → k ≤ length s.items → covers program (entered_by program Extended k kept s) t ≡ true → length t.items ≡ k
+items_begun : (program : Program) (region : Region) (k : ℕ) (kept : List ℕ) (s t : AbsState) → k ≤ length s.items → covers program (entered_by program region Extended k kept s) t ≡ true → length t.items ≡ k
 unfolding entered_by
-items_begun program k kept s t few h =
-    let same = covered_items program (entered_by program Extended k kept s) t h in
+items_begun program region k kept s t few h =
+    let same = covered_items program (entered_by program region Extended k kept s) t h in
     let pointer = taken_over-pointer k s.items 0 (length s.items) few (none (length s.items)) in
     let least = few in
     omega arith
@@ -84,7 +88,7 @@ placed_above : (cert : Certificate) (procedure : ℕ) (entry : Activation) (base
     → IsPlacedAbove cert procedure entry base t h
 placed_above cert procedure entry base t room h =
     let p = in_region cert.region.first cert.region.last base (need_of cert procedure) (taken_by cert h.node.procedure) (length h.state.items) (need_of cert h.node.procedure) (length h.node.state.items)
-    room.first room.last h.held.first h.few h.depth (items_begun entry.program (taken_by cert h.node.procedure) (kept_of cert h.node.procedure) h.state h.node.state h.few h.begins) in
+    room.first room.last h.held.first h.few h.depth (items_begun entry.program cert.region (taken_by cert h.node.procedure) (kept_of cert h.node.procedure) h.state h.node.state h.few h.begins) in
     record { room = record { first = p.0; last = p.1.1 }; held = record { first = p.1.0; last = p.1.1 } }
 
 is_called : (cert : Certificate) (procedure : ℕ) (entry : Activation) (base : ℕ) (t : MState) (h : HandsOver cert procedure entry base t) → IsCalled (taken_by cert h.node.procedure) h.state entry base t
@@ -101,9 +105,9 @@ IsAt-handed rom cert procedure entry base t extended program h p =
       address = h.address;
       program = refl;
       names = record { kept = refl; mark = refl };
-      means = Means-covered (entered_by (program_of rom cert) Extended k kept h.state) h.node.state (begun rom cert h.node.procedure (base_below k h.state.items base) t) (base_below k h.state.items base) t
-          (subst (λ q. covers q (entered_by q Extended k kept h.state) h.node.state ≡ true) program h.begins)
-          (Means-taken_over (program_of rom cert) k kept h.state entry base (begun rom cert h.node.procedure (base_below k h.state.items base) t) program refl refl (is_called cert procedure entry base t h));
+      means = Means-covered (entered_by (program_of rom cert) cert.region Extended k kept h.state) h.node.state (begun rom cert h.node.procedure (base_below k h.state.items base) t) (base_below k h.state.items base) t
+          (subst (λ q. covers q (entered_by q cert.region Extended k kept h.state) h.node.state ≡ true) program h.begins)
+          (Means-taken_over (program_of rom cert) cert.region k kept h.state entry base (begun rom cert h.node.procedure (base_below k h.state.items base) t) program refl refl (is_called cert procedure entry base t h));
       mark = inl h.mark;
       main = λ e. absurd (omega arith);
       based = h.based;
@@ -155,11 +159,20 @@ Keeps-below cert f procedure above base s t extended w keeps =
           (subst (λ n. are_ranges_inside (ranges_of cert n) (ranges_of cert f.procedure) ≡ true) w.callee (w.calls.inside (who_keeps cert f.procedure extended k.procedure))) lower k);
     }
 
+-- the rules leave where its items lie
+apart_widely : (z : Setting) (region : Region) (s : AbsState) → IsApart z region s → IsApart (record z { rules = Extended }) region s
+unfolding stack_held
+apart_widely z region s h = record { cells = h.cells; byte = h.byte; summary = h.summary }
+
+based_widely : (z : Setting) (base : ℕ) → IsBase z base → IsBase (record z { rules = Extended }) base
+unfolding known_base
+based_widely z base h = h
+
 -- the callee has come back
 hands_back : (rom : List ℕ) (cert : Certificate) (f : Frame) (procedure : ℕ) (entry : Activation) (base : ℕ) (s t : MState) → IsCertificate cert → rules_of cert.version ≡ Extended
     → entry.program ≡ program_of rom cert → entry.kept ≡ kept_of cert procedure → (w : IsWaitingAbove cert f procedure entry base) → Keeps cert procedure base entry.entered s
     → (r : GoesBack cert procedure entry base t) → Keeps cert procedure base s t
-    → HandsBack f.entry.program (taken_by cert procedure) cert.region (ranges_of cert procedure) (kept_of cert procedure) w.calls.state r.exit f.entry f.base entry t
+    → HandsBack f.entry.program (setting_by Extended cert f.procedure) (taken_by cert procedure) cert.region (ranges_of cert procedure) (kept_of cert procedure) w.calls.state r.exit f.entry f.base entry t
 hands_back rom cert f procedure entry base s t certificate extended program names w before r keeps =
     let c = w.calls in
     let exit = exit_state cert procedure r.exit certificate r.is_exit in
@@ -167,7 +180,8 @@ hands_back rom cert f procedure entry base s t certificate extended program name
     record {
       is_region = certificate.region;
       apart = ranges_apart cert procedure certificate;
-      placed = c.placed;
+      placed = apart_widely (setting_of cert f.procedure) cert.region c.state c.placed;
+      based = based_widely (setting_of cert f.procedure) f.base w.based;
       room = c.held;
       begins = subst (λ n. IsCalled (taken_by cert n) c.state f.entry f.base entry.entered) w.callee (is_called cert f.procedure f.entry f.base entry.entered c);
       callee = setting_of cert procedure;
@@ -202,16 +216,16 @@ goes_on rom cert f procedure entry base s t certificate extended program names w
     let c = w.calls in
     let k = taken_by cert procedure in
     let exit : HasStateParts Extended role.Exit cert.region r.exit = subst (λ q. HasStateParts q role.Exit cert.region r.exit) extended (exit_state cert procedure r.exit certificate r.is_exit) in
-    let pairs = exit.relations.pairs in
+    let pairs = exit.pairs in
     let back = hands_back rom cert f procedure entry base s t certificate extended program names w before r keeps in
-    let z = setting_of cert f.procedure in
+    let z = setting_by Extended cert f.procedure in
     let kept = kept_of cert procedure in
-    let resumes : IfSome (resumed f.entry.program Extended z.is_whole k (ranges_of cert procedure) kept c.state r.exit) (λ after. covered_at f.entry.program Extended cert f.procedure c.back after ≡ true) =
-    subst (λ n. IfSome (resumed f.entry.program Extended (setting_of cert f.procedure).is_whole (taken_by cert n) (ranges_of cert n) (kept_of cert n) c.state r.exit) (λ after. covered_at f.entry.program Extended cert f.procedure c.back after ≡ true)) w.callee
+    let resumes : IfSome (resumed f.entry.program z cert.region k (ranges_of cert procedure) kept c.state r.exit) (λ after. covered_at f.entry.program Extended cert f.procedure c.back after ≡ true) =
+    subst (λ n. IfSome (resumed f.entry.program z cert.region (taken_by cert n) (ranges_of cert n) (kept_of cert n) c.state r.exit) (λ after. covered_at f.entry.program Extended cert f.procedure c.back after ≡ true)) w.callee
     (c.resumes r.exit (ap (exit_of cert) w.callee ∙ r.is_exit)) in
-    found_if cert f.procedure c.back k c.state r.exit f.entry entry base t (resumed f.entry.program Extended z.is_whole k (ranges_of cert procedure) kept c.state r.exit) exit r.means f.base
-    (Means-resumed f.entry.program Extended z.is_whole k cert.region (ranges_of cert procedure) kept c.state r.exit f.entry f.base entry t c.pairs pairs back) resumes
-    (IsGivenBack-resumed f.entry.program z.is_whole k (ranges_of cert procedure) kept c.state r.exit c.pairs pairs)
+    found_if cert f.procedure c.back k c.state r.exit f.entry entry base t (resumed f.entry.program z cert.region k (ranges_of cert procedure) kept c.state r.exit) exit r.means f.base
+    (Means-resumed f.entry.program Extended z k cert.region (ranges_of cert procedure) kept c.state r.exit f.entry f.base entry t c.pairs pairs back) resumes
+    (IsGivenBack-resumed f.entry.program z cert.region k (ranges_of cert procedure) kept c.state r.exit c.pairs pairs)
 
 -- what it holds lies in the region
 given_back_room : (cert : Certificate) (f : Frame) (procedure : ℕ) (entry : Activation) (base : ℕ) (t : MState) → IsCertificate cert → (w : IsWaitingAbove cert f procedure entry base)

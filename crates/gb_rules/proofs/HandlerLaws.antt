@@ -1,5 +1,5 @@
 -- An interrupt's dispatch by the rules of version 3: its handler takes over, or without one the procedure goes on at the vector.
-use Rattle.std.proofs.Common.{◌≡◌, ℕ, ◌+◌, ◌≤◌, Bool, true, false, cond, ◌&&◌, nat_lt, ◌∷◌, [], List, length, Option, Some, None, refl, sym, ◌∙◌, ap, subst, arith, length-append}
+use Rattle.std.proofs.Common.{◌≡◌, ℕ, ◌+◌, ◌≤◌, Bool, true, false, cond, ◌&&◌, nat_lt, ◌∷◌, [], List, length, Option, Some, None, refl, sym, ◌∙◌, ap, subst, arith, length-append, ◌||◌, nat_le, not}
 use Rattle.std.proofs.lemmas.Bool.{not-false, or_parts}
 use Rattle.std.proofs.lemmas.Bool.Decides.{nat_tests}
 use Rattle.std.specs.List.{Contains}
@@ -21,7 +21,7 @@ use Rattle.gb_successors.specs.Below.gb_abs.Operations.{core_settle}
 use Rattle.gb_successors.proofs.Below.gb_abs_laws.OperationLaws.{MeansCore-settle, moved}
 use Rattle.gb_successors.specs.Below.gb_abs.Stack.{AreInRegion, pushed}
 use Rattle.gb_successors.specs.Below.gb_abs.Storage.{peek}
-use Rattle.gb_successors.specs.Below.gb_relations.Sound.{IsByteFree}
+use Rattle.gb_successors.specs.Below.gb_relations.Sound.{IsBytePlaced}
 use Rattle.gb_successors.specs.Below.gb_product.Meaning.{Means}
 use Rattle.gb_successors.specs.Below.gb_product.declared.parts.Product.{Product}
 use Rattle.gb_successors.specs.Below.gb_product.Reduced.{reduced}
@@ -46,6 +46,8 @@ use Rattle.gb_rules.proofs.DispatchLaws.{is_called, may_come-possible, mark_clea
 use Rattle.gb_rules.proofs.ReachingLaws.{IsCalling, LeadsBy-called}
 use Rattle.gb_ops.specs.declared.machine.Region.{Region}
 use Rattle.gb_successors.specs.Below.gb_product.Below.gb_summaries.Elsewhere.{IsFree}
+use Rattle.gb_successors.specs.Below.gb_product.Held.{stack_held}
+use Rattle.gb_successors.specs.Below.gb_domain.Areas.{are_in_ram, is_item, meets}
 
 -- ---- where something is meant
 
@@ -142,6 +144,20 @@ is_ready program cert n i o handled deep =
 
 -- ---- where the machine is then
 
+item_more : (base count a : ℕ) → is_item base count a ≡ true → is_item base (count + 2) a ≡ true
+item_more base count a h = grind (arith, nat_tests)
+
+or_more : (base count a : ℕ) (area apart : Bool) → (area && (apart || is_item base count a)) ≡ true → (area && (apart || is_item base (count + 2) a)) ≡ true
+or_more base count a true true h = refl
+or_more base count a true false h = item_more base count a h
+or_more base count a false apart h = h
+
+-- what was an item is one still where two bytes more are held
+placed_more : (z : Setting) (region : Region) (count : ℕ) (o : Option ℕ) → IsBytePlaced (stack_held z region count) o → IsBytePlaced (stack_held z region (count + 2)) o
+unfolding stack_held
+placed_more z region count None h = tt
+placed_more z region count (Some a) h = or_more (cond z.is_whole z.base 0) count a (nat_le a a && are_in_ram a a) (not (meets region a a)) h
+
 is_calling : (rom : List ℕ) (cert : Certificate) (n : Node) (entry : Activation) (base : ℕ) (x : MState) (i : ℕ) (o : Option ℕ) → IsAt rom cert n entry base x → IsNodeState cert n → IsReady entry.program cert n i o
     → IsDispatched rom cert n entry base x i → x.processor.halt_mark ≡ false → IsCalling cert n.procedure (vector i) n.address (left_at n) entry base (left_by rom x i n.address)
 is_calling rom cert n entry base x i o at s ready d mark =
@@ -160,7 +176,9 @@ is_calling rom cert n entry base x i o at s ready d mark =
       located = left_set n ∙ d.located;
       placed = record {
         cells = subst (λ cells. ArePlaced cert.region cells) (sym (left_cells n)) s.placed;
-        byte = subst (λ r. IsByteFree cert.region r.byte.address) related s.free;
+        byte = subst (λ r. IsBytePlaced (stack_held (setting_of cert n.procedure) cert.region (length (left_at n).items)) r.byte.address) related
+            (subst (λ m. IsBytePlaced (stack_held (setting_of cert n.procedure) cert.region m) n.state.relations.byte.address) (sym (left_count n))
+            (placed_more (setting_of cert n.procedure) cert.region (length n.state.items) n.state.relations.byte.address s.place));
         summary = left_apart cert.region n s.apart;
       };
       back_small = s.address;

@@ -24,11 +24,13 @@ use Rattle.gb_successors.specs.Below.gb_product.Sides.{taken_side}
 use Rattle.gb_successors.specs.Way.{Successor}
 use Rattle.gb_successors.specs.declared.stacks.Stack.{Stack}
 use Rattle.gb_successors.specs.declared.successors.Successors.{Successors}
-use Rattle.gb_successors.specs.Successors.{memory_before, product_before, taken_successor, reduced_successor, taken_from, not_taken_from, stays, successors_of, has, any_successor}
+use Rattle.gb_successors.specs.Successors.{memory_before, product_before, settled_way, taken_by_side, taken_successor, reduced_successor, taken_from, not_taken_from, stays, successors_of, has, any_successor}
 use Rattle.gb_rules.specs.Procedures.{need_of, setting_of, stack_of, program_of}
 use Rattle.gb_rules.specs.Rules.{node_setting, calls_too_deep, handles_too_deep, is_dispatch_limited, is_possible, moves_too_deep, moves_alone_too_deep, taken_too_deep, ways_of, any_of, grows_too_deep, stores_outside, meets_ram, meets_transfer, leads_anywhere, leads_uncovered, calls_wrongly, returns_wrongly, applies_to_row, way_reasons}
 use Rattle.gb_rules.specs.Lowest.{lower, lowest, lowest_in, behind, applies_to_way, applies_to_taken, applies_alone}
 use Rattle.gb_successors.specs.Below.gb_domain.Summaries.{Program}
+use Rattle.gb_successors.specs.Settled.{branch_outside, told_by, told_successor, held_way}
+use Rattle.gb_successors.specs.Below.gb_domain.declared.types.Cell.{Cell}
 
 -- ---- the first of reasons that ascend
 
@@ -354,15 +356,27 @@ lowest_of_ways rom cert n row k s p stack state before =
     (subst (IsLowest rom cert n row k) (sym (before ∙ ap (product_before k.setting.rules) state))
     (subst (λ m. IsLowest rom cert n row m (product_before m.setting.rules n.state)) (sym stack) (lowest-before rom cert n row)))
 
+-- the side that is taken, as far as something is meant
+abbrev side_way : Stack → Core → Option Cell → Successor → Option Successor
+side_way k core cell t = held_way k.setting.rules k (reduced_successor k.setting.rules (told_successor (told_by k.setting.rules k cell) core t))
+
+settled_side : (k : Stack) (core : Core) (cell : Option Cell) (t : Successor) → side_way k core cell t ≡ settled_way k cell core t
+unfolding settled_way
+settled_side k core cell t = refl
+
 -- a successor on the side that is given
 pub taken_on_side : (test : Successor → Reason → Bool) (program q : Program) (rom : List ℕ) (row : Row) (k : Stack) (s : AbsState) (p : Product)
     (next at : ℕ) (memory : Val) (o : Option Branch) (b : Branch) (t : Successor)
-    → q ≡ program → next ≡ at → memory ≡ memory_before q s p → o ≡ taken_side row.op memory p.core p.relations → o ≡ Some b → t ≡ taken_successor k q rom row next s b
-    → lowest_in test (reduced_successor k.setting.rules t) ≡ lowest_in test (taken_from k program rom row at s p)
+    → q ≡ program → next ≡ at → memory ≡ memory_before k q s p → o ≡ taken_side row.op memory p.core p.relations → o ≡ Some b
+    → t ≡ told_successor (told_by k.setting.rules k b.cell) s.core (taken_successor k q rom row next s (branch_outside k.region b))
+    → lowest_in test (held_way k.setting.rules k (reduced_successor k.setting.rules t)) ≡ lowest_in test (taken_from k program rom row at s p)
 taken_on_side test program q rom row k s p next at memory o b t same place known is some e =
-    ap (λ u. lowest_in test (reduced_successor k.setting.rules u)) (e ∙ (ap (λ r. taken_successor k r rom row next s b) same ∙ ap (λ a. taken_successor k program rom row a s b) place))
-    ∙ ap (λ w. lowest_in test (option_and_then (λ c. reduced_successor k.setting.rules (taken_successor k program rom row at s c)) w))
-    (sym some ∙ is ∙ ap (λ m. taken_side row.op m p.core p.relations) (known ∙ ap (λ r. memory_before r s p) same))
+    ap (λ u. lowest_in test (held_way k.setting.rules k (reduced_successor k.setting.rules u))) e
+    ∙ (ap (λ r. lowest_in test (side_way k s.core b.cell (taken_successor k r rom row next s (branch_outside k.region b)))) same
+    ∙ ap (λ a. lowest_in test (side_way k s.core b.cell (taken_successor k program rom row a s (branch_outside k.region b)))) place)
+    ∙ ap (lowest_in test) (settled_side k s.core b.cell (taken_successor k program rom row at s (branch_outside k.region b)))
+    ∙ ap (λ w. lowest_in test (option_and_then (taken_by_side k program rom row at s) w))
+    (sym some ∙ is ∙ ap (λ m. taken_side row.op m p.core p.relations) (known ∙ ap (λ r. memory_before k r s p) same))
 
 -- ---- what is meant before the instruction
 

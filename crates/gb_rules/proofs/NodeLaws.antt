@@ -18,20 +18,19 @@ use Rattle.gb_successors.specs.Below.gb_domain.declared.types.Val.{Val}
 use Rattle.gb_successors.specs.Below.gb_domain.declared.rules.Rules.{Rules}
 use Rattle.gb_successors.specs.Below.gb_domain.declared.rules.Rules.TheVariants.{Simple, Extended}
 use Rattle.gb_successors.specs.Below.gb_domain.declared.setting.Setting.{Setting}
-use Rattle.gb_successors.specs.Below.gb_domain.Areas.{is_free_byte}
 use Rattle.gb_successors.specs.Below.gb_domain.Limits.{rules_of, item_room}
 use Rattle.gb_successors.specs.Below.gb_domain.Summaries.{Program, no_summary, SummaryParts}
 use Rattle.gb_successors.specs.Below.gb_product.Below.gb_summaries.Elsewhere.{IsFree}
 use Rattle.gb_successors.proofs.Below.gb_abs_laws.LocationLaws.{is_located-of}
-use Rattle.gb_rules.proofs.CertificateLaws.{free_from, HasStateParts, node_parts}
-use Rattle.gb_successors.specs.Below.gb_domain.Types.{AbsState, Node}
+use Rattle.gb_rules.proofs.CertificateLaws.{node_stack, HasStateParts, node_parts}
+use Rattle.gb_successors.specs.Below.gb_domain.Types.{ProcedureParts, AbsState, Node}
 use Rattle.gb_successors.specs.Below.gb_domain.Certificate.{Certificate}
 use Rattle.gb_successors.specs.Below.gb_domain.Areas.{IsRegion}
 use Rattle.gb_successors.specs.Below.gb_domain.Pairs.{ArePairs}
 use Rattle.gb_successors.specs.Below.gb_domain.Settings.{IsBase}
 use Rattle.gb_successors.specs.Below.gb_domain.Rules.{IsVal, IsChain, IsCore}
 use Rattle.gb_calls.specs.Below.gb_states.Rules.{key, role_of, needs_stack}
-use Rattle.gb_calls.specs.Below.gb_states.WholeRules.{kept_of as declared_by, kept_counts, IsNodeBy, IsCertificate}
+use Rattle.gb_calls.specs.Below.gb_states.WholeRules.{form_in, procedure_forms, IsNodeBy, IsCertificate}
 use Rattle.gb_successors.specs.Below.gb_abs.Cells.{ArePlaced}
 use Rattle.gb_successors.specs.Below.gb_abs.Stack.{AreInRegion}
 use Rattle.gb_successors.specs.Below.gb_abs_effects.declared.targets.Target.{Target}
@@ -51,7 +50,7 @@ use Rattle.gb_successors.specs.Way.{Successor}
 use Rattle.gb_successors.specs.declared.successors.Successors.{Successors}
 use Rattle.gb_successors.specs.Successors.{has, any_successor, product_before}
 use Rattle.gb_successors.specs.Below.gb_product.Reduced.{reduced}
-use Rattle.gb_successors.specs.Below.gb_relations.Sound.{IsByteFree}
+use Rattle.gb_successors.specs.Below.gb_relations.Sound.{IsBytePlaced}
 use Rattle.gb_successors.specs.Refused.{is_unstorable, meets_closed, is_stack_limited, meets_oam_transfer, is_unknown}
 use Rattle.gb_successors.specs.Sound.{IsOneOf, is_followed, IsAllowed, IsFound, IsStackKnown, IsStackRuled, IsStackFree, IsStackFit, IsPushable, IsPoppable, IsReturnable, IsRuled}
 use Rattle.gb_calls.specs.Calls.{callee_of, are_ranges_inside}
@@ -64,8 +63,11 @@ use Rattle.gb_rules.proofs.RegionLaws.{fewer_bytes}
 use Rattle.gb_rules.proofs.TargetLaws.{way_followed}
 use Rattle.gb_rules.specs.Safety.{HasReturnWord}
 use Rattle.std.specs.Option.{IfSome, is_some}
-use Rattle.gb_rules.specs.Procedures.{ranges_of, kept_of, need_of, setting_of, stack_of, program_of, exit_of, taken_by}
+use Rattle.gb_rules.specs.Procedures.{base_in, ranges_of, kept_of, need_of, setting_of, stack_of, program_of, exit_of, taken_by}
 use Rattle.gb_rules.specs.Rules.{is_stop, may_read_twice, breaks_simple_stack, breaks_stack_by, breaks_stack, pushes_too_deep, moves_too_deep, is_code_limited, callee_by, callee_at, is_over, calls_too_deep, is_resumed_uncovered, is_uncovered_if, is_uncovered, is_outside_of, is_uncallable_at, is_uncallable, is_exit_missed, is_unreturnable_at, is_unreturnable, interrupts, any_interrupt, is_dispatch_deep, handles_too_deep, is_dispatch_limited, is_unhandled, lacks_handler, test_row, test_instruction, is_undefined, node_bytes, ways_of, any_of, is_possible, grows_too_deep, stores_outside, meets_ram, meets_transfer, leads_anywhere, leads_uncovered, calls_wrongly, returns_wrongly, applies_to_row, applies, reasons, reason_of}
+use Rattle.gb_successors.specs.Below.gb_domain.declared.places.StackBytes.{StackBytes}
+use Rattle.gb_successors.specs.Below.gb_product.Held.{stack_held}
+use Rattle.gb_rules.specs.Rules.{setting_by}
 
 -- ---- a node of a certificate is one of its grammar
 
@@ -85,8 +87,7 @@ pub record IsNodeState (cert : Certificate) (n : Node) : Type 0 where
   pub placed : ArePlaced cert.region n.state.cells
   pub vals : AreVals n.state.cells
   pub items : AllByRecursion IsVal n.state.items
-  pub byte : IfSome n.state.relations.byte.address (λ a. is_free_byte cert.region a ≡ true)
-  pub free : IsByteFree cert.region n.state.relations.byte.address
+  pub place : IsBytePlaced (stack_held (setting_of cert n.procedure) cert.region (length n.state.items)) n.state.relations.byte.address
   pub pairs : ArePairs n.state.relations.pairs
   pub quiet : rules_of cert.version ≡ Simple → n.state.summary ≡ no_summary
   pub apart : IsFree cert.region n.state.summary
@@ -115,10 +116,25 @@ none_unset true true (v ∷ items) h e = absurd (unlike e)
 none_unset true false (v ∷ items) h e = absurd (not_zero (length items) h)
 none_unset false set (v ∷ items) h e = absurd (not_zero (length items) h)
 
+-- the procedure's base is the one of its form
+form_base : (procedures : List ProcedureParts) (i : ℕ) → (form_in (procedure_forms procedures) i).base ≡ base_in (slice_get procedures i)
+form_base [] i = refl
+form_base (p ∷ ps) zero = refl
+form_base (p ∷ ps) (suc i) = form_base ps i
+
+-- a place that a node's state may have is one of its procedure's
+node_place :
+    (cert : Certificate) (n : Node) → IsBytePlaced (node_stack (cert.version == 4) (form_in (procedure_forms cert.procedures) n.procedure) cert.region n) n.state.relations.byte.address
+    → IsBytePlaced (stack_held (setting_of cert n.procedure) cert.region (length n.state.items)) n.state.relations.byte.address
+unfolding stack_held setting_of
+node_place cert n h =
+    subst (λ base. IsBytePlaced (record { region = cert.region; base = cond (cert.version == 4) base 0; count = length n.state.items }) n.state.relations.byte.address)
+    (form_base cert.procedures n.procedure) h
+
 pub IsNodeState-node : (cert : Certificate) (n : Node) → IsCertificate cert → Contains cert.nodes n → IsNodeState cert n
 IsNodeState-node cert n c is =
-    let p = contained (IsNodeBy (cert.version == 4) cert.version (length cert.facts) (declared_by (kept_counts cert.procedures)) cert.region (length cert.procedures)) key (0, 0) cert.nodes n c.nodes is in
-    let node = node_parts (cert.version == 4) cert.version (length cert.facts) (declared_by (kept_counts cert.procedures)) cert.region (length cert.procedures) p.0 n refl p.1 in
+    let p = contained (IsNodeBy (cert.version == 4) cert.version (length cert.facts) (form_in (procedure_forms cert.procedures)) cert.region (length cert.procedures)) key (0, 0) cert.nodes n c.nodes is in
+    let node = node_parts (cert.version == 4) cert.version (length cert.facts) (form_in (procedure_forms cert.procedures)) cert.region (length cert.procedures) p.0 n refl p.1 in
     let state : HasStateParts (rules_of cert.version) (role_of n.procedure) cert.region n.state = node.state in
     record {
       is_region = c.region;
@@ -127,9 +143,8 @@ IsNodeState-node cert n c is =
       placed = state.placed;
       vals = state.vals;
       items = state.items;
-      byte = state.relations.byte.address;
-      free = free_from cert.region n.state.relations.byte.address state.relations.byte.address;
-      pairs = state.relations.pairs;
+      place = node_place cert n node.place;
+      pairs = state.pairs;
       quiet = state.quiet;
       apart = state.apart;
       stack = λ other. needs_other n.procedure n.state.core.stack_set other state.stack;
@@ -559,7 +574,7 @@ pub record IsProvided (program : Program) (cert : Certificate) (n : Node) (i : �
   pub depth : length n.state.items + 2 + need_of cert handler ≤ need_of cert n.procedure
   pub resumes :
       (exit : AbsState) → exit_of cert handler ≡ Some exit
-      → IfSome (resumed program Simple (setting_of cert n.procedure).is_whole (taken_by cert handler) (ranges_of cert handler) (kept_of cert handler) (left_by_dispatch Simple n.address n.state) exit)
+      → IfSome (resumed program (setting_by Simple cert n.procedure) cert.region (taken_by cert handler) (ranges_of cert handler) (kept_of cert handler) (left_by_dispatch Simple n.address n.state) exit)
       (λ after. covered_at program Simple cert n.procedure n.address after ≡ true)
 
 pub covered_if : (program : Program) (cert : Certificate) (procedure a : ℕ) (o : Option AbsState) → is_uncovered_if program Simple cert procedure a o ≡ false → IfSome o (λ s. covered_at program Simple cert procedure a s ≡ true)

@@ -35,6 +35,7 @@ use Rattle.gb_rules.proofs.SearchLaws.{Contains-slice_get}
 use Rattle.gb_rules.proofs.CoveringLaws.{covered_items, found_by}
 use Rattle.gb_rules.proofs.ProcedureLaws.{kept_is, HasReturnWord-widely, main_room, main_based}
 use Rattle.gb_rules.proofs.WayLaws.{is_own, same_number}
+use Rattle.gb_rules.specs.Rules.{setting_by}
 
 -- the machine is in some states of a procedure, at an address
 pub record IsReached (cert : Certificate) (procedure a : ℕ) (state : AbsState) (entry : Activation) (base : ℕ) (y : MState) : Type 0 where
@@ -133,7 +134,7 @@ covered_if program cert procedure a (Some s) h = not-false _ (or_parts _ _ h).1
 pub record IsCalling (cert : Certificate) (procedure a back : ℕ) (state : AbsState) (entry : Activation) (base : ℕ) (y : MState) : Type 0 where
   pub reached : IsReached cert procedure a state entry base y
   pub located : is_located state ≡ true
-  pub placed : IsApart cert.region state
+  pub placed : IsApart (setting_of cert procedure) cert.region state
   pub back_small : back < 65536
   pub return_word : word (peek y.storage (y.processor.sp + 1)) (peek y.storage y.processor.sp) ≡ back
   pub mark : y.processor.halt_mark ≡ false
@@ -174,17 +175,17 @@ HandsOver-called cert procedure a back state entry base y q extended certificate
       address = k.reached.address ∙ sym begin.address;
       few = fits-few z (setting_of cert begin.node.procedure).base (taken_by cert begin.node.procedure) (length state.items) rules fitting;
       based = fits-base z (setting_of cert begin.node.procedure) (taken_by cert begin.node.procedure) state.items base rules fitting k.reached.based;
-      begins = subst (λ n. covers entry.program (entered_by entry.program Extended n (kept_of cert begin.node.procedure) state) begin.node.state ≡ true) (sym count)
-          (subst (λ ks. covers entry.program (entered_by entry.program Extended (length begin.node.state.items) ks state) begin.node.state ≡ true)
+      begins = subst (λ n. covers entry.program (entered_by entry.program cert.region Extended n (kept_of cert begin.node.procedure) state) begin.node.state ≡ true) (sym count)
+          (subst (λ ks. covers entry.program (entered_by entry.program cert.region Extended (length begin.node.state.items) ks state) begin.node.state ≡ true)
           (sym (ap (kept_of cert) number ∙ kept_is cert q p callee.is_procedure))
-          (subst (λ (r : Rules). covers entry.program (entered_by entry.program r (length begin.node.state.items) p.kept state) begin.node.state ≡ true) rules begin.covering));
+          (subst (λ (r : Rules). covers entry.program (entered_by entry.program cert.region r (length begin.node.state.items) p.kept state) begin.node.state ≡ true) rules begin.covering));
       mark = k.mark;
       depth = subst (λ n. (length state.items - taken_by cert n) + need_of cert n ≤ need_of cert procedure) (sym number) (not_over (need_of cert procedure) (length state.items - taken_by cert q + need_of cert q) may.depth);
       inside = λ some.
           subst (λ n. are_ranges_inside (ranges_of cert n) (ranges_of cert procedure) ≡ true) (sym number)
           (ranges_inside (is_extended z.rules) z.is_main (are_ranges_inside (ranges_of cert q) (ranges_of cert procedure)) (is_other cert procedure some) may.inside);
       resumes = λ exit at.
-          subst (λ n. IfSome (resumed entry.program Extended (setting_of cert procedure).is_whole (taken_by cert n) (ranges_of cert n) (kept_of cert n) state exit) (λ after. covered_at entry.program Extended cert procedure back after ≡ true)) (sym number)
+          subst (λ n. IfSome (resumed entry.program (setting_by Extended cert procedure) cert.region (taken_by cert n) (ranges_of cert n) (kept_of cert n) state exit) (λ after. covered_at entry.program Extended cert procedure back after ≡ true)) (sym number)
           (covered_if entry.program cert procedure back _ (subst (λ o. is_resumed_uncovered entry.program Extended cert procedure back state q o ≡ false) (subst (λ n. exit_of cert n ≡ Some exit) number at) may.resumes));
     }
 

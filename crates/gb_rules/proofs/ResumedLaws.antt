@@ -10,7 +10,7 @@ use Rattle.gb_successors.specs.Below.gb_pairs.declared.values.Values.{Values}
 use Rattle.gb_successors.specs.Below.gb_pairs.Reduced.{reduced}
 use Rattle.gb_successors.proofs.Below.gb_relations_laws.Below.gb_pairs_laws.KeptLaws.{reduced_kept}
 use Rattle.gb_successors.specs.Below.gb_relations.Transfer.{values_of}
-use Rattle.gb_calls.specs.Resuming.{given_addresses, is_something, kept_by, rejoined, with_controller, with_banks_cut, with_values, with_values_if, reduced_state, resumed}
+use Rattle.gb_calls.specs.Resuming.{given_addresses, is_something, kept_by, rejoined, with_controller, with_banks_cut, with_values, with_values_if, reduced_state, resumed_by, waiting_stack}
 use Rattle.gb_calls.specs.TakenOver.{given_back_items}
 use Rattle.gb_calls.specs.Told.{val_back}
 use Rattle.gb_calls.proofs.ResumingLaws.{ArePairs-returned}
@@ -19,6 +19,10 @@ use Rattle.gb_successors.specs.Below.gb_domain.Summaries.{Program}
 use Rattle.gb_successors.specs.Below.gb_domain.declared.types.Ctl.{Ctl}
 use Rattle.gb_successors.specs.Below.gb_product.Covering.{values_in}
 use Rattle.gb_successors.specs.Below.gb_product.Reduced.{reduced_controller}
+use Rattle.gb_successors.specs.Below.gb_domain.declared.setting.Setting.{Setting}
+use Rattle.gb_successors.specs.Below.gb_domain.declared.places.StackBytes.{StackBytes}
+use Rattle.gb_ops.specs.declared.machine.Region.{Region}
+use Rattle.gb_successors.specs.Below.gb_product.Held.{held_relations}
 
 -- the states with which a caller goes on that was in s, where the callee began with k items and left by the exit x
 pub record IsGivenBack (k : ℕ) (s x after : AbsState) : Type 0 where
@@ -34,27 +38,28 @@ given_back_cut program k s x t h = cut (reduced_controller program (values_in t)
     cut None = tt
     cut (Some c) = record { pairs = h.pairs; count = h.count }
 
-given_back_values : (program : Program) (whole : Bool) (k : ℕ) (ranges : List Range) (kept : List ℕ) (s x : AbsState) (o : Option Values) → IfSome o (λ w. ArePairs w.pairs)
-    → IfSome (option_and_then (with_banks_cut program) (with_values_if (rejoined program whole k ranges kept s x) o)) (IsGivenBack k s x)
+given_back_values : (program : Program) (whole : Bool) (waiting : StackBytes) (k : ℕ) (ranges : List Range) (kept : List ℕ) (s x : AbsState) (o : Option Values) → IfSome o (λ w. ArePairs w.pairs)
+    → IfSome (option_and_then (with_banks_cut program) (with_values_if (rejoined program whole waiting k ranges kept s x) o)) (IsGivenBack k s x)
 unfolding rejoined
-given_back_values program whole k ranges kept s x None h = tt
-given_back_values program whole k ranges kept s x (Some v) h =
-    given_back_cut program k s x (with_values (rejoined program whole k ranges kept s x) v)
+given_back_values program whole waiting k ranges kept s x None h = tt
+given_back_values program whole waiting k ranges kept s x (Some v) h =
+    given_back_cut program k s x (with_values (rejoined program whole waiting k ranges kept s x) v)
     (record { pairs = h; count = given_back-count k s.items x.items (val_back program whole kept s) })
 
-given_back_reduced : (program : Program) (whole : Bool) (k : ℕ) (ranges : List Range) (kept : List ℕ) (s x : AbsState) → ArePairs s.relations.pairs → ArePairs x.relations.pairs
-    → IfSome (reduced_state program (rejoined program whole k ranges kept s x)) (IsGivenBack k s x)
+given_back_reduced : (program : Program) (whole : Bool) (waiting : StackBytes) (k : ℕ) (ranges : List Range) (kept : List ℕ) (s x : AbsState) → ArePairs s.relations.pairs → ArePairs x.relations.pairs
+    → IfSome (reduced_state program (rejoined program whole waiting k ranges kept s x)) (IsGivenBack k s x)
 unfolding reduced_state rejoined
-given_back_reduced program whole k ranges kept s x h i =
-    given_back_values program whole k ranges kept s x (reduced (values_of (rejoined program whole k ranges kept s x).core.registers (rejoined program whole k ranges kept s x).relations.pairs))
-    (reduced_kept (values_of (rejoined program whole k ranges kept s x).core.registers (rejoined program whole k ranges kept s x).relations.pairs) _ refl
-    (ArePairs-returned (kept_by ranges (given_addresses kept x.cells) s.relations.byte x.core) s.relations x.relations h i))
+given_back_reduced program whole waiting k ranges kept s x h i =
+    let known = held_relations waiting s.relations in
+    given_back_values program whole waiting k ranges kept s x (reduced (values_of (rejoined program whole waiting k ranges kept s x).core.registers (rejoined program whole waiting k ranges kept s x).relations.pairs))
+    (reduced_kept (values_of (rejoined program whole waiting k ranges kept s x).core.registers (rejoined program whole waiting k ranges kept s x).relations.pairs) _ refl
+    (ArePairs-returned (kept_by ranges (given_addresses kept x.cells) known.byte x.core) known x.relations h i))
 
-pub IsGivenBack-resumed : (program : Program) (whole : Bool) (k : ℕ) (ranges : List Range) (kept : List ℕ) (s x : AbsState) → ArePairs s.relations.pairs → ArePairs x.relations.pairs
-    → IfSome (resumed program Extended whole k ranges kept s x) (IsGivenBack k s x)
-unfolding resumed
-IsGivenBack-resumed program whole k ranges kept s x h i = choose (is_something program whole kept ranges s x)
+pub IsGivenBack-resumed : (program : Program) (z : Setting) (region : Region) (k : ℕ) (ranges : List Range) (kept : List ℕ) (s x : AbsState) → ArePairs s.relations.pairs → ArePairs x.relations.pairs
+    → IfSome (resumed_by Extended program z region k ranges kept s x) (IsGivenBack k s x)
+unfolding resumed_by
+IsGivenBack-resumed program z region k ranges kept s x h i = choose (is_something program z.is_whole kept ranges s x)
   where
-    choose : (b : Bool) → IfSome (cond b (reduced_state program (rejoined program whole k ranges kept s x)) None) (IsGivenBack k s x)
-    choose true = given_back_reduced program whole k ranges kept s x h i
+    choose : (b : Bool) → IfSome (cond b (reduced_state program (rejoined program z.is_whole (waiting_stack z region k s) k ranges kept s x)) None) (IsGivenBack k s x)
+    choose true = given_back_reduced program z.is_whole (waiting_stack z region k s) k ranges kept s x h i
     choose false = tt

@@ -60,7 +60,7 @@ stands rom cert n entry base x k = record {
   is_region = k.state.is_region;
   core = k.state.core;
   placed = k.state.placed;
-  free = k.state.free;
+  place = k.state.place;
   pairs = k.state.pairs;
   vals = k.state.vals;
   items = k.state.items;
@@ -96,7 +96,7 @@ is_ruled rom cert n entry base x k = ruled rom cert n base k.passes k.cartridge 
 
 -- the states of its successors are such as states may be
 pub formed : (rom : List ℕ) (cert : Certificate) (n : Node) (entry : Activation) (base : ℕ) (x : MState) (k : OnNode rom cert n entry base x) (t : Successor) → IsOneOf (ways_of rom cert n k.passes.row) t
-    → IsFormed cert.region t.state
+    → IsFormed (setting_of cert n.procedure) cert.region t.state
 unfolding ways_of stack_of
 formed rom cert n entry base x k t is =
     IsFormed-successor (whole_stack cert n.procedure) (program_of rom cert) rom k.passes.row n.address n.state t entry base x (stands rom cert n entry base x k) (is_ruled rom cert n entry base x k).operands is

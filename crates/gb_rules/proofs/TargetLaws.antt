@@ -30,18 +30,11 @@ use Rattle.gb_successors.specs.Refined.{refined_target}
 use Rattle.gb_successors.specs.Refused.{is_unknown}
 use Rattle.gb_successors.specs.Sound.{IsFound, IsOneOf, is_followed}
 use Rattle.gb_successors.specs.Stacks.{stack_move}
-use Rattle.gb_successors.specs.Successors.{memory_before, pointer_in, word_in, effect_in, with_product, taken_parts, taken_successor, untaken_successor, reduced_successor, taken_from, not_taken_from, product_before, staying_successor, may_stay, stays, successors_of}
+use Rattle.gb_successors.specs.Successors.{memory_before, pointer_in, word_in, effect_in, taken_parts, taken_by_side, not_taken_by_side, taken_successor, untaken_successor, taken_from, not_taken_from, product_before, staying_successor, may_stay, stays, successors_of}
 use Rattle.gb_successors.specs.Way.{Successor}
 use Rattle.gb_successors.specs.Below.gb_domain.Summaries.{Program}
-
--- reducing leaves the target
-reduced_target : (rules : Rules) (u t : Successor) → reduced_successor rules u ≡ Some t → t.target ≡ u.target
-unfolding reduced_successor
-reduced_target rules u t h = by (reduced rules u.state.core u.state.relations) h
-  where
-    by : (o : Option Product) → option_map (with_product u) o ≡ Some t → t.target ≡ u.target
-    by None e = cc
-    by (Some p) e = sym (ap (λ (w : Successor). w.target) (same_Some _ _ e))
+use Rattle.gb_successors.specs.Settled.{branch_outside}
+use Rattle.gb_successors.proofs.HoldingLaws.{settled_target}
 
 -- where a successor goes on that is taken, as its row, its pairs and its stack say it
 record IsTakenTo (k : Stack) (o : Op) (next : ℕ) (t : Successor) : Type 0 where
@@ -62,15 +55,16 @@ is_taken_to : (k : Stack) (program : Program) (rom : List ℕ) (row : Row) (a : 
 unfolding successors_of
 is_taken_to k program rom row a s t h = from (product_before k.setting.rules s) h
   where
-    at_side : (o : Option Branch) → option_and_then (λ b. reduced_successor k.setting.rules (taken_successor k program rom row ((a + row.length) % 65536) s b)) o ≡ Some t → IsTakenTo k row.op ((a + row.length) % 65536) t
+    at_side : (o : Option Branch) → option_and_then (taken_by_side k program rom row ((a + row.length) % 65536) s) o ≡ Some t → IsTakenTo k row.op ((a + row.length) % 65536) t
     at_side None e = cc
     at_side (Some b) e =
-        let g = goes k program rom row ((a + row.length) % 65536) s b in
-        record { around = g.around; core = g.core; word = g.word; pointer = g.pointer; write = g.write; is = reduced_target k.setting.rules (taken_successor k program rom row ((a + row.length) % 65536) s b) t e ∙ g.is }
+        let outside = branch_outside k.region b in
+        let g = goes k program rom row ((a + row.length) % 65536) s outside in
+        record { around = g.around; core = g.core; word = g.word; pointer = g.pointer; write = g.write; is = settled_target k b.cell s.core (taken_successor k program rom row ((a + row.length) % 65536) s outside) t e ∙ g.is }
 
     from : (o : Option Product) → option_and_then (taken_from k program rom row ((a + row.length) % 65536) s) o ≡ Some t → IsTakenTo k row.op ((a + row.length) % 65536) t
     from None e = cc
-    from (Some p) e = at_side (taken_side row.op (memory_before program s p) p.core p.relations) e
+    from (Some p) e = at_side (taken_side row.op (memory_before k program s p) p.core p.relations) e
 
 by_row : (rules : Rules) (z : Setting) (o : Op) (next : ℕ) (w : Halves) (core : Core) (hl : Option Bounds) (m : StackMove) → rules ≡ Simple
     → refined_target rules z o next w core hl m (target_of o next core) ≡ target_of o next core
@@ -102,14 +96,14 @@ untaken_target : (k : Stack) (program : Program) (rom : List ℕ) (row : Row) (a
 unfolding successors_of untaken_successor
 untaken_target k program rom row a s t h = from (product_before k.setting.rules s) h
   where
-    at_side : (o : Option Branch) → option_and_then (λ b. reduced_successor k.setting.rules (untaken_successor k row ((a + row.length) % 65536) s b)) o ≡ Some t
+    at_side : (o : Option Branch) → option_and_then (not_taken_by_side k row ((a + row.length) % 65536) s) o ≡ Some t
         → t.target ≡ target.At ((a + row.length) % 65536)
     at_side None e = cc
-    at_side (Some b) e = reduced_target k.setting.rules (untaken_successor k row ((a + row.length) % 65536) s b) t e
+    at_side (Some b) e = settled_target k b.cell s.core (untaken_successor k row ((a + row.length) % 65536) s (branch_outside k.region b)) t e
 
     from : (o : Option Product) → option_and_then (not_taken_from k program row ((a + row.length) % 65536) s) o ≡ Some t → t.target ≡ target.At ((a + row.length) % 65536)
     from None e = cc
-    from (Some p) e = at_side (not_taken_side row.op (memory_before program s p) p.core p.relations) e
+    from (Some p) e = at_side (not_taken_side row.op (memory_before k program s p) p.core p.relations) e
 
 staying_target : (k : Stack) (program : Program) (rom : List ℕ) (row : Row) (a : ℕ) (s : AbsState) (t : Successor) → (successors_of k program rom row a s).stays ≡ Some t → t.target ≡ target.At a
 unfolding successors_of stays staying_successor

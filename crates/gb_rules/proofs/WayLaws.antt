@@ -39,6 +39,7 @@ use Rattle.gb_rules.proofs.SearchLaws.{Contains-slice_get}
 use Rattle.gb_rules.proofs.CoveringLaws.{found_at}
 use Rattle.gb_rules.proofs.NodeLaws.{simple_at, covered_if, IsUnopposed, unopposed, followed}
 use Rattle.gb_rules.proofs.StandLaws.{OnNode, quiet}
+use Rattle.gb_rules.specs.Rules.{setting_by}
 
 not_so : {X : Type 0} → true ≡ false → X
 not_so h = cc
@@ -71,7 +72,7 @@ not_over cert need held q h = by (held + 2 + need_of cert q) h
     by m h = grind (arith, nat_tests)
 
 resumed_covered : (program : Program) (cert : Certificate) (procedure back : ℕ) (s : AbsState) (q : ℕ) → is_back_uncovered program Simple cert procedure back s q ≡ false → (exit : AbsState) → exit_of cert q ≡ Some exit
-    → IfSome (resumed program Simple (setting_of cert procedure).is_whole (taken_by cert q) (ranges_of cert q) (kept_of cert q) s exit) (λ after. covered_at program Simple cert procedure back after ≡ true)
+    → IfSome (resumed program (setting_by Simple cert procedure) cert.region (taken_by cert q) (ranges_of cert q) (kept_of cert q) s exit) (λ after. covered_at program Simple cert procedure back after ≡ true)
 resumed_covered program cert procedure back s q h exit is = covered_if program cert procedure back _ (subst (λ o. is_resumed_uncovered program Simple cert procedure back s q o ≡ false) is h)
 
 means_pushed : (w : Halves) (s : AbsState) (entry : Activation) (base : ℕ) (x : MState) → MeansParts (pushed w s) entry base x → AreRelated s.relations x → IsSummarized s entry x → Means (pushed w s) entry base x
@@ -102,13 +103,13 @@ calls_at rom cert n t a entry base y certificate c related said quiet mark outsi
           is_node = Contains-slice_get cert.nodes callee.procedure.entry begin.node begin.is_node;
           not_main = subst (λ m. 0 < m) (sym number) callee.not_main;
           address = c.goes ∙ sym begin.address;
-          begins = subst (λ ks. covers entry.program (entered_by entry.program Simple (length begin.node.state.items) ks t.state) begin.node.state ≡ true)
+          begins = subst (λ ks. covers entry.program (entered_by entry.program cert.region Simple (length begin.node.state.items) ks t.state) begin.node.state ≡ true)
               (sym (ap (kept_of cert) number ∙ kept_is cert q callee.procedure callee.is_procedure)) begin.covering;
           mark = mark;
           depth = subst (λ m. length t.state.items + 2 + need_of cert m ≤ need_of cert n.procedure) (sym number) (not_over cert (need_of cert n.procedure) (length t.state.items) q deep);
           inside = subst (λ m. are_ranges_inside (ranges_of cert m) (ranges_of cert n.procedure) ≡ true) (sym number) (not-false _ out);
           resumes = λ exit is.
-              subst (λ m. IfSome (resumed entry.program Simple (setting_of cert n.procedure).is_whole (taken_by cert m) (ranges_of cert m) (kept_of cert m) t.state exit) (λ after. covered_at entry.program Simple cert n.procedure t.next after ≡ true)) (sym number)
+              subst (λ m. IfSome (resumed entry.program (setting_by Simple cert n.procedure) cert.region (taken_by cert m) (ranges_of cert m) (kept_of cert m) t.state exit) (λ after. covered_at entry.program Simple cert n.procedure t.next after ≡ true)) (sym number)
               (resumed_covered entry.program cert n.procedure t.next t.state q back exit (subst (λ m. exit_of cert m ≡ Some exit) number is));
         }
 

@@ -39,7 +39,7 @@ wide_at cert n = record (setting_of cert n.procedure) { rules = Extended }
 
 -- ---- in the same procedure
 
-reached : (rom : List ℕ) (cert : Certificate) (n : Node) (entry : Activation) (base : ℕ) (x : MState) (k : OnNode rom cert n entry base x) (t : Successor) (a : ℕ) (y : MState) → IsFormed cert.region t.state
+reached : (rom : List ℕ) (cert : Certificate) (n : Node) (entry : Activation) (base : ℕ) (x : MState) (k : OnNode rom cert n entry base x) (t : Successor) (a : ℕ) (y : MState) → IsFormed (setting_of cert n.procedure) cert.region t.state
     → MeansParts t.state entry base y → AreRelated t.state.relations y → IsSummarized t.state entry y → y.processor.pc ≡ a → AreInRegion cert.region base (length t.state.items) → IsReached cert n.procedure a t.state entry base y
 reached rom cert n entry base x k t a y f means related said goes held = record {
   means = record { parts = means; related = related; summary = said };
@@ -54,12 +54,16 @@ reached rom cert n entry base x k t a y f means related said goes held = record 
 
 -- ---- calls, with a callee or inlined
 
-calling : (rom : List ℕ) (cert : Certificate) (n : Node) (entry : Activation) (base : ℕ) (x : MState) (k : OnNode rom cert n entry base x) (t : Successor) (a : ℕ) (y : MState) → IsFormed cert.region t.state
+rules_extended : (cert : Certificate) (procedure : ℕ) → rules_of cert.version ≡ Extended → (setting_of cert procedure).rules ≡ Extended
+unfolding setting_of
+rules_extended cert procedure h = h
+
+calling : (rom : List ℕ) (cert : Certificate) (n : Node) (entry : Activation) (base : ℕ) (x : MState) (k : OnNode rom cert n entry base x) (t : Successor) (a : ℕ) (y : MState) → rules_of cert.version ≡ Extended → IsFormed (setting_of cert n.procedure) cert.region t.state
     → CalledAt cert.region a t entry base y → AreRelated t.state.relations y → IsSummarized t.state entry y → y.processor.halt_mark ≡ false → IsCalling cert n.procedure a t.next t.state entry base y
-calling rom cert n entry base x k t a y f to related said mark = record {
+calling rom cert n entry base x k t a y extended f to related said mark = record {
   reached = reached rom cert n entry base x k t a y f to.means related said to.goes to.room;
   located = to.located;
-  placed = record { cells = to.placed; byte = f.free; summary = f.apart };
+  placed = record { cells = to.placed; byte = f.place (rules_extended cert n.procedure extended); summary = f.apart };
   back_small = to.next;
   return_word = to.top;
   mark = mark;
@@ -79,7 +83,7 @@ Leads-widely rom cert n entry base x k t extended is y leads related_if said mar
     u : IsUnopposed entry.program Extended cert n t
     u = subst (λ p. IsUnopposed p Extended cert n t) (sym k.program) (unopposed Extended rom cert n k.passes t extended is)
 
-    f : IsFormed cert.region t.state
+    f : IsFormed (setting_of cert n.procedure) cert.region t.state
     f = formed rom cert n entry base x k t is
 
     related : AreRelated t.state.relations y
@@ -98,7 +102,7 @@ Leads-widely rom cert n entry base x k t extended is y leads related_if said mar
     by (target.At a) to known covered callable shallow returnable marked =
         inl (IsMeant-reached rom cert n.procedure a t.state entry base y extended k.program k.names (reached rom cert n entry base x k t a y f to.means related said to.goes to.room) marked.harmless (not-false _ covered))
     by (target.Call a) to known covered callable shallow returnable marked =
-        LeadsBy-called rom cert n.procedure a t.next t.state entry base x y (callee_of entry.program cert (wide_at cert n) a t.state) extended k.certificate k.program k.names (calling rom cert n entry base x k t a y f to related said (marked.clear tt))
+        LeadsBy-called rom cert n.procedure a t.next t.state entry base x y (callee_of entry.program cert (wide_at cert n) a t.state) extended k.certificate k.program k.names (calling rom cert n entry base x k t a y extended f to related said (marked.clear tt))
         (ap (λ (z : Setting). callee_of entry.program cert z a t.state) (sym own)) (subst (λ (z : Setting). is_outside_of z cert n.procedure (callee_of entry.program cert (wide_at cert n) a t.state) ≡ false) own callable) shallow covered
     by target.Return to known covered callable shallow returnable marked =
         let parts = or_parts _ _ returnable in

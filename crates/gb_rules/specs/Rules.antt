@@ -220,11 +220,15 @@ abbrev pub is_uncovered_if : Program → Rules → Certificate → ℕ → ℕ �
 is_uncovered_if program rules cert procedure a None = false
 is_uncovered_if program rules cert procedure a (Some s) = is_overfull s || not (covered_at program rules cert procedure a s)
 
+-- where its states stand, by these rules
+abbrev pub setting_by : Rules → Certificate → ℕ → Setting
+setting_by rules cert procedure = record (setting_of cert procedure) { rules = rules }
+
 abbrev pub is_resumed_uncovered : Program → Rules → Certificate → ℕ → ℕ → AbsState → ℕ → Option AbsState → Bool
 is_resumed_uncovered program rules cert procedure back s callee None = false
 is_resumed_uncovered program rules cert procedure back s callee (Some exit) =
     is_uncovered_if program rules cert procedure back
-    (resumed program rules (setting_of cert procedure).is_whole (taken_by cert callee) (ranges_of cert callee) (kept_of cert callee) s exit)
+    (resumed program (setting_by rules cert procedure) cert.region (taken_by cert callee) (ranges_of cert callee) (kept_of cert callee) s exit)
 
 -- no node stands for what the caller goes on with when the callee returns
 abbrev pub is_back_uncovered : Program → Rules → Certificate → ℕ → ℕ → AbsState → ℕ → Bool

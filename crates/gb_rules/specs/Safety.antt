@@ -32,6 +32,7 @@ use Rattle.gb_successors.specs.Stacks.{address_below}
 use Rattle.gb_successors.specs.Below.gb_abs_effects.Pairs.{known_word}
 use Rattle.gb_rules.specs.Covered.{covered_at}
 use Rattle.gb_rules.specs.Procedures.{ranges_of, kept_of, mark_of, need_of, setting_of, program_of, exit_of, taken_by}
+use Rattle.gb_rules.specs.Rules.{setting_by}
 
 -- ---- where the machine stands
 
@@ -86,13 +87,13 @@ pub record Calls (cert : Certificate) (procedure : ℕ) (entry : Activation) (ba
   pub is_node : Contains cert.nodes node
   pub not_main : 0 < node.procedure
   pub address : s.processor.pc ≡ node.address
-  pub begins : covers entry.program (entered_by entry.program Simple (length node.state.items) (kept_of cert node.procedure) state) node.state ≡ true
+  pub begins : covers entry.program (entered_by entry.program cert.region Simple (length node.state.items) (kept_of cert node.procedure) state) node.state ≡ true
   pub mark : s.processor.halt_mark ≡ false
   pub depth : length state.items + 2 + need_of cert node.procedure ≤ need_of cert procedure
   pub inside : are_ranges_inside (ranges_of cert node.procedure) (ranges_of cert procedure) ≡ true
   pub resumes :
       (exit : AbsState) → exit_of cert node.procedure ≡ Some exit
-      → IfSome (resumed entry.program Simple (setting_of cert procedure).is_whole (taken_by cert node.procedure) (ranges_of cert node.procedure) (kept_of cert node.procedure) state exit)
+      → IfSome (resumed entry.program (setting_by Simple cert procedure) cert.region (taken_by cert node.procedure) (ranges_of cert node.procedure) (kept_of cert node.procedure) state exit)
       (λ after. covered_at entry.program Simple cert procedure back after ≡ true)
 
 -- By those of version 3: the word of the address where the procedure will go on is among its items, of which the callee takes
@@ -105,7 +106,7 @@ pub record HandsOver (cert : Certificate) (procedure : ℕ) (entry : Activation)
   pub means : Means state entry base s
   pub return_word : word (peek s.storage (s.processor.sp + 1)) (peek s.storage s.processor.sp) ≡ back
   pub located : is_located state ≡ true
-  pub placed : IsApart cert.region state
+  pub placed : IsApart (setting_of cert procedure) cert.region state
   pub pairs : ArePairs state.relations.pairs
   pub held : AreInRegion cert.region base (length state.items)
   pub node : Node
@@ -114,13 +115,13 @@ pub record HandsOver (cert : Certificate) (procedure : ℕ) (entry : Activation)
   pub address : s.processor.pc ≡ node.address
   pub few : taken_by cert node.procedure ≤ length state.items
   pub based : IsBase (setting_of cert node.procedure) (base_below (taken_by cert node.procedure) state.items base)
-  pub begins : covers entry.program (entered_by entry.program Extended (taken_by cert node.procedure) (kept_of cert node.procedure) state) node.state ≡ true
+  pub begins : covers entry.program (entered_by entry.program cert.region Extended (taken_by cert node.procedure) (kept_of cert node.procedure) state) node.state ≡ true
   pub mark : s.processor.halt_mark ≡ false
   pub depth : (length state.items - taken_by cert node.procedure) + need_of cert node.procedure ≤ need_of cert procedure
   pub inside : 0 < procedure → are_ranges_inside (ranges_of cert node.procedure) (ranges_of cert procedure) ≡ true
   pub resumes :
       (exit : AbsState) → exit_of cert node.procedure ≡ Some exit
-      → IfSome (resumed entry.program Extended (setting_of cert procedure).is_whole (taken_by cert node.procedure) (ranges_of cert node.procedure) (kept_of cert node.procedure) state exit)
+      → IfSome (resumed entry.program (setting_by Extended cert procedure) cert.region (taken_by cert node.procedure) (ranges_of cert node.procedure) (kept_of cert node.procedure) state exit)
       (λ after. covered_at entry.program Extended cert procedure back after ≡ true)
 
 abbrev pub CallsBy : Rules → Certificate → ℕ → Activation → ℕ → MState → Type 0

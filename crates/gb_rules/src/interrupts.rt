@@ -215,6 +215,8 @@ pub fn lacks_handler(
         return false;
     }
     let setting = stack.setting;
+    // Behind a handler mostly the node that it came at covers: the one behind `near` is asked first.
+    let near = near.saturating_sub(1);
     is_unhandled_at(program, cert, near, setting, node, state, 0, room)
         || is_unhandled_at(program, cert, near, setting, node, state, 1, room)
         || is_unhandled_at(program, cert, near, setting, node, state, 2, room)

@@ -275,10 +275,14 @@ fn is_return_uncovered(
 {
     let ranges = ranges_of(cert, callee);
     let taken = taken_by(cert, callee);
+    let setting = Setting {
+        rules,
+        ..setting_of(cert, procedure)
+    };
     match resume_in(
         program,
-        rules,
-        setting_of(cert, procedure).is_whole,
+        setting,
+        cert.region(),
         taken,
         ranges.as_slice(),
         &kept_of(cert, callee),

@@ -6,6 +6,7 @@ ghost use Rattle.gb_successors.specs.Below.gb_domain.declared.rules.Rules.TheVar
 ghost use Rattle.gb_ops.specs.Cartridge.{kind_of};
 ghost use Rattle.gb_successors.specs.Below.gb_product.Reduced.{product_of};
 ghost use Rattle.gb_successors.specs.Refused.{is_unstorable};
+ghost use Rattle.gb_successors.specs.Settled.{held_way};
 ghost use Rattle.gb_successors.specs.Successors.{product_before, taken_from, not_taken_from, staying_successor, stays, reduced_successor};
 ghost use Rattle.gb_rules.specs.Lowest as Lowest;
 ghost use Rattle.gb_rules.specs.Lowest.{behind, lowest, lowest_in, applies_alone, applies_to_way, applies_to_taken};
@@ -24,8 +25,10 @@ use gb_calls::{Cert, NodeRef};
 use gb_ops::op::Row;
 use gb_successors::refused::{is_unknown, is_unstorable, meets_closed, meets_oam_transfer};
 use gb_successors::stacks::Stack;
-use gb_successors::successor::{Successor, staying_successor, taken_successor, untaken_successor};
-use gb_successors::successors::{has_condition, may_stay, memory_before, side_successor};
+use gb_successors::successor::{Successor, staying_successor, taken_successor};
+use gb_successors::successors::{
+    has_condition, may_stay, memory_before, other_side_successor, settle_way, side_successor,
+};
 use gb_successors::{
     Abs, AbsWrite, Core, Program, Reason, Relations, Rom, Rules, Setting, lies_in_high_ram,
     not_taken_side, reduce, settle, taken_side,
@@ -178,7 +181,7 @@ fn reason_of_taken(site: &Site<'_>, successor: &Successor<'_>, room: &mut Room) 
     }
 }
 
-/// The lowest reason against a successor that is reduced first: where nothing is meant by it there is none.
+/// The lowest reason against a successor that is settled first: where nothing is meant by it there is none.
 #[inline(always)]
 fn reason_of_possible(
     site: &Site<'_>,
@@ -187,9 +190,9 @@ fn reason_of_possible(
 ) -> Option<Reason>
     requires stack { site.now.stack.now ≡ stack_of site.now.cert.now site.now.node.now.procedure }
     requires state { site.now.state.now ≡ site.now.node.now.state }
-    ensures { result ≡ lowest_in (applies_to_taken site.now.rom.now site.now.cert.now site.now.node.now site.now.row.now) (reduced_successor site.now.stack.now.setting.rules successor.old) }
+    ensures { result ≡ lowest_in (applies_to_taken site.now.rom.now site.now.cert.now site.now.node.now site.now.row.now) (held_way site.now.stack.now.setting.rules site.now.stack.now (reduced_successor site.now.stack.now.setting.rules successor.old)) }
 {
-    if successor.reduce(site.stack.setting.rules) {
+    if settle_way(site.stack, successor) {
         reason_of_taken(site, successor, room)
     } else {
         None
@@ -210,7 +213,7 @@ fn reason_on_side(
 {
     let (rom, stack, row, state) = (site.rom, site.stack, site.row, site.state);
     let program = program_of(site.rom, site.cert);
-    let memory = memory_before(&program, state, core, relations);
+    let memory = memory_before(site.stack, &program, state, core, relations);
     let Some(side) = taken_side(row.op, memory, core, relations) else {
         return None;
     };
@@ -225,6 +228,7 @@ fn reason_on_side(
 /// The lowest reason where the instruction is taken, if it may be. Where there is no condition nothing is cut, so that nothing is
 /// copied.
 #[inline(always)]
+#[tactic(auto, unfolding(gb_successors::specs::Successors::settled_way))]
 fn reason_if_taken(
     site: &Site<'_>,
     core: &Core,
@@ -244,7 +248,7 @@ fn reason_if_taken(
     reason_of_possible(
         site,
         &mut taken_successor(
-            stack, &program, rom, row, next, state, core, relations, &None,
+            stack, &program, rom, row, next, state, core, relations, &None, None,
         ),
         room,
     )
@@ -252,6 +256,7 @@ fn reason_if_taken(
 
 /// The lowest reason where it isn't taken, if it may not be.
 #[inline(never)]
+#[tactic(auto, unfolding(gb_successors::specs::Successors::settled_way))]
 fn reason_on_other_side(
     site: &Site<'_>,
     core: &Core,
@@ -264,13 +269,13 @@ fn reason_on_other_side(
 {
     let (stack, row, state) = (*site.stack, *site.row, site.state);
     let program = program_of(site.rom, site.cert);
-    let memory = memory_before(&program, state, core, relations);
+    let memory = memory_before(site.stack, &program, state, core, relations);
     let Some(side) = not_taken_side(row.op, memory, core, relations) else {
         return None;
     };
     let next = behind(site);
-    let mut successor = untaken_successor(stack, site.rom.kind(), row, next, state, &side);
-    if successor.reduce(stack.setting.rules) {
+    let mut successor = other_side_successor(stack, site.rom, row, next, state, &side);
+    if settle_way(&stack, &mut successor) {
         reason_of_way(site, &successor, room)
     } else {
         None

@@ -2,6 +2,7 @@ pub mod CheckedLaws
 pub mod FieldLaws
 pub mod Formats
 pub mod ListedLaws
+pub mod PlaceLaws
 pub mod RelationLaws
 pub mod Several
 pub mod StateLaws

@@ -17,22 +17,27 @@ use Rattle.gb_domain.specs.declared.pairs.Pairs.{Pairs}
 use Rattle.gb_domain.specs.declared.places.Test.{Test}
 use Rattle.gb_domain.specs.declared.places.Test.TheVariants.{Compare, Bits}
 use Rattle.gb_domain.specs.declared.places.OneByte.{OneByte}
+use Rattle.gb_domain.specs.declared.places.StackBytes.{StackBytes}
 use Rattle.gb_domain.specs.declared.relations.Relations.{Relations}
 use Rattle.gb_domain.specs.declared.rules.Rules.{Rules}
 use Rattle.gb_domain.specs.declared.rules.Rules.TheVariants.{Simple, Extended}
-use Rattle.gb_domain.specs.Areas.{is_area, meets, is_free_byte}
+use Rattle.gb_domain.specs.Areas.{is_free_byte}
 use Rattle.gb_domain.specs.Pairs.{nothing_known, no_pairs, facts_of, is_factor, IsLink, IsPairFacts}
 use Rattle.gb_domain.specs.Places.{no_byte}
 use Rattle.gb_fields.specs.Format.{Read, both, followed, optional, byte}
 use Rattle.gb_fields.specs.Reading.{is_between, is_ordered, word, byte_between, nothing}
 use Rattle.gb_states.specs.declared.relations.Present.{Present}
+use Rattle.gb_states.specs.declared.relations.InMemory.{InMemory}
+use Rattle.gb_states.specs.declared.relations.InMemory.TheVariants.{Nowhere, Address, Item}
 use Rattle.gb_domain.specs.RelationRules.{is_some_register, has_place, operand, compared, bits_of, IsOneByte, is_known, IsRelations, test_byte, test_alone, is_a_alone, is_test_byte, are_unknown, is_test_alone}
 use Rattle.gb_states.specs.Rules.{may_be_known}
-use Rattle.gb_states.specs.RelationReading.{defaulted, to_present, is_present, present_at, to_registers, have_place, registers_at, address_at, test_of, to_byte, byte_at, pair_of, pair_at, to_bounds, bounds_at, other_of, other_at, to_factor, factor_at, to_link, link_of, link_at, to_facts, facts_at, to_pairs, pairs_at, to_relations, parts_at, relations_at, relations_by}
+use Rattle.gb_states.specs.RelationReading.{defaulted, to_present, is_present, present_at, to_registers, have_place, registers_at, is_somewhere, place_by, memory_at, test_of, to_byte, byte_at, pair_of, pair_at, to_bounds, bounds_at, other_of, other_at, to_factor, factor_at, to_link, link_of, link_at, to_facts, facts_at, to_pairs, pairs_at, to_relations, parts_at, no_items, relations_at, relations_by}
 use Rattle.gb_states.specs.Spelling as spelled
 use Rattle.gb_states.specs.RelationSpelling as told
-use Rattle.gb_states.proofs.Formats.{IsFormat, IsFormat-byte, IsFormat-nothing, IsFormat-both, IsFormat-followed, IsFormat-checked, IsFormat-onto, IsFormat-mapped, IsFormat-as, IsFormat-spelled, IsFormat-optional, spelled_option, is_there}
-use Rattle.gb_states.proofs.FieldLaws.{le_is, is_le, and_both, is_within, all_below, below, same, area_small, flag_small, one-flag, spelled_byte, IsFormat-word, IsFormat-byte_between}
+use Rattle.gb_states.specs.WholeSpelling.{is_address, memory}
+use Rattle.gb_states.proofs.Formats.{IsFormat, IsFormat-byte, IsFormat-nothing, IsFormat-both, IsFormat-followed, IsFormat-checked, IsFormat-onto, IsFormat-mapped, IsFormat-as, IsFormat-spelled}
+use Rattle.gb_states.proofs.FieldLaws.{le_is, is_le, and_both, is_within, all_below, below, same, flag_small, one-flag, spelled_byte, IsFormat-word, IsFormat-byte_between}
+use Rattle.gb_states.proofs.PlaceLaws.{IsFormat-option, may_be_in, LiesIn, IsFormat-memory, memory-plain, somewhere, free-there, there-free}
 
 -- ---- what may be there
 
@@ -45,19 +50,6 @@ pub IsFormat-defaulted : {X : Type 0} (n : X) (shows : X → Bool) (there : Bool
     → IsFormat r w g → IsFormat (defaulted n there r) (λ x. told.where_there (shows x) (w x)) (IsWhere n g there)
 IsFormat-defaulted n shows true r w g hidden shown a = IsFormat-spelled r w (λ x. told.where_there (shows x) (w x)) g (λ x h. sym (ap (λ b. told.where_there b (w x)) (shown x h))) a
 IsFormat-defaulted n shows false r w g hidden shown a = IsFormat-nothing n (λ x. told.where_there (shows x) (w x)) (ap (λ b. told.where_there b (w n)) hidden)
-
-some-there : {X : Type 0} (o : Option X) → is_some o ≡ is_there o
-some-there None = refl
-some-there (Some x) = refl
-
-option-told : {X : Type 0} (w : X → List ℕ) (o : Option X) → spelled_option w o ≡ told.optional w o
-option-told w None = refl
-option-told w (Some x) = refl
-
-pub IsFormat-option : {X : Type 0} (there : Bool) (r : Read X) (w : X → List ℕ) (g : X → Type 0) → IsFormat r w g → IsFormat (optional there r) (told.optional w) (λ o. (is_some o ≡ there) × IfSome o g)
-IsFormat-option {X} there r w g a =
-    IsFormat-as (optional there r) (told.optional w) (λ o. (is_there o ≡ there) × IfSome o g) (λ o. (is_some o ≡ there) × IfSome o g) (λ o h. (some-there o ∙ h.0, h.1)) (λ o h. (sym (some-there o) ∙ h.0, h.1))
-    (IsFormat-spelled (optional there r) (spelled_option w) (told.optional w) (λ o. (is_there o ≡ there) × IfSome o g) (λ o h. option-told w o) (IsFormat-optional there r w g a))
 
 -- ---- seven bits
 
@@ -136,36 +128,29 @@ number-registers n h = same _ _ (below 128 (λ c. told.registers_number (to_regi
 abbrev spelled_registers : Registers Bool → List ℕ
 spelled_registers s = told.byte (told.registers_number s)
 
-IsFormat-registers : (address : Bool) → IsFormat (registers_at address) spelled_registers (λ s. have_place address s ≡ true)
+IsFormat-registers : (in_memory : Bool) → IsFormat (registers_at in_memory) spelled_registers (λ s. have_place in_memory s ≡ true)
 unfolding registers_at
-IsFormat-registers address =
-    IsFormat-as (registers_at address) spelled_registers (λ s. IsSeven (told.registers_number s) × (have_place address s ≡ true)) (λ s. have_place address s ≡ true) (λ s h. h.1) (λ s h. (is_seven (told.registers_number s) (registers-number s).1, h))
-    (IsFormat-checked fault.Field (have_place address) _ spelled_registers _ (IsFormat-mapped to_registers told.registers_number (byte_between 0 127) spelled_byte _ number-registers (λ s h. (registers-number s).0) (IsFormat-byte_between 0 127)))
-
-pub IsFormat-address : (region : Region) → IsFormat (address_at region) spelled.word (λ a. is_free_byte region a ≡ true)
-unfolding address_at
-IsFormat-address region =
-    IsFormat-as (address_at region) spelled.word (λ a. (a < 65536) × (is_free_byte region a ≡ true)) (λ a. is_free_byte region a ≡ true) (λ a h. h.1) (λ a h. ((area_small a a (and_both (is_area a a) (not (meets region a a)) h).0).0, h))
-    (IsFormat-checked fault.Field (is_free_byte region) word spelled.word (λ a. a < 65536) IsFormat-word)
+IsFormat-registers in_memory =
+    IsFormat-as (registers_at in_memory) spelled_registers (λ s. IsSeven (told.registers_number s) × (have_place in_memory s ≡ true)) (λ s. have_place in_memory s ≡ true) (λ s h. h.1) (λ s h. (is_seven (told.registers_number s) (registers-number s).1, h))
+    (IsFormat-checked fault.Field (have_place in_memory) _ spelled_registers _ (IsFormat-mapped to_registers told.registers_number (byte_between 0 127) spelled_byte _ number-registers (λ s h. (registers-number s).0) (IsFormat-byte_between 0 127)))
 
 -- the state's test and the bits of another aren't there both
 abbrev IsOneTest : Option ℕ → Bool → Type 0
 IsOneTest test bits = not (is_some test && bits) ≡ true
 
--- one byte at some place, an address and bits there as these say
-record IsPlaces (region : Region) (test : Option ℕ) (address bits : Bool) (b : OneByte) : Type 0 where
+-- one byte at some place, a place in memory and bits there as these say
+record IsPlaces (k : StackBytes) (test : Option ℕ) (at : InMemory) (bits : Bool) (b : OneByte) : Type 0 where
   place : has_place b ≡ true
-  has_address : is_some b.address ≡ address
+  memory : LiesIn k at b.address
   has_bits : is_some (bits_of b.test) ≡ bits
   compares : compared b.test ≡ test
-  free : IfSome b.address (λ a. is_free_byte region a ≡ true)
   small : IfSome b.test (λ t. operand t < 256)
 
 from_byte : OneByte → Registers Bool × (Option ℕ × Option ℕ)
 from_byte b = (b.registers, (b.address, bits_of b.test))
 
-abbrev ArePlaces : Region → Bool → Bool → Registers Bool × (Option ℕ × Option ℕ) → Type 0
-ArePlaces region address bits p = (have_place address p.0 ≡ true) × (((is_some p.1.0 ≡ address) × IfSome p.1.0 (λ a. is_free_byte region a ≡ true)) × ((is_some p.1.1 ≡ bits) × IfSome p.1.1 (λ m. m < 256)))
+abbrev ArePlaces : StackBytes → InMemory → Bool → Registers Bool × (Option ℕ × Option ℕ) → Type 0
+ArePlaces k at bits p = (have_place (is_somewhere at) p.0 ≡ true) × (LiesIn k at p.1.0 × ((is_some p.1.1 ≡ bits) × IfSome p.1.1 (λ m. m < 256)))
 
 not_both : {X : Type 0} (bits : Bool) → not (true && bits) ≡ true → true ≡ bits → X
 not_both true h e = absurd cc
@@ -197,56 +182,58 @@ bits-small (Some (Compare n)) h = tt
 bits-small (Some (Bits m)) h = h
 bits-small None h = tt
 
-byte-there : (region : Region) (test : Option ℕ) (address bits : Bool) → IsOneTest test bits → IfSome test (λ n. n < 256) → (p : Registers Bool × (Option ℕ × Option ℕ)) → ArePlaces region address bits p
-    → (from_byte (to_byte test p) ≡ p) × IsPlaces region test address bits (to_byte test p)
+byte-there : (k : StackBytes) (test : Option ℕ) (at : InMemory) (bits : Bool) → IsOneTest test bits → IfSome test (λ n. n < 256) → (p : Registers Bool × (Option ℕ × Option ℕ)) → ArePlaces k at bits p
+    → (from_byte (to_byte test p) ≡ p) × IsPlaces k test at bits (to_byte test p)
 unfolding from_byte
-byte-there region test address bits one small p h = (
+byte-there k test at bits one small p h = (
   ap (λ (o : Option ℕ). (let q : Registers Bool × (Option ℕ × Option ℕ) = (p.0, (p.1.0, o)) in q)) (bits-kept test p.1.1 bits one h.1.1.0),
   record {
     place = ap (λ a. a || is_some_register p.0) h.1.0.0 ∙ h.0;
-    has_address = h.1.0.0;
+    memory = h.1.0;
     has_bits = ap is_some (bits-kept test p.1.1 bits one h.1.1.0) ∙ h.1.1.0;
     compares = test-compares test p.1.1;
-    free = h.1.0.1;
     small = test-small test p.1.1 small h.1.1.1;
   },
 )
 
-byte-again : (region : Region) (test : Option ℕ) (address bits : Bool) (b : OneByte) → IsPlaces region test address bits b → ArePlaces region address bits (from_byte b) × (to_byte test (from_byte b) ≡ b)
+byte-again : (k : StackBytes) (test : Option ℕ) (at : InMemory) (bits : Bool) (b : OneByte) → IsPlaces k test at bits b → ArePlaces k at bits (from_byte b) × (to_byte test (from_byte b) ≡ b)
 unfolding from_byte
-byte-again region test address bits b h = (
-  (sym (ap (λ a. a || is_some_register b.registers) h.has_address) ∙ h.place, ((h.has_address, h.free), (h.has_bits, bits-small b.test h.small))),
+byte-again k test at bits b h = (
+  (sym (ap (λ a. a || is_some_register b.registers) h.memory.0) ∙ h.place, (h.memory, (h.has_bits, bits-small b.test h.small))),
   ap (λ (t : Option Test). (let q : OneByte = record { registers = b.registers; address = b.address; test = t } in q)) (ap (λ c. test_of c (bits_of b.test)) (sym h.compares) ∙ test-again b.test),
 )
 
-IsFormat-places : (region : Region) (test : Option ℕ) (address bits : Bool) → IsOneTest test bits → IfSome test (λ n. n < 256) → IsFormat (byte_at region test address bits) told.places (IsPlaces region test address bits)
-unfolding byte_at from_byte told.places
-IsFormat-places region test address bits one small =
-    IsFormat-onto (to_byte test) from_byte _ (λ p. spelled_registers p.0 ++ (told.optional spelled.word p.1.0 ++ told.optional spelled_byte p.1.1)) (ArePlaces region address bits) (IsPlaces region test address bits) (byte-there region test address bits one small) (byte-again region test address bits)
-    (IsFormat-both (registers_at address) (both (optional address (address_at region)) (optional bits byte)) _ _ _ _ (IsFormat-registers address)
-    (IsFormat-both (optional address (address_at region)) (optional bits byte) _ _ _ _ (IsFormat-option address (address_at region) spelled.word _ (IsFormat-address region)) (IsFormat-option bits byte spelled_byte (λ m. m < 256) IsFormat-byte)))
+-- the places, as version 4 spells the one in memory
+abbrev pub places_told : StackBytes → OneByte → List ℕ
+places_told k b = told.places_by (memory k.region k.base b.address) b
+
+IsFormat-places : (k : StackBytes) (test : Option ℕ) (at : InMemory) (bits : Bool) → IsOneTest test bits → IfSome test (λ n. n < 256) → k.count < 256 → IsFormat (byte_at k test at bits) (places_told k) (IsPlaces k test at bits)
+unfolding byte_at from_byte told.places_by
+IsFormat-places k test at bits one small few =
+    IsFormat-onto (to_byte test) from_byte _ (λ p. spelled_registers p.0 ++ (memory k.region k.base p.1.0 ++ told.optional spelled_byte p.1.1)) (ArePlaces k at bits) (IsPlaces k test at bits) (byte-there k test at bits one small) (byte-again k test at bits)
+    (IsFormat-both (registers_at (is_somewhere at)) (both (memory_at k at) (optional bits byte)) _ _ _ _ (IsFormat-registers (is_somewhere at))
+    (IsFormat-both (memory_at k at) (optional bits byte) _ _ _ _ (IsFormat-memory k at few) (IsFormat-option bits byte spelled_byte (λ m. m < 256) IsFormat-byte)))
 
 -- what holds of one byte where these parts are there
-pub record IsByteFor (region : Region) (test : Option ℕ) (there address bits : Bool) (b : OneByte) : Type 0 where
-  pub is_byte : IsOneByte region b
+pub record IsByteFor (k : StackBytes) (test : Option ℕ) (there : Bool) (at : InMemory) (bits : Bool) (b : OneByte) : Type 0 where
+  pub is_byte : IsOneByte (may_be_in k at) b
   pub place : has_place b ≡ there
-  pub has_address : is_some b.address ≡ address
+  pub in_memory : is_some b.address ≡ is_somewhere at
   pub has_bits : is_some (bits_of b.test) ≡ bits
   pub compares : compared b.test ≡ test
 
 -- there are a byte's parts only with the byte, and not two tests
-abbrev AreParts : Option ℕ → Bool → Bool → Bool → Type 0
-AreParts test there address bits = ((there || not (address || is_some test || bits)) && not (is_some test && bits)) ≡ true
+abbrev pub AreParts : Option ℕ → Bool → Bool → Bool → Type 0
+AreParts test there in_memory bits = ((there || not (in_memory || is_some test || bits)) && not (is_some test && bits)) ≡ true
 
-absent-byte : (region : Region) (test : Option ℕ) (address bits : Bool) → AreParts test false address bits → IsByteFor region test false address bits no_byte
-absent-byte region None false false h = record { is_byte = record { address = tt; place = refl; test = tt }; place = refl; has_address = refl; has_bits = refl; compares = refl }
-absent-byte region None false true h = absurd cc
-absent-byte region None true false h = absurd cc
-absent-byte region None true true h = absurd cc
-absent-byte region (Some n) false false h = absurd cc
-absent-byte region (Some n) false true h = absurd cc
-absent-byte region (Some n) true false h = absurd cc
-absent-byte region (Some n) true true h = absurd cc
+absent-byte : (k : StackBytes) (test : Option ℕ) (at : InMemory) (bits : Bool) → AreParts test false (is_somewhere at) bits → IsByteFor k test false at bits no_byte
+absent-byte k None Nowhere false h = record { is_byte = record { address = tt; place = refl; test = tt }; place = refl; in_memory = refl; has_bits = refl; compares = refl }
+absent-byte k None Nowhere true h = absurd cc
+absent-byte k None Address bits h = absurd cc
+absent-byte k None Item bits h = absurd cc
+absent-byte k (Some n) Nowhere bits h = absurd cc
+absent-byte k (Some n) Address bits h = absurd cc
+absent-byte k (Some n) Item bits h = absurd cc
 
 neither : (a b : Bool) → (a || b) ≡ false → (a ≡ false) × (b ≡ false)
 neither true b h = cc
@@ -277,34 +264,34 @@ or-second false b h e = h
 byte-same : (s t : Registers Bool) (a b : Option ℕ) (x y : Option Test) → s ≡ t → a ≡ b → x ≡ y → (let q : OneByte = record { registers = s; address = a; test = x } in q) ≡ record { registers = t; address = b; test = y }
 byte-same s t a b x y es ea ex = rw (es, ea, ex) refl
 
-byte-absent : (region : Region) (b : OneByte) → IsOneByte region b → has_place b ≡ false → b ≡ no_byte
-byte-absent region b g h =
+byte-absent : (may_be : ℕ → Bool) (b : OneByte) → IsOneByte may_be b → has_place b ≡ false → b ≡ no_byte
+byte-absent may_be b g h =
     let k = neither (is_some b.address) (is_some_register b.registers) h in
     byte-same b.registers _ b.address None b.test None (no-registers b.registers k.1) (none-is b.address k.0) (none_is b.test (or-second (has_place b) (is_none b.test) g.place h))
 
-byte-is : (region : Region) (test : Option ℕ) (there address bits : Bool) → AreParts test there address bits → (b : OneByte) → IsWhere no_byte (IsPlaces region test address bits) there b → IsByteFor region test there address bits b
-byte-is region test true address bits parts b h = record {
-  is_byte = record { address = h.free; place = ap (λ p. p || is_none b.test) h.place; test = h.small };
+byte-is : (k : StackBytes) (test : Option ℕ) (there : Bool) (at : InMemory) (bits : Bool) → AreParts test there (is_somewhere at) bits → (b : OneByte) → IsWhere no_byte (IsPlaces k test at bits) there b → IsByteFor k test there at bits b
+byte-is k test true at bits parts b h = record {
+  is_byte = record { address = h.memory.1; place = ap (λ p. p || is_none b.test) h.place; test = h.small };
   place = h.place;
-  has_address = h.has_address;
+  in_memory = h.memory.0;
   has_bits = h.has_bits;
   compares = h.compares;
 }
-byte-is region test false address bits parts b h = subst (IsByteFor region test false address bits) (sym h) (absent-byte region test address bits parts)
+byte-is k test false at bits parts b h = subst (IsByteFor k test false at bits) (sym h) (absent-byte k test at bits parts)
 
-is-byte : (region : Region) (test : Option ℕ) (there address bits : Bool) (b : OneByte) → IsByteFor region test there address bits b → IsWhere no_byte (IsPlaces region test address bits) there b
-is-byte region test true address bits b h = record { place = h.place; has_address = h.has_address; has_bits = h.has_bits; compares = h.compares; free = h.is_byte.address; small = h.is_byte.test }
-is-byte region test false address bits b h = byte-absent region b h.is_byte h.place
+is-byte : (k : StackBytes) (test : Option ℕ) (there : Bool) (at : InMemory) (bits : Bool) (b : OneByte) → IsByteFor k test there at bits b → IsWhere no_byte (IsPlaces k test at bits) there b
+is-byte k test true at bits b h = record { place = h.place; memory = (h.in_memory, h.is_byte.address); has_bits = h.has_bits; compares = h.compares; small = h.is_byte.test }
+is-byte k test false at bits b h = byte-absent (may_be_in k at) b h.is_byte h.place
 
-unfoldable pub told_byte : OneByte → List ℕ
-told_byte b = told.where_there (has_place b) (told.places b)
+unfoldable pub told_byte : StackBytes → OneByte → List ℕ
+told_byte k b = told.where_there (has_place b) (places_told k b)
 
-IsFormat-one_byte : (region : Region) (test : Option ℕ) (there address bits : Bool) → AreParts test there address bits → IfSome test (λ n. n < 256)
-    → IsFormat (defaulted no_byte there (byte_at region test address bits)) told_byte (IsByteFor region test there address bits)
+IsFormat-one_byte : (k : StackBytes) (test : Option ℕ) (there : Bool) (at : InMemory) (bits : Bool) → AreParts test there (is_somewhere at) bits → IfSome test (λ n. n < 256) → k.count < 256
+    → IsFormat (defaulted no_byte there (byte_at k test at bits)) (told_byte k) (IsByteFor k test there at bits)
 unfolding told_byte
-IsFormat-one_byte region test there address bits parts small =
-    IsFormat-as (defaulted no_byte there (byte_at region test address bits)) told_byte (IsWhere no_byte (IsPlaces region test address bits) there) (IsByteFor region test there address bits) (byte-is region test there address bits parts) (is-byte region test there address bits)
-    (IsFormat-defaulted no_byte has_place there (byte_at region test address bits) told.places (IsPlaces region test address bits) refl (λ b h. h.place) (IsFormat-places region test address bits (and_both (there || not (address || is_some test || bits)) (not (is_some test && bits)) parts).1 small))
+IsFormat-one_byte k test there at bits parts small few =
+    IsFormat-as (defaulted no_byte there (byte_at k test at bits)) (told_byte k) (IsWhere no_byte (IsPlaces k test at bits) there) (IsByteFor k test there at bits) (byte-is k test there at bits parts) (is-byte k test there at bits)
+    (IsFormat-defaulted no_byte has_place there (byte_at k test at bits) (places_told k) (IsPlaces k test at bits) refl (λ b h. h.place) (IsFormat-places k test at bits (and_both (there || not (is_somewhere at || is_some test || bits)) (not (is_some test && bits)) parts).1 small few))
 
 -- ---- pairs
 
@@ -546,16 +533,17 @@ IsFormat-pairs p =
 abbrev pub All : Type 0
 All = Present × (OneByte × (Option WordPair × Pairs))
 
-unfoldable pub from_relations : Relations → All
-from_relations r = (told.present_in r, (r.byte, (r.zero, r.pairs)))
+-- where an address is there as this says
+unfoldable pub from_relations : Bool → Relations → All
+from_relations address r = (told.present_by address r, (r.byte, (r.zero, r.pairs)))
 
 -- what is behind those that there are
-abbrev pub ArePresent : Region → Option ℕ → Present → OneByte × (Option WordPair × Pairs) → Type 0
-ArePresent region test p q = IsByteFor region test p.byte p.address p.bits q.0 × (((is_some q.1.0 ≡ p.zero) × IfSome q.1.0 (λ z. Unit {0})) × ArePairsFor p q.1.1)
+abbrev pub ArePresent : StackBytes → Option ℕ → InMemory → Present → OneByte × (Option WordPair × Pairs) → Type 0
+ArePresent k test at p q = IsByteFor k test p.byte at p.bits q.0 × (((is_some q.1.0 ≡ p.zero) × IfSome q.1.0 (λ z. Unit {0})) × ArePairsFor p q.1.1)
 
 -- what there may be beside a state's test
-abbrev pub IsTold : Region → Option ℕ → Relations → Type 0
-IsTold region test r = IsRelations region r × (compared r.byte.test ≡ test)
+abbrev pub IsTold : (ℕ → Bool) → Option ℕ → Relations → Type 0
+IsTold may_be test r = IsRelations may_be r × (compared r.byte.test ≡ test)
 
 pair-facts : (f : PairFacts) (there : Bool) → AreFactsFor there f → IsPairFacts f
 pair-facts f there h = record { last = h.0.0.1; link = h.0.1 }
@@ -570,26 +558,33 @@ pairs-ordered p s h Bc = h.0.0.0.0
 pairs-ordered p s h De = h.1.0.0.0.0
 pairs-ordered p s h Hl = h.1.1.0.0.0
 
-pub relations-there : (region : Region) (test : Option ℕ) (x : All) → (is_present test x.0 ≡ true) × ArePresent region test x.0 x.1 → (from_relations (to_relations x) ≡ x) × IsTold region test (to_relations x)
+pub relations-there : (k : StackBytes) (test : Option ℕ) (at : InMemory) (x : All) → ArePresent k test at x.0 x.1 → (from_relations x.0.address (to_relations x) ≡ x) × IsTold (may_be_in k at) test (to_relations x)
 unfolding from_relations
-relations-there region test x h =
+relations-there k test at x h =
     let p = x.0 in
-    let b = h.1.0 in
-    let s = h.1.1.1 in (
-      ap (λ (p : Present). (let q : All = (p, x.1) in q)) (present-same _ _ _ _ _ _ _ x.0.byte x.0.address x.0.bits x.0.zero x.0.bc x.0.de x.0.hl b.place b.has_address b.has_bits h.1.1.0.0 s.0.1 s.1.0.1 s.1.1.1),
+    let b = h.0 in
+    let s = h.1.1 in (
+      ap (λ (p : Present). (let q : All = (p, x.1) in q)) (present-same _ _ _ _ _ _ _ x.0.byte x.0.address x.0.bits x.0.zero x.0.bc x.0.de x.0.hl b.place refl b.has_bits h.1.0.0 s.0.1 s.1.0.1 s.1.1.1),
       (record { byte = b.is_byte; pairs = record { each = pairs-each x.0 x.1.1.1 s }; order = pairs-ordered x.0 x.1.1.1 s }, b.compares),
     )
 
+-- The same relations, where the address is right by another rule.
+pub address-as : (may_be may_too : ℕ → Bool) (r : Relations) → IsRelations may_be r → IfSome r.byte.address (λ a. may_too a ≡ true) → IsRelations may_too r
+address-as may_be may_too r h a = record { byte = record { address = a; place = h.byte.place; test = h.byte.test }; pairs = h.pairs; order = h.order }
+
 -- the parts that there are, are such
-present-parts : (address register : Bool) (t : Option Test) → ((address || register) || is_none t) ≡ true → AreParts (compared t) (address || register) address (is_some (bits_of t))
-present-parts true register None h = refl
-present-parts true register (Some (Compare n)) h = refl
-present-parts true register (Some (Bits m)) h = refl
-present-parts false true None h = refl
-present-parts false true (Some (Compare n)) h = refl
-present-parts false true (Some (Bits m)) h = refl
-present-parts false false None h = refl
-present-parts false false (Some t) h = absurd cc
+pub present-parts : (at : InMemory) (register : Bool) (t : Option Test) → ((is_somewhere at || register) || is_none t) ≡ true → AreParts (compared t) (is_somewhere at || register) (is_address at) (is_some (bits_of t))
+present-parts Address register None h = refl
+present-parts Address register (Some (Compare n)) h = refl
+present-parts Address register (Some (Bits m)) h = refl
+present-parts Item register None h = refl
+present-parts Item register (Some (Compare n)) h = refl
+present-parts Item register (Some (Bits m)) h = refl
+present-parts Nowhere true None h = refl
+present-parts Nowhere true (Some (Compare n)) h = refl
+present-parts Nowhere true (Some (Bits m)) h = refl
+present-parts Nowhere false None h = refl
+present-parts Nowhere false (Some t) h = absurd cc
 
 some-pair : (o : Option WordPair) → IfSome o (λ z. Unit {0})
 some-pair None = tt
@@ -598,37 +593,84 @@ some-pair (Some z) = tt
 facts-for : (f : PairFacts) → IsPairFacts f → f.bounds.first ≤ f.bounds.last → AreFactsFor (is_known f) f
 facts-for f h order = (((order, h.last), h.link), refl)
 
-pub relations-again : (region : Region) (test : Option ℕ) (r : Relations) → IsTold region test r
-    → ((is_present test (from_relations r).0 ≡ true) × ArePresent region test (from_relations r).0 (from_relations r).1) × (to_relations (from_relations r) ≡ r)
+pub relations-again : (k : StackBytes) (test : Option ℕ) (at : InMemory) (address : Bool) (r : Relations) → IsTold (may_be_in k at) test r → is_some r.byte.address ≡ is_somewhere at
+    → ArePresent k test at (from_relations address r).0 (from_relations address r).1 × (to_relations (from_relations address r) ≡ r)
 unfolding from_relations
-relations-again region test r h =
+relations-again k test at address r h in_memory =
     let e = h.0.pairs.each in
     let o = h.0.order in (
       (
-        subst (λ t. is_present t (told.present_in r) ≡ true) h.1 (present-parts (is_some r.byte.address) (is_some_register r.byte.registers) r.byte.test h.0.byte.place),
-        (
-          record { is_byte = h.0.byte; place = refl; has_address = refl; has_bits = refl; compares = h.1 },
-          ((refl, some-pair r.zero), (facts-for r.pairs.bc (e Bc) (o Bc), (facts-for r.pairs.de (e De) (o De), facts-for r.pairs.hl (e Hl) (o Hl)))),
-        ),
+        record { is_byte = h.0.byte; place = refl; in_memory = in_memory; has_bits = refl; compares = h.1 },
+        ((refl, some-pair r.zero), (facts-for r.pairs.bc (e Bc) (o Bc), (facts-for r.pairs.de (e De) (o De), facts-for r.pairs.hl (e Hl) (o Hl)))),
       ),
       refl,
     )
 
-abbrev pub told_parts : OneByte × (Option WordPair × Pairs) → List ℕ
-told_parts q = told_byte q.0 ++ (told.optional told.pair q.1.0 ++ told.pairs q.1.1)
+-- which parts there are may be said, where the address is there as the place in memory says
+pub is-present : (may_be : ℕ → Bool) (test : Option ℕ) (at : InMemory) (r : Relations) → IsTold may_be test r → is_some r.byte.address ≡ is_somewhere at → is_present test (from_relations (is_address at) r).0 ≡ true
+unfolding from_relations
+is-present may_be test at r h in_memory =
+    let register = is_some_register r.byte.registers in
+    let place : ((is_somewhere at || register) || is_none r.byte.test) ≡ true = sym (ap (λ a. (a || register) || is_none r.byte.test) in_memory) ∙ h.0.byte.place in
+    subst (λ t. AreParts t (is_some r.byte.address || register) (is_address at) (is_some (bits_of r.byte.test))) h.1
+    (subst (λ a. AreParts (compared r.byte.test) (a || register) (is_address at) (is_some (bits_of r.byte.test))) (sym in_memory) (present-parts at register r.byte.test place))
 
-pub IsFormat-parts : (region : Region) (test : Option ℕ) (p : Present) → IfSome test (λ n. n < 256) → is_present test p ≡ true → IsFormat (parts_at region test p) told_parts (ArePresent region test p)
+abbrev pub told_parts : StackBytes → OneByte × (Option WordPair × Pairs) → List ℕ
+told_parts k q = told_byte k q.0 ++ (told.optional told.pair q.1.0 ++ told.pairs q.1.1)
+
+pub IsFormat-parts : (k : StackBytes) (test : Option ℕ) (at : InMemory) (p : Present) → IfSome test (λ n. n < 256) → k.count < 256 → AreParts test p.byte (is_somewhere at) p.bits → IsFormat (parts_at k test at p) (told_parts k) (ArePresent k test at p)
 unfolding told_byte
-IsFormat-parts region test p small h =
-    IsFormat-both (defaulted no_byte p.byte (byte_at region test p.address p.bits)) (both (optional p.zero pair_at) (pairs_at p)) told_byte (λ q. told.optional told.pair q.0 ++ told.pairs q.1) (IsByteFor region test p.byte p.address p.bits) (λ q. ((is_some q.0 ≡ p.zero) × IfSome q.0 (λ z. Unit {0})) × ArePairsFor p q.1) (IsFormat-one_byte region test p.byte p.address p.bits h small)
+IsFormat-parts k test at p small few h =
+    IsFormat-both (defaulted no_byte p.byte (byte_at k test at p.bits)) (both (optional p.zero pair_at) (pairs_at p)) (told_byte k) (λ q. told.optional told.pair q.0 ++ told.pairs q.1) (IsByteFor k test p.byte at p.bits) (λ q. ((is_some q.0 ≡ p.zero) × IfSome q.0 (λ z. Unit {0})) × ArePairsFor p q.1) (IsFormat-one_byte k test p.byte at p.bits h small few)
     (IsFormat-both (optional p.zero pair_at) (pairs_at p) (told.optional told.pair) told.pairs (λ z. (is_some z ≡ p.zero) × IfSome z (λ z. Unit {0})) (ArePairsFor p) (IsFormat-option p.zero pair_at told.pair (λ z. Unit {0}) IsFormat-pair) (IsFormat-pairs p))
 
+-- ---- versions 1 to 3
+
+-- in them a place in memory is an address
+abbrev older_place : Present → InMemory
+older_place p = place_by false p.address
+
+abbrev AreOlder : Region → Option ℕ → All → Type 0
+AreOlder region test x = (is_present test x.0 ≡ true) × ArePresent (no_items region) test (older_place x.0) x.0 x.1
+
+abbrev older_of : Relations → All
+older_of r = from_relations (is_some r.byte.address) r
+
+older-there : (region : Region) (test : Option ℕ) (x : All) → AreOlder region test x → (older_of (to_relations x) ≡ x) × IsTold (is_free_byte region) test (to_relations x)
+older-there region test x h =
+    let k = no_items region in
+    let r = relations-there k test (older_place x.0) x h.1 in
+    let address = h.1.0.in_memory ∙ somewhere x.0.address in
+    (ap (λ a. from_relations a (to_relations x)) address ∙ r.0, (address-as (may_be_in k (older_place x.0)) (is_free_byte region) (to_relations x) r.1.0 (free-there k x.0.address x.1.0.address r.1.0.byte.address), r.1.1))
+
+older-again : (region : Region) (test : Option ℕ) (r : Relations) → IsTold (is_free_byte region) test r → AreOlder region test (older_of r) × (to_relations (older_of r) ≡ r)
+unfolding from_relations
+older-again region test r h =
+    let k = no_items region in
+    let address = is_some r.byte.address in
+    let at = place_by false address in
+    let there : IsTold (may_be_in k at) test r = (address-as (is_free_byte region) (may_be_in k at) r h.0 (there-free k r.byte.address h.0.byte.address), h.1) in
+    let a = relations-again k test at address r there (sym (somewhere address)) in
+    ((subst (λ b. is_present test (from_relations b r).0 ≡ true) (spelled_so address) (is-present (may_be_in k at) test at r there (sym (somewhere address))), a.0), a.1)
+  where
+    spelled_so : (address : Bool) → is_address (place_by false address) ≡ address
+    spelled_so true = refl
+    spelled_so false = refl
+
+-- The place in memory has the same bytes as the address.
+older-told : (region : Region) (r : Relations) → IsRelations (is_free_byte region) r → spelled_present (older_of r).0 ++ told_parts (no_items region) (older_of r).1 ≡ told.relations r
+unfolding from_relations told_byte told.relations
+older-told region r h = ap (λ m. told.present_number (told.present_in r) ∷ told.parts_by m r) (memory-plain region 0 r.byte.address h.byte.address)
+
 -- What is read beside a state's test is the spelling of what there may be, whose test compares where the state's does.
-pub IsFormat-relations : (region : Region) (test : Option ℕ) → IfSome test (λ n. n < 256) → IsFormat (relations_at region test) told.relations (IsTold region test)
-unfolding relations_at from_relations told_byte told.relations
+pub IsFormat-relations : (region : Region) (test : Option ℕ) → IfSome test (λ n. n < 256) → IsFormat (relations_at region test) told.relations (IsTold (is_free_byte region) test)
+unfolding relations_at
 IsFormat-relations region test small =
-    IsFormat-onto to_relations from_relations _ (λ x. spelled_present x.0 ++ told_parts x.1) (λ x. (is_present test x.0 ≡ true) × ArePresent region test x.0 x.1) (IsTold region test) (relations-there region test) (relations-again region test)
-    (IsFormat-followed (present_at test) (parts_at region test) spelled_present (λ p. told_parts) (λ p. is_present test p ≡ true) (ArePresent region test) (IsFormat-present test) (λ p h. IsFormat-parts region test p small h))
+    let k = no_items region in
+    IsFormat-spelled (relations_at region test) (λ r. spelled_present (older_of r).0 ++ told_parts k (older_of r).1) told.relations (IsTold (is_free_byte region) test) (λ r h. older-told region r h.0)
+    (IsFormat-onto to_relations older_of _ (λ x. spelled_present x.0 ++ told_parts k x.1) (AreOlder region test) (IsTold (is_free_byte region) test) (older-there region test) (older-again region test)
+    (IsFormat-followed (present_at test) (λ p. parts_at k test (older_place p) p) spelled_present (λ p. told_parts k) (λ p. is_present test p ≡ true) (λ p. ArePresent k test (older_place p) p) (IsFormat-present test)
+    (λ p h. IsFormat-parts k test (older_place p) p small (omega arith) (subst (λ a. AreParts test p.byte a p.bits) (sym (somewhere p.address)) h))))
 
 -- ---- a test of A alone
 
@@ -636,9 +678,9 @@ alone-compares : (test : Option ℕ) → compared (test_alone test).byte.test �
 alone-compares None = refl
 alone-compares (Some n) = refl
 
-alone-byte : (region : Region) (test : Option ℕ) → IfSome test (λ n. n < 256) → IsOneByte region (test_byte test)
-alone-byte region None small = record { address = tt; place = refl; test = tt }
-alone-byte region (Some n) small = record { address = tt; place = refl; test = small }
+alone-byte : (may_be : ℕ → Bool) (test : Option ℕ) → IfSome test (λ n. n < 256) → IsOneByte may_be (test_byte test)
+alone-byte may_be None small = record { address = tt; place = refl; test = tt }
+alone-byte may_be (Some n) small = record { address = tt; place = refl; test = small }
 
 unknown-facts : (p : WordPair) → IsPairFacts (facts_of p no_pairs)
 unknown-facts Bc = record { last = omega arith; link = tt }
@@ -650,8 +692,8 @@ unknown-ordered Bc = omega arith
 unknown-ordered De = omega arith
 unknown-ordered Hl = omega arith
 
-pub alone-relations : (region : Region) (test : Option ℕ) → IfSome test (λ n. n < 256) → IsRelations region (test_alone test)
-alone-relations region test small = record { byte = alone-byte region test small; pairs = record { each = unknown-facts }; order = unknown-ordered }
+pub alone-relations : (may_be : ℕ → Bool) (test : Option ℕ) → IfSome test (λ n. n < 256) → IsRelations may_be (test_alone test)
+alone-relations may_be test small = record { byte = alone-byte may_be test small; pairs = record { each = unknown-facts }; order = unknown-ordered }
 
 alone-is : (test : Option ℕ) → is_test_alone (test_alone test) ≡ true
 alone-is None = refl
@@ -704,21 +746,21 @@ is-alone r h =
 -- what there may be beside a state's test, by the rules
 abbrev pub IsToldBy : Rules → Region → Option ℕ → Relations → Type 0
 IsToldBy Simple region test r = r ≡ test_alone test
-IsToldBy Extended region test r = IsTold region test r
+IsToldBy Extended region test r = IsTold (is_free_byte region) test r
 
 pub told-compares : (rules : Rules) (region : Region) (test : Option ℕ) (r : Relations) → IsToldBy rules region test r → compared r.byte.test ≡ test
 told-compares Simple region test r h = ap (λ (s : Relations). compared s.byte.test) h ∙ alone-compares test
 told-compares Extended region test r h = h.1
 
-pub told-relations : (rules : Rules) (region : Region) (test : Option ℕ) (r : Relations) → IfSome test (λ n. n < 256) → IsToldBy rules region test r → IsRelations region r
-told-relations Simple region test r small h = subst (IsRelations region) (sym h) (alone-relations region test small)
+pub told-relations : (rules : Rules) (region : Region) (test : Option ℕ) (r : Relations) → IfSome test (λ n. n < 256) → IsToldBy rules region test r → IsRelations (is_free_byte region) r
+told-relations Simple region test r small h = subst (IsRelations (is_free_byte region)) (sym h) (alone-relations (is_free_byte region) test small)
 told-relations Extended region test r small h = h.0
 
 pub told-known : (rules : Rules) (region : Region) (test : Option ℕ) (r : Relations) → IsToldBy rules region test r → may_be_known rules r ≡ true
 told-known Simple region test r h = ap is_test_alone h ∙ alone-is test
 told-known Extended region test r h = refl
 
-pub is-told : (rules : Rules) (region : Region) (r : Relations) → IsRelations region r → may_be_known rules r ≡ true → IsToldBy rules region (compared r.byte.test) r
+pub is-told : (rules : Rules) (region : Region) (r : Relations) → IsRelations (is_free_byte region) r → may_be_known rules r ≡ true → IsToldBy rules region (compared r.byte.test) r
 is-told Simple region r h known = is-alone r known
 is-told Extended region r h known = (h, refl)
 
@@ -735,13 +777,14 @@ no-flag : (b : Bool) → spelled.flag b ≡ 0 → b ≡ false
 no-flag true e = cc
 no-flag false e = refl
 
--- Where no part is there nothing is known, and spelled.
-pub nothing-told : (region : Region) (r : Relations) → IsRelations region r → told.present_number (told.present_in r) ≡ 0 → (r ≡ test_alone None) × (told.relations r ≡ 0 ∷ [])
-unfolding told.relations told.pairs
-nothing-told region r h e =
-    let p = told.present_in r in
-    let none : r ≡ test_alone None =
-    relations-same r.byte no_byte r.zero None r.pairs no_pairs (byte-absent region r.byte h.byte (no-flag p.byte (omega (arith, e)))) (none-is r.zero (no-flag p.zero (omega (arith, e))))
+-- Where no part is there nothing is known.
+pub nothing-known : (may_be : ℕ → Bool) (address : Bool) (r : Relations) → IsRelations may_be r → told.present_number (told.present_by address r) ≡ 0 → r ≡ test_alone None
+nothing-known may_be address r h e =
+    let p = told.present_by address r in
+    relations-same r.byte no_byte r.zero None r.pairs no_pairs (byte-absent may_be r.byte h.byte (no-flag p.byte (omega (arith, e)))) (none-is r.zero (no-flag p.zero (omega (arith, e))))
     (pairs-same r.pairs.bc r.pairs.de r.pairs.hl nothing_known nothing_known nothing_known (facts-absent r.pairs.bc (no-flag p.bc (omega (arith, e)))) (facts-absent r.pairs.de (no-flag p.de (omega (arith, e)))) (facts-absent r.pairs.hl (no-flag p.hl (omega (arith, e)))))
-    in
-    (none, ap told.relations none)
+
+-- And nothing is spelled.
+pub nothing-told : (may_be : ℕ → Bool) (r : Relations) → IsRelations may_be r → told.present_number (told.present_in r) ≡ 0 → (r ≡ test_alone None) × (told.relations r ≡ 0 ∷ [])
+unfolding told.relations told.pairs
+nothing-told may_be r h e = let none = nothing-known may_be (is_some r.byte.address) r h e in (none, ap told.relations none)

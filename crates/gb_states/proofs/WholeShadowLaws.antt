@@ -19,7 +19,8 @@ use Rattle.gb_states.specs.RelationSpelling as told
 use Rattle.gb_states.specs.WholeSpelling as spelled
 use Rattle.gb_states.proofs.Formats.{IsFormat, IsFormat-byte, IsFormat-followed, IsFormat-checked, IsFormat-onto, IsFormat-mapped, IsFormat-as}
 use Rattle.gb_states.proofs.FieldLaws.{same, spelled_byte}
-use Rattle.gb_states.proofs.RelationLaws.{is_seven, registers-number, number-registers, no-registers, IsFormat-option, IsFormat-address}
+use Rattle.gb_states.proofs.RelationLaws.{is_seven, registers-number, number-registers, no-registers}
+use Rattle.gb_states.proofs.PlaceLaws.{IsFormat-option, IsFormat-address}
 
 from_shadows : Shadows → ℕ × Option ℕ
 from_shadows s = (spelled.shadows_number s, s.address)

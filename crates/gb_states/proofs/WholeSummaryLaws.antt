@@ -25,44 +25,45 @@ use Rattle.gb_states.specs.RelationSpelling as told
 use Rattle.gb_states.specs.WholeSpelling as spelled
 use Rattle.gb_states.proofs.Formats.{IsFormat, IsFormat-both, IsFormat-checked, IsFormat-mapped, IsFormat-as, IsFormat-counted, all_of_chain, chain_of_all}
 use Rattle.gb_states.proofs.FieldLaws.{le_is, is_le, within, is_within, all_below, below, same, flag_small, one-flag, spelled_byte, IsFormat-word, IsFormat-byte_between, IsFormat-count_within}
-use Rattle.gb_states.proofs.RelationLaws.{IsWhere, IsFormat-defaulted, IsFormat-option, IsFormat-address, AreBounds, IsFormat-bounds}
+use Rattle.gb_states.proofs.RelationLaws.{IsWhere, IsFormat-defaulted, AreBounds, IsFormat-bounds}
+use Rattle.gb_states.proofs.PlaceLaws.{IsFormat-option, IsFormat-address}
 use Rattle.gb_states.proofs.SummaryLaws.{unshadowed-is, no-fills}
 use Rattle.gb_states.proofs.WholeFactLaws.{IsFormat-fact, IsFormat-levels}
 use Rattle.gb_states.proofs.WholeShadowLaws.{IsFormat-bank_shadows}
 
 -- ---- which parts there are
 
-bits-number : (a b c : ℕ) → a ≤ 1 → b ≤ 1 → c ≤ 1 → (n : ℕ) → n ≡ 4 * c + 2 * b + a → (n % 2 ≡ a) × (n / 2 % 2 ≡ b) × (n / 4 ≡ c) × (n ≤ 7)
-bits-number a b c a1 b1 c1 n e0 = (omega arith, omega arith, omega arith, omega arith)
+bits-number : (a b c d : ℕ) → a ≤ 1 → b ≤ 1 → c ≤ 1 → d ≤ 1 → (n : ℕ) → n ≡ 8 * d + 4 * c + 2 * b + a → (n % 2 ≡ a) × (n / 2 % 2 ≡ b) × (n / 4 % 2 ≡ c) × (n / 8 ≡ d) × (n ≤ 15)
+bits-number a b c d a1 b1 c1 d1 n e0 = (omega arith, omega arith, omega arith, omega arith, omega arith)
 
-abbrev pub declared : Bool → Bool → Bool → Declared
-declared a b c = record { shadows = a; levels = b; aside = c }
+abbrev pub declared : Bool → Bool → Bool → Bool → Declared
+declared a b c d = record { shadows = a; levels = b; aside = c; item = d }
 
-pub declared-same : (a b c a2 b2 c2 : Bool) → a ≡ a2 → b ≡ b2 → c ≡ c2 → declared a b c ≡ declared a2 b2 c2
-declared-same a b c a2 b2 c2 ea eb ec = rw (ea, eb, ec) refl
+pub declared-same : (a b c d a2 b2 c2 d2 : Bool) → a ≡ a2 → b ≡ b2 → c ≡ c2 → d ≡ d2 → declared a b c d ≡ declared a2 b2 c2 d2
+declared-same a b c d a2 b2 c2 d2 ea eb ec ed = rw (ea, eb, ec, ed) refl
 
-declared-again : (d : Declared) → (to_declared (spelled.declared_number d) ≡ d) × (spelled.declared_number d ≤ 7)
+declared-again : (d : Declared) → (to_declared (spelled.declared_number d) ≡ d) × (spelled.declared_number d ≤ 15)
 declared-again d =
     let n : ℕ = spelled.declared_number d in
-    let b = bits-number (simple.flag d.shadows) (simple.flag d.levels) (simple.flag d.aside) (flag_small d.shadows) (flag_small d.levels) (flag_small d.aside) n refl in
-    (declared-same (n % 2 == 1) (n / 2 % 2 == 1) (n / 4 == 1) d.shadows d.levels d.aside (one-flag _ d.shadows b.0) (one-flag _ d.levels b.1) (one-flag _ d.aside b.2), b.3)
+    let b = bits-number (simple.flag d.shadows) (simple.flag d.levels) (simple.flag d.aside) (simple.flag d.item) (flag_small d.shadows) (flag_small d.levels) (flag_small d.aside) (flag_small d.item) n refl in
+    (declared-same (n % 2 == 1) (n / 2 % 2 == 1) (n / 4 % 2 == 1) (n / 8 == 1) d.shadows d.levels d.aside d.item (one-flag _ d.shadows b.0) (one-flag _ d.levels b.1) (one-flag _ d.aside b.2) (one-flag _ d.item b.3), b.4)
 
-number-declared : (n : ℕ) → (n < 256) × (is_between 0 7 n ≡ true) → spelled.declared_number (to_declared n) ≡ n
+number-declared : (n : ℕ) → (n < 256) × (is_between 0 15 n ≡ true) → spelled.declared_number (to_declared n) ≡ n
 unfolding all_below
-number-declared n h = same _ _ (below 8 (λ c. spelled.declared_number (to_declared c) == c) refl n (high n h.1))
+number-declared n h = same _ _ (below 16 (λ c. spelled.declared_number (to_declared c) == c) refl n (high n h.1))
   where
-    high : (n : ℕ) → is_between 0 7 n ≡ true → n < 8
+    high : (n : ℕ) → is_between 0 15 n ≡ true → n < 16
     high n h = grind (arith, nat_tests)
 
 abbrev pub spelled_declared : Declared → List ℕ
 spelled_declared d = spelled.declared_number d ∷ []
 
-pub IsFormat-declared : (may_be_aside : Bool) → IsFormat (declared_at may_be_aside) spelled_declared (λ d. may_be_declared may_be_aside d ≡ true)
+pub IsFormat-declared : (aside item : Bool) → IsFormat (declared_at aside item) spelled_declared (λ d. may_be_declared aside item d ≡ true)
 unfolding declared_at
-IsFormat-declared may =
-    IsFormat-as (declared_at may) spelled_declared (λ d. ((spelled.declared_number d < 256) × (is_between 0 7 (spelled.declared_number d) ≡ true)) × (may_be_declared may d ≡ true)) (λ d. may_be_declared may d ≡ true) (λ d h. h.1)
-    (λ d h. let few = (declared-again d).1 in ((omega (arith, few), is_within 7 (spelled.declared_number d) few), h))
-    (IsFormat-checked fault.Field (may_be_declared may) _ spelled_declared _ (IsFormat-mapped to_declared spelled.declared_number (byte_between 0 7) spelled_byte _ number-declared (λ d h. (declared-again d).0) (IsFormat-byte_between 0 7)))
+IsFormat-declared aside item =
+    IsFormat-as (declared_at aside item) spelled_declared (λ d. ((spelled.declared_number d < 256) × (is_between 0 15 (spelled.declared_number d) ≡ true)) × (may_be_declared aside item d ≡ true)) (λ d. may_be_declared aside item d ≡ true) (λ d h. h.1)
+    (λ d h. let few = (declared-again d).1 in ((omega (arith, few), is_within 15 (spelled.declared_number d) few), h))
+    (IsFormat-checked fault.Field (may_be_declared aside item) _ spelled_declared _ (IsFormat-mapped to_declared spelled.declared_number (byte_between 0 15) spelled_byte _ number-declared (λ d h. (declared-again d).0) (IsFormat-byte_between 0 15)))
 
 -- ---- the parts
 

@@ -78,7 +78,7 @@ are_four_zeros (n ∷ rest) = n == 0 && are_three_zeros rest
 abbrev pub are_none : Form → List ℕ → Bool
 are_none (Older Simple) b = begins_with_zeros b
 are_none (Older Extended) b = are_three_zeros b
-are_none (Fourth facts kept) b = are_four_zeros b
+are_none (Fourth facts form) b = are_four_zeros b
 
 -- ---- items and cells that stand one behind the other
 

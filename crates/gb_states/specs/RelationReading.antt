@@ -1,5 +1,5 @@
 -- Reading what a state says of several of its parts together, field by field (own format). A test of two fields is made behind the later one.
-use Rattle.std.specs.Prelude.{ℕ, ◌+◌, ◌/◌, ◌%◌, Bool, true, false, not, ◌&&◌, ◌||◌, ◌==◌, nat_lt, Option, Some, None, is_some, if◌then◌else◌}
+use Rattle.std.specs.Prelude.{ℕ, ◌+◌, ◌-◌, ◌/◌, ◌%◌, Bool, true, false, not, ◌&&◌, ◌||◌, ◌==◌, nat_lt, Option, Some, None, is_some, if◌then◌else◌}
 use Rattle.gb_ops.specs.declared.machine.Region.{Region}
 use Rattle.gb_ops.specs.declared.op.Register.TheVariants.{A, B, C, D, E, H, L}
 use Rattle.gb_ops.specs.declared.registers.Registers.{Registers}
@@ -15,15 +15,18 @@ use Rattle.gb_domain.specs.declared.pairs.Pairs.{Pairs}
 use Rattle.gb_domain.specs.declared.places.Test.{Test}
 use Rattle.gb_domain.specs.declared.places.Test.TheVariants.{Compare, Bits}
 use Rattle.gb_domain.specs.declared.places.OneByte.{OneByte}
+use Rattle.gb_domain.specs.declared.places.StackBytes.{StackBytes}
 use Rattle.gb_domain.specs.declared.relations.Relations.{Relations}
 use Rattle.gb_domain.specs.declared.rules.Rules.{Rules}
 use Rattle.gb_domain.specs.declared.rules.Rules.TheVariants.{Simple, Extended}
 use Rattle.gb_domain.specs.Pairs.{nothing_known}
 use Rattle.gb_domain.specs.Places.{no_byte}
 use Rattle.gb_states.specs.declared.relations.Present.{Present}
+use Rattle.gb_states.specs.declared.relations.InMemory.{InMemory}
+use Rattle.gb_states.specs.declared.relations.InMemory.TheVariants.{Nowhere, Address, Item}
 use Rattle.gb_fields.specs.Format.{Read, followed, both, mapped, checked, optional, byte}
 use Rattle.gb_fields.specs.Reading.{is_ordered, word, byte_between, nothing}
-use Rattle.gb_domain.specs.Areas.{is_free_byte}
+use Rattle.gb_domain.specs.Areas.{is_area, meets, is_free_byte}
 use Rattle.gb_domain.specs.RelationRules.{is_some_register, is_known, test_alone}
 
 -- a field, or what stands for it where it isn't there
@@ -50,15 +53,49 @@ present_at test = checked fault.Field (is_present test) (mapped to_present (byte
 abbrev pub to_registers : ℕ → Registers Bool
 to_registers n = record { a = n % 2 == 1; b = n / 2 % 2 == 1; c = n / 4 % 2 == 1; d = n / 8 % 2 == 1; e = n / 16 % 2 == 1; h = n / 32 % 2 == 1; l = n / 64 == 1 }
 
--- there is a place, be it an address or a register
+-- there is a place, be it in memory or a register
 abbrev pub have_place : Bool → Registers Bool → Bool
-have_place address registers = address || is_some_register registers
+have_place in_memory registers = in_memory || is_some_register registers
 
 unfoldable pub registers_at : Bool → Read (Registers Bool)
-registers_at address = checked fault.Field (have_place address) (mapped to_registers (byte_between 0 127))
+registers_at in_memory = checked fault.Field (have_place in_memory) (mapped to_registers (byte_between 0 127))
 
 unfoldable pub address_at : Region → Read ℕ
 address_at region = checked fault.Field (is_free_byte region) word
+
+-- The address lies in RAM and in the region.
+abbrev pub is_stack_byte : Region → ℕ → Bool
+is_stack_byte region address = is_area address address && meets region address address
+
+-- where the item with this number lies; the oldest has the number 0, and lies right below the base
+abbrev pub item_address : ℕ → ℕ → ℕ
+item_address base number = base - 1 - number
+
+-- There is an item with this number, and it lies in the region: where the base isn't known none does.
+abbrev pub is_item_number : StackBytes → ℕ → Bool
+is_item_number k number = nat_lt number k.count && is_stack_byte k.region (item_address k.base number)
+
+-- the address of an item, by its number
+unfoldable pub item_at : StackBytes → Read ℕ
+item_at k = mapped (item_address k.base) (checked fault.Field (is_item_number k) byte)
+
+-- There is a place in memory.
+abbrev pub is_somewhere : InMemory → Bool
+is_somewhere Nowhere = false
+is_somewhere Address = true
+is_somewhere Item = true
+
+-- the place in memory, by which bits are set: that of an item, and that of an address
+abbrev pub place_by : Bool → Bool → InMemory
+place_by true address = Item
+place_by false true = Address
+place_by false false = Nowhere
+
+-- the address of the place in memory, where there is one
+abbrev pub memory_at : StackBytes → InMemory → Read (Option ℕ)
+memory_at k Nowhere = nothing None
+memory_at k Address = mapped Some (address_at k.region)
+memory_at k Item = mapped Some (item_at k)
 
 -- A state's test compares; where it has none there may be bits.
 abbrev pub test_of : Option ℕ → Option ℕ → Option Test
@@ -69,8 +106,8 @@ test_of None None = None
 abbrev pub to_byte : Option ℕ → Registers Bool × (Option ℕ × Option ℕ) → OneByte
 to_byte test p = record { registers = p.0; address = p.1.0; test = test_of test p.1.1 }
 
-unfoldable pub byte_at : Region → Option ℕ → Bool → Bool → Read OneByte
-byte_at region test address bits = mapped (to_byte test) (both (registers_at address) (both (optional address (address_at region)) (optional bits byte)))
+unfoldable pub byte_at : StackBytes → Option ℕ → InMemory → Bool → Read OneByte
+byte_at k test place bits = mapped (to_byte test) (both (registers_at (is_somewhere place)) (both (memory_at k place) (optional bits byte)))
 
 -- ---- pairs
 
@@ -142,13 +179,17 @@ pairs_at p = mapped to_pairs (both (defaulted nothing_known p.bc facts_at) (both
 abbrev pub to_relations : Present × (OneByte × (Option WordPair × Pairs)) → Relations
 to_relations p = record { byte = p.1.0; zero = p.1.1.0; pairs = p.1.1.1 }
 
--- those that there are; the test is the state's
-abbrev pub parts_at : Region → Option ℕ → Present → Read (OneByte × (Option WordPair × Pairs))
-parts_at region test p = both (defaulted no_byte p.byte (byte_at region test p.address p.bits)) (both (optional p.zero pair_at) (pairs_at p))
+-- those that there are; the test is the state's, and the one byte's place in memory is this
+abbrev pub parts_at : StackBytes → Option ℕ → InMemory → Present → Read (OneByte × (Option WordPair × Pairs))
+parts_at k test place p = both (defaulted no_byte p.byte (byte_at k test place p.bits)) (both (optional p.zero pair_at) (pairs_at p))
+
+-- Versions 1 to 3 name no items.
+abbrev pub no_items : Region → StackBytes
+no_items region = record { region = region; base = 0; count = 0 }
 
 -- which there are, and these
 unfoldable pub relations_at : Region → Option ℕ → Read Relations
-relations_at region test = mapped to_relations (followed (present_at test) (parts_at region test))
+relations_at region test = mapped to_relations (followed (present_at test) (λ p. parts_at (no_items region) test (place_by false p.address) p))
 
 -- Versions 1 and 2 say nothing but the test, which is of A.
 abbrev pub relations_by : Rules → Region → Option ℕ → Read Relations

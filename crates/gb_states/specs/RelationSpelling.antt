@@ -34,9 +34,14 @@ byte n = n ∷ []
 
 -- ---- which parts there are
 
--- There is one byte exactly where there is a place for it, and a pair exactly where something is known of it.
+-- There is one byte exactly where there is a place for it, and a pair exactly where something is known of it; whether an address stands
+-- there depends on the version.
+abbrev pub present_by : Bool → Relations → Present
+present_by address r = record { byte = has_place r.byte; address = address; bits = is_some (bits_of r.byte.test); zero = is_some r.zero; bc = is_known r.pairs.bc; de = is_known r.pairs.de; hl = is_known r.pairs.hl }
+
+-- In versions 1 to 3 each place in memory is an address.
 abbrev pub present_in : Relations → Present
-present_in r = record { byte = has_place r.byte; address = is_some r.byte.address; bits = is_some (bits_of r.byte.test); zero = is_some r.zero; bc = is_known r.pairs.bc; de = is_known r.pairs.de; hl = is_known r.pairs.hl }
+present_in r = present_by (is_some r.byte.address) r
 
 -- bit 0: one byte; 1: its address; 2: bits; 3: what is zero; 4, 5 and 6: the pairs BC, DE and HL
 abbrev pub present_number : Present → ℕ
@@ -48,9 +53,9 @@ present_number p = 64 * flag p.hl + 32 * flag p.de + 16 * flag p.bc + 8 * flag p
 abbrev pub registers_number : Registers Bool → ℕ
 registers_number s = 64 * flag s.l + 32 * flag s.h + 16 * flag s.e + 8 * flag s.d + 4 * flag s.c + 2 * flag s.b + flag s.a
 
--- What a test compares with stands elsewhere in the state.
-unfoldable pub places : OneByte → List ℕ
-places b = registers_number b.registers ∷ (optional word b.address ++ optional byte (bits_of b.test))
+-- These bytes spell the place in memory. What a test compares with stands elsewhere in the state.
+unfoldable pub places_by : List ℕ → OneByte → List ℕ
+places_by memory b = registers_number b.registers ∷ (memory ++ optional byte (bits_of b.test))
 
 -- ---- pairs
 
@@ -92,9 +97,13 @@ pairs s = known_facts s.bc ++ (known_facts s.de ++ known_facts s.hl)
 
 -- ---- all of them
 
--- those that there are
+-- those that there are, by the bytes of the one byte's place in memory
+abbrev pub parts_by : List ℕ → Relations → List ℕ
+parts_by memory r = where_there (has_place r.byte) (places_by memory r.byte) ++ (optional pair r.zero ++ pairs r.pairs)
+
+-- In versions 1 to 3 that is an address.
 abbrev pub parts : Relations → List ℕ
-parts r = where_there (has_place r.byte) (places r.byte) ++ (optional pair r.zero ++ pairs r.pairs)
+parts r = parts_by (optional word r.byte.address) r
 
 unfoldable pub relations : Relations → List ℕ
 relations r = present_number (present_in r) ∷ parts r

@@ -20,7 +20,7 @@ use Rattle.gb_domain.specs.Limits.{rules_of, item_room, cell_room}
 use Rattle.gb_domain.specs.RelationRules.{IsRelations, is_some_register, is_test_alone}
 pub use Rattle.gb_domain.specs.Silent.{is_unshadowed, is_silent}
 use Rattle.gb_fields.specs.Limits.{procedure_limit, node_limit, range_room}
-use Rattle.gb_domain.specs.Areas.{is_area, meets, IsRegion}
+use Rattle.gb_domain.specs.Areas.{is_area, meets, is_free_byte, IsRegion}
 use Rattle.gb_domain.specs.Rules.{IsChain, IsVal, IsCore, IsCell, after_cell}
 use Rattle.gb_domain.specs.Types.{AbsState, ProcedureParts, Node, are_all_kept, is_some_kept}
 use Rattle.gb_domain.specs.Certificate.{Certificate}
@@ -114,7 +114,7 @@ pub record IsState (rules : Rules) (role : Role) (region : Region) (s : AbsState
   pub item_count : length s.items ≤ item_room rules
   pub cells : IsChain (IsCell region) after_cell 0 s.cells
   pub cell_count : length s.cells ≤ cell_room rules
-  pub relations : IsRelations region s.relations
+  pub relations : IsRelations (is_free_byte region) s.relations
   pub known : may_be_known rules s.relations ≡ true
   pub sayable : is_state_sayable rules s ≡ true
 

@@ -16,6 +16,7 @@ use Rattle.gb_domain.specs.declared.types.Cell.{Cell}
 use Rattle.gb_domain.specs.declared.pairs.WordPair.{WordPair}
 use Rattle.gb_domain.specs.declared.pairs.Pairs.{Pairs}
 use Rattle.gb_domain.specs.declared.places.OneByte.{OneByte}
+use Rattle.gb_domain.specs.declared.places.StackBytes.{StackBytes}
 use Rattle.gb_domain.specs.declared.relations.Relations.{Relations}
 use Rattle.gb_domain.specs.declared.rules.Rules.TheVariants.{Extended}
 use Rattle.gb_domain.specs.Limits.{rules_of, cell_room}
@@ -39,14 +40,16 @@ use Rattle.gb_fields.specs.Limits.{fact_limit, fill_limit, kept_room}
 use Rattle.gb_fields.specs.Reading.{is_ordered, word, byte_between, word_between, count_within, word_count_within, offset_at, returns_at, entry_at, base_at, need_at, is_below, nothing, any_version_at, any_head_at}
 use Rattle.gb_states.specs.declared.whole.Declared.{Declared}
 use Rattle.gb_states.specs.declared.relations.Present.{Present}
+use Rattle.gb_states.specs.declared.relations.InMemory.{InMemory}
+use Rattle.gb_states.specs.declared.form.ProcedureForm.{ProcedureForm}
 use Rattle.gb_states.specs.declared.role.Role.{Role}
 use Rattle.gb_states.specs.Reading as simple
 use Rattle.gb_states.specs.Reading.{Tested, item_count_at, is_free, to_cell, ranges_at, to_node}
 use Rattle.gb_states.specs.declared.role.Role.TheVariants as role
 use Rattle.gb_fields.specs.Rules.{is_from}
-use Rattle.gb_states.specs.RelationReading.{defaulted, to_registers, address_at, bounds_at, present_at, parts_at, to_relations}
+use Rattle.gb_states.specs.RelationReading.{defaulted, to_registers, address_at, bounds_at, present_at, place_by, parts_at, to_relations}
 use Rattle.gb_states.specs.Rules.{is_unshadowed, role_of, is_after, key, is_of}
-use Rattle.gb_states.specs.WholeRules.{value_of, says_something, is_stepped, is_said, after_address, may_be_aside, kept_counts, kept_of, is_uncrowded, is_in_order}
+use Rattle.gb_states.specs.WholeRules.{value_of, says_something, is_stepped, is_said, after_address, may_be_aside, stack_bytes, procedure_forms, form_in, is_uncrowded, is_in_order}
 
 -- ---- values
 
@@ -188,17 +191,20 @@ bank_shadows_at region = mapped to_bank_shadows (followed (shadows_at region) (o
 
 -- ---- what a state says that is about the whole program
 
--- bit 0: shadows; 1: the level and the fills; 2: where SP points while the stack is put aside
+-- bit 0: shadows; 1: the level and the fills; 2: where SP points while the stack is put aside; 3: the one byte's item
 abbrev pub to_declared : ℕ → Declared
-to_declared n = record { shadows = n % 2 == 1; levels = n / 2 % 2 == 1; aside = n / 4 == 1 }
+to_declared n = record { shadows = n % 2 == 1; levels = n / 2 % 2 == 1; aside = n / 4 % 2 == 1; item = n / 8 == 1 }
 
--- The stack is put aside only where it may be.
-abbrev pub may_be_declared : Bool → Declared → Bool
-may_be_declared may_be_aside d = may_be_aside || not d.aside
+-- The stack is put aside only where it may be, and an item named only where there may be one.
+abbrev pub may_be_declared : Bool → Bool → Declared → Bool
+may_be_declared may_be_aside may_be_item d = (may_be_aside || not d.aside) && (may_be_item || not d.item)
 
--- The item of the one byte, which bit 3 would announce, has no place in a state yet: it is out of range.
-unfoldable pub declared_at : Bool → Read Declared
-declared_at may_be_aside = checked fault.Field (may_be_declared may_be_aside) (mapped to_declared (byte_between 0 7))
+-- The one byte may have an item for a place where it has no address, and there are items to be named.
+abbrev pub may_be_item : StackBytes → Present → Bool
+may_be_item k p = p.byte && (not p.address && not (k.count == 0))
+
+unfoldable pub declared_at : Bool → Bool → Read Declared
+declared_at may_be_aside may_be_item = checked fault.Field (may_be_declared may_be_aside may_be_item) (mapped to_declared (byte_between 0 15))
 
 -- no fact, and no fill
 abbrev pub no_levels : ℕ × List Fill
@@ -249,26 +255,42 @@ cells_at kept region = counted (count_within (cell_room Extended)) (cell_at kept
 abbrev pub to_told : (Present × Declared) × ((OneByte × (Option WordPair × Pairs)) × SummaryParts) → Relations × SummaryParts
 to_told p = (to_relations (p.0.0, p.1.0), p.1.1)
 
--- which parts there are of what is known together and of what is said of the whole program, and then these; the test is the state's
-unfoldable pub told_at : ℕ → Region → Bool → Option ℕ → Read (Relations × SummaryParts)
-told_at facts region may_be_aside test = mapped to_told (followed (both (present_at test) (declared_at may_be_aside)) (λ d. both (parts_at region test d.0) (summary_at facts region d.1)))
+-- which parts there are of what is known together and of what is said of the whole program
+abbrev pub present_declared_at : StackBytes → Bool → Option ℕ → Read (Present × Declared)
+present_declared_at k may_be_aside test = followed (present_at test) (λ p. declared_at may_be_aside (may_be_item k p))
+
+-- the one byte's place in memory
+abbrev pub place_of : Present × Declared → InMemory
+place_of d = place_by d.1.item d.0.address
+
+-- these two, and then the parts; the test is the state's
+unfoldable pub told_at : ℕ → StackBytes → Bool → Option ℕ → Read (Relations × SummaryParts)
+told_at facts k may_be_aside test = mapped to_told (followed (present_declared_at k may_be_aside test) (λ d. both (parts_at k test (place_of d) d.0) (summary_at facts k.region d.1)))
 
 abbrev pub to_state : Tested × (List Val × ((Relations × SummaryParts) × List Cell)) → AbsState
 to_state p = record { core = p.0.0; items = p.1.0; cells = p.1.1.1; relations = p.1.1.0.0; summary = p.1.1.0.1 }
 
--- in a certificate of so many facts
-unfoldable pub state_at : ℕ → ℕ → Role → Region → Read AbsState
-state_at facts kept role region = mapped to_state (followed (core_at kept role) (λ k. both (items_at kept role k.0.stack_set) (both (told_at facts region (may_be_aside role k.0) k.1) (cells_at kept region))))
+-- what is known and said, and the cells, behind a core and so many items
+abbrev pub behind_items : ℕ → ProcedureForm → Role → Region → Tested → ℕ → Read ((Relations × SummaryParts) × List Cell)
+behind_items facts form role region k count = both (told_at facts (stack_bytes form role region count) (may_be_aside role k.0) k.1) (cells_at form.kept region)
+
+-- of a procedure of this form, in a certificate of so many facts
+unfoldable pub state_at : ℕ → ProcedureForm → Role → Region → Read AbsState
+state_at facts form role region = mapped to_state (followed (core_at form.kept role) (λ k. followed (items_at form.kept role k.0.stack_set) (λ items. behind_items facts form role region k (length items))))
 
 -- ---- procedures and nodes
 
 -- in what state it returns, if it does
-unfoldable pub exit_at : ℕ → ℕ → Bool → Region → Read (Option AbsState)
-exit_at facts kept is_main region = mapped (λ p. p.1) (followed (returns_at is_main) (λ returns. optional returns (state_at facts kept role.Exit region)))
+unfoldable pub exit_at : ℕ → ProcedureForm → Bool → Region → Read (Option AbsState)
+exit_at facts form is_main region = mapped (λ p. p.1) (followed (returns_at is_main) (λ returns. optional returns (state_at facts form role.Exit region)))
 
--- addresses to be kept and a mark, and an exit in whose state these are named
-unfoldable pub named_at : ℕ → Bool → Region → Read ((List ℕ × ℕ) × Option AbsState)
-named_at facts is_main region = followed (both (kept_addresses_at is_main region) byte) (λ d. exit_at facts (length d.0) is_main region)
+-- addresses to be kept and a mark, and an exit in whose state these are named; the base is known
+unfoldable pub named_at : ℕ → ℕ → Bool → Region → Read ((List ℕ × ℕ) × Option AbsState)
+named_at facts base is_main region = followed (both (kept_addresses_at is_main region) byte) (λ d. exit_at facts (record { kept = length d.0; base = base }) is_main region)
+
+-- a need and ranges, and what is named
+abbrev pub needed_at : ℕ → Bool → Region → ℕ → Read (ℕ × (List Range × ((List ℕ × ℕ) × Option AbsState)))
+needed_at facts is_main region base = both (need_at Extended is_main region) (both (ranges_at Extended is_main region) (named_at facts base is_main region))
 
 abbrev pub to_procedure : ℕ × (ℕ × (ℕ × (List Range × ((List ℕ × ℕ) × Option AbsState)))) → ProcedureParts
 to_procedure p = record { entry = p.0; base = p.1.0; need = p.1.1.0; ranges = p.1.1.1.0; kept = p.1.1.1.1.0.0; mark = p.1.1.1.1.0.1; exit = p.1.1.1.1.1 }
@@ -276,15 +298,15 @@ to_procedure p = record { entry = p.0; base = p.1.0; need = p.1.1.0; ranges = p.
 -- a procedure that begins at one of so many nodes, in a certificate of so many facts
 unfoldable pub procedure_at : ℕ → Region → ℕ → Bool → Read ProcedureParts
 procedure_at facts region nodes is_main =
-    mapped to_procedure (both (entry_at 4 nodes) (both (base_at Extended is_main region) (both (need_at Extended is_main region) (both (ranges_at Extended is_main region) (named_at facts is_main region)))))
+    mapped to_procedure (both (entry_at 4 nodes) (followed (base_at Extended is_main region) (needed_at facts is_main region)))
 
 -- a procedure's number that exists and isn't smaller than the one before; then an address that isn't smaller in the same procedure
 unfoldable pub key_at : ℕ → ℕ × ℕ → Read (ℕ × ℕ)
 key_at procedures before = checked fault.Order (is_from before) (both (checked fault.Order (nat_le before.0) (checked fault.Field (is_below procedures) word)) word)
 
--- a node of one of so many procedures, of which each names so many addresses to be kept
-unfoldable pub node_at : ℕ → (ℕ → ℕ) → Region → ℕ → ℕ × ℕ → Read Node
-node_at facts kept_of region procedures before = mapped to_node (followed (key_at procedures before) (λ k. both (word_between 0 511) (state_at facts (kept_of k.0) (role_of k.0) region)))
+-- a node of one of so many procedures, of which each has such a form
+unfoldable pub node_at : ℕ → (ℕ → ProcedureForm) → Region → ℕ → ℕ × ℕ → Read Node
+node_at facts form_of region procedures before = mapped to_node (followed (key_at procedures before) (λ k. both (word_between 0 511) (state_at facts (form_of k.0) (role_of k.0) region)))
 
 -- ---- certificates of any version
 
@@ -297,9 +319,9 @@ abbrev pub procedure_by : Bool → ℕ → ℕ → Region → ℕ → Bool → R
 procedure_by true version facts region nodes is_main = procedure_at facts region nodes is_main
 procedure_by false version facts region nodes is_main = simple.procedure_at version region nodes is_main
 
-abbrev pub node_by : Bool → ℕ → ℕ → (ℕ → ℕ) → Region → ℕ → ℕ × ℕ → Read Node
-node_by true version facts kept region procedures before = node_at facts kept region procedures before
-node_by false version facts kept region procedures before = simple.node_at (rules_of version) region procedures before
+abbrev pub node_by : Bool → ℕ → ℕ → (ℕ → ProcedureForm) → Region → ℕ → ℕ × ℕ → Read Node
+node_by true version facts form_of region procedures before = node_at facts form_of region procedures before
+node_by false version facts form_of region procedures before = simple.node_at (rules_of version) region procedures before
 
 -- the number of a procedure: two bytes, or one in versions 1 to 3
 abbrev pub number_by : Bool → Read ℕ
@@ -314,9 +336,9 @@ key_by fourth procedures before = checked fault.Order (is_from before) (both (ch
 unfoldable pub procedures_at : Head → ℕ → Read (List ProcedureParts)
 procedures_at h facts = several (procedure_by (h.version == 4) h.version facts h.region h.nodes) is_after true h.procedures
 
--- behind procedures of which each names so many addresses to be kept
-unfoldable pub nodes_at : Head → ℕ → List ℕ → Read (List Node)
-nodes_at h facts counts = several (node_by (h.version == 4) h.version facts (kept_of counts) h.region h.procedures) key (0, 0) h.nodes
+-- behind procedures of these forms
+unfoldable pub nodes_at : Head → ℕ → List ProcedureForm → Read (List Node)
+nodes_at h facts forms = several (node_by (h.version == 4) h.version facts (form_in forms) h.region h.procedures) key (0, 0) h.nodes
 
 -- Of an entry: whether too many begin at its address, whether it is its procedure's own, and whether it is in order. The lowest number of a fault decides.
 abbrev pub fault_by : Bool → Bool → Bool → Option CertFault
@@ -350,7 +372,7 @@ abbrev pub to_certificate : Parts → Certificate
 to_certificate p = record { version = p.0.version; procedures = p.1.1.0; nodes = p.1.1.1; region = p.0.region; facts = p.1.0 }
 
 abbrev pub behind_facts : Head → ℕ → Read (List ProcedureParts × List Node)
-behind_facts h facts = followed (procedures_at h facts) (λ ps. nodes_at h facts (kept_counts ps))
+behind_facts h facts = followed (procedures_at h facts) (λ ps. nodes_at h facts (procedure_forms ps))
 
 abbrev pub behind_head : Head → Read (List Fact × (List ProcedureParts × List Node))
 behind_head h = followed (facts_by (h.version == 4) h.region) (λ fs. behind_facts h (length fs))

@@ -6,8 +6,10 @@ use Rattle.gb_ops.specs.declared.op.Register.{Register}
 use Rattle.gb_ops.specs.Registers.{get}
 use Rattle.gb_states.specs.declared.role.Role.{Role}
 use Rattle.gb_states.specs.declared.role.Role.TheVariants as role
+use Rattle.gb_states.specs.declared.form.ProcedureForm.{ProcedureForm}
 use Rattle.gb_domain.specs.declared.interval.StridedInterval.{StridedInterval}
 use Rattle.gb_domain.specs.declared.pairs.Bounds.{Bounds}
+use Rattle.gb_domain.specs.declared.places.StackBytes.{StackBytes}
 use Rattle.gb_domain.specs.declared.types.Origin.{Origin}
 use Rattle.gb_domain.specs.declared.types.Origin.TheVariants.{Kept}
 use Rattle.gb_domain.specs.declared.types.Val.{Val}
@@ -20,7 +22,7 @@ use Rattle.gb_domain.specs.declared.summary.Fill.{Fill}
 use Rattle.gb_domain.specs.declared.summary.Shadows.{Shadows}
 use Rattle.gb_domain.specs.declared.summary.BankShadows.{BankShadows}
 use Rattle.gb_domain.specs.Summaries.{SummaryParts}
-use Rattle.gb_domain.specs.Areas.{is_area, meets, is_free_byte, IsRegion}
+use Rattle.gb_domain.specs.Areas.{is_area, meets, is_free_byte, is_place_at, IsRegion}
 use Rattle.gb_domain.specs.Rules.{IsChain, IsVal, IsFlg, IsCtl, may_be_any, after_cell}
 use Rattle.gb_domain.specs.RelationRules.{IsRelations}
 use Rattle.gb_domain.specs.Limits.{rules_of, cell_room}
@@ -168,19 +170,44 @@ pub record IsCellIn (kept : ℕ) (region : Region) (least : ℕ) (c : Cell) : Ty
   pub address : IsFreeFrom region least c.address
   pub val : IsValIn kept c.val
 
--- A state of a procedure that names so many addresses to be kept, in a certificate of so many facts.
-pub record IsStateIn (facts kept : ℕ) (role : Role) (region : Region) (s : AbsState) : Type 0 where
-  pub core : IsCoreIn kept s.core
+-- how many of its items a state may name as a place: an exit names none
+abbrev pub named_items : Role → ℕ → ℕ
+named_items role.Main count = count
+named_items role.Other count = count
+named_items role.Exit count = 0
+
+-- the stack of a state that has so many items
+abbrev pub stack_bytes : ProcedureForm → Role → Region → ℕ → StackBytes
+stack_bytes form role region count = record { region = region; base = form.base; count = named_items role count }
+
+-- A state of a procedure of this form, in a certificate of so many facts. The one byte may be held by one of its items.
+pub record IsStateIn (facts : ℕ) (form : ProcedureForm) (role : Role) (region : Region) (s : AbsState) : Type 0 where
+  pub core : IsCoreIn form.kept s.core
   pub stack : (s.core.stack_set || not (needs_stack role)) ≡ true
   pub pushed : may_be_pushed Extended role s.core.stack_set (length s.items) ≡ true
-  pub items : AllByRecursion (IsValIn kept) s.items
+  pub items : AllByRecursion (IsValIn form.kept) s.items
   pub item_count : length s.items ≤ item_limit Extended
-  pub cells : IsChain (IsCellIn kept region) after_cell 0 s.cells
+  pub cells : IsChain (IsCellIn form.kept region) after_cell 0 s.cells
   pub cell_count : length s.cells ≤ cell_room Extended
-  pub relations : IsRelations region s.relations
+  pub relations : IsRelations (is_place_at (stack_bytes form role region (length s.items))) s.relations
   pub summary : IsSummary facts region (may_be_aside role s.core) s.summary
 
 -- ---- procedures and nodes
+
+-- how the states of a procedure are spelled
+abbrev pub procedure_form : ProcedureParts → ProcedureForm
+procedure_form p = record { kept = length p.kept; base = p.base }
+
+abbrev pub procedure_forms : List ProcedureParts → List ProcedureForm
+procedure_forms procedures = map procedure_form procedures
+
+-- it stands where there is no procedure
+abbrev pub no_form : ProcedureForm
+no_form = record { kept = 0; base = 0 }
+
+-- of the procedure with this number
+abbrev pub form_in : List ProcedureForm → ℕ → ProcedureForm
+form_in forms number = slice_index_or forms number no_form
 
 -- A procedure of a certificate of so many facts begins at one of so many nodes. Main doesn't return. How the procedures stand in
 -- order is asked of all of them at once.
@@ -193,17 +220,16 @@ pub record IsProcedureIn (facts : ℕ) (region : Region) (nodes : ℕ) (is_main 
   pub range_count : length p.ranges ≤ range_room Extended is_main
   pub kept : AreKept is_main region p.kept
   pub mark : p.mark < 256
-  pub exit : IfSome p.exit (IsStateIn facts (length p.kept) role.Exit region)
+  pub exit : IfSome p.exit (IsStateIn facts (procedure_form p) role.Exit region)
   pub main : (is_main && is_some p.exit) ≡ false
 
--- A node belongs to one of so many procedures, of which each names so many addresses to be kept, and comes after the key before it or
--- has the same.
-pub record IsNodeIn (facts : ℕ) (kept_of : ℕ → ℕ) (region : Region) (procedures : ℕ) (before : ℕ × ℕ) (n : Node) : Type 0 where
+-- A node belongs to one of so many procedures, of which each has such a form, and comes after the key before it or has the same.
+pub record IsNodeIn (facts : ℕ) (form_of : ℕ → ProcedureForm) (region : Region) (procedures : ℕ) (before : ℕ × ℕ) (n : Node) : Type 0 where
   pub procedure : n.procedure < procedures
   pub order : is_from before (key n) ≡ true
   pub address : n.address < 65536
   pub bank : n.bank ≤ 511
-  pub state : IsStateIn facts (kept_of n.procedure) (role_of n.procedure) region n.state
+  pub state : IsStateIn facts (form_of n.procedure) (role_of n.procedure) region n.state
 
 -- ---- the order of procedures
 
@@ -237,17 +263,6 @@ in_order_by false procedures nodes = true
 
 -- ---- certificates of any version
 
--- how many addresses a procedure names to be kept
-abbrev pub kept_count : ProcedureParts → ℕ
-kept_count p = length p.kept
-
-abbrev pub kept_counts : List ProcedureParts → List ℕ
-kept_counts procedures = map kept_count procedures
-
--- of the procedure with this number, by these counts
-abbrev pub kept_of : List ℕ → ℕ → ℕ
-kept_of counts number = slice_index_or counts number 0
-
 -- Versions 1 to 3 have no facts.
 abbrev pub AreFactsBy : Bool → Region → List Fact → Type 0
 AreFactsBy true region facts = AreFacts region facts
@@ -257,9 +272,9 @@ abbrev pub IsProcedureBy : Bool → ℕ → ℕ → Region → ℕ → Bool → 
 IsProcedureBy true version facts region nodes is_main p = IsProcedureIn facts region nodes is_main p
 IsProcedureBy false version facts region nodes is_main p = IsProcedure (rules_of version) region nodes is_main p
 
-abbrev pub IsNodeBy : Bool → ℕ → ℕ → (ℕ → ℕ) → Region → ℕ → ℕ × ℕ → Node → Type 0
-IsNodeBy true version facts kept region procedures before n = IsNodeIn facts kept region procedures before n
-IsNodeBy false version facts kept region procedures before n = IsNode (rules_of version) region procedures before n
+abbrev pub IsNodeBy : Bool → ℕ → ℕ → (ℕ → ProcedureForm) → Region → ℕ → ℕ × ℕ → Node → Type 0
+IsNodeBy true version facts form_of region procedures before n = IsNodeIn facts form_of region procedures before n
+IsNodeBy false version facts form_of region procedures before n = IsNode (rules_of version) region procedures before n
 
 -- A certificate of version 1, 2, 3 or 4.
 pub record IsCertificate (c : Certificate) : Type 0 where
@@ -272,6 +287,6 @@ pub record IsCertificate (c : Certificate) : Type 0 where
   pub node_count : length c.nodes ≤ node_limit c.version
   pub facts : AreFactsBy (c.version == 4) c.region c.facts
   pub procedures : IsChain (IsProcedureBy (c.version == 4) c.version (length c.facts) c.region (length c.nodes)) is_after true c.procedures
-  pub nodes : IsChain (IsNodeBy (c.version == 4) c.version (length c.facts) (kept_of (kept_counts c.procedures)) c.region (length c.procedures)) key (0, 0) c.nodes
+  pub nodes : IsChain (IsNodeBy (c.version == 4) c.version (length c.facts) (form_in (procedure_forms c.procedures)) c.region (length c.procedures)) key (0, 0) c.nodes
   pub entries : have_entries 0 c.procedures c.nodes ≡ true
   pub order : in_order_by (c.version == 4) c.procedures c.nodes ≡ true

@@ -1,6 +1,7 @@
 -- The one spelling of the fields of version 4, and of each certificate of any version, in bytes (own format). Words have their low byte first.
-use Rattle.std.specs.Prelude.{◌≡◌, ℕ, Bool, true, false, ◌==◌, ◌+◌, ◌*◌, ◌/◌, List, [], ◌∷◌, ◌++◌, Option, Some, None, length, not, ◌&&◌, is_some}
+use Rattle.std.specs.Prelude.{◌≡◌, ℕ, Bool, true, false, ◌==◌, ◌+◌, ◌-◌, ◌*◌, ◌/◌, ◌%◌, List, [], ◌∷◌, ◌++◌, Option, Some, None, length, not, ◌&&◌, is_some}
 use Rattle.std.specs.List.{flat_map}
+use Rattle.gb_ops.specs.declared.machine.Region.{Region}
 use Rattle.gb_ops.specs.declared.registers.Registers.{Registers}
 use Rattle.gb_ops.specs.declared.op.Pointer.{Pointer}
 use Rattle.gb_ops.specs.declared.op.Pointer.TheVariants as pointer
@@ -12,6 +13,7 @@ use Rattle.gb_domain.specs.declared.types.Ctl.{Ctl}
 use Rattle.gb_domain.specs.declared.types.Core.{Core}
 use Rattle.gb_domain.specs.declared.types.Cell.{Cell}
 use Rattle.gb_domain.specs.declared.relations.Relations.{Relations}
+use Rattle.gb_domain.specs.Areas.{meets}
 use Rattle.gb_domain.specs.RelationRules.{compared}
 use Rattle.gb_domain.specs.declared.rules.Rules.TheVariants.{Extended}
 use Rattle.gb_fields.specs.Limits.{unit}
@@ -29,11 +31,14 @@ use Rattle.gb_domain.specs.declared.summary.BankShadows.{BankShadows}
 use Rattle.gb_domain.specs.Summaries.{SummaryParts}
 use Rattle.gb_fields.specs.Reading.{turned}
 use Rattle.gb_states.specs.declared.whole.Declared.{Declared}
+use Rattle.gb_states.specs.declared.form.ProcedureForm.{ProcedureForm}
+use Rattle.gb_states.specs.declared.relations.InMemory.{InMemory}
+use Rattle.gb_states.specs.declared.relations.InMemory.TheVariants.{Nowhere, Address, Item}
 use Rattle.gb_states.specs.Rules.{is_unshadowed}
-use Rattle.gb_states.specs.WholeRules.{is_said, IsCertificate}
+use Rattle.gb_states.specs.WholeRules.{is_said, procedure_forms, form_in, IsCertificate}
 use Rattle.gb_states.specs.Numbers.{word, flag}
 use Rattle.gb_states.specs.Spelling as simple
-use Rattle.gb_states.specs.RelationSpelling.{where_there, optional, bounds, registers_number, present_in, present_number, parts}
+use Rattle.gb_states.specs.RelationSpelling.{where_there, optional, bounds, registers_number, present_by, present_number, parts_by}
 
 -- ---- values
 
@@ -104,13 +109,13 @@ bank_shadows b = shadows b.first ++ shadows b.second
 
 -- ---- what a state says that is about the whole program
 
--- There are shadows, a level or fills exactly where they say something.
-abbrev pub declared_in : SummaryParts → Declared
-declared_in s = record { shadows = not (is_unshadowed s.shadows.first && is_unshadowed s.shadows.second); levels = is_said s.level (length s.fills); aside = is_some s.aside }
+-- There are shadows, a level or fills exactly where they say something; whether the one byte has an item is known.
+abbrev pub declared_in : Bool → SummaryParts → Declared
+declared_in item s = record { shadows = not (is_unshadowed s.shadows.first && is_unshadowed s.shadows.second); levels = is_said s.level (length s.fills); aside = is_some s.aside; item = item }
 
--- bit 0: shadows; 1: the level and the fills; 2: where SP points while the stack is put aside
+-- bit 0: shadows; 1: the level and the fills; 2: where SP points while the stack is put aside; 3: the one byte's item
 abbrev pub declared_number : Declared → ℕ
-declared_number d = 4 * flag d.aside + 2 * flag d.levels + flag d.shadows
+declared_number d = 8 * flag d.item + 4 * flag d.aside + 2 * flag d.levels + flag d.shadows
 
 -- the parts that there are, behind the number that says which
 unfoldable pub summary : SummaryParts → List ℕ
@@ -145,28 +150,66 @@ core c t = simple.core_by ctl val vals c t
 unfoldable pub cell : Cell → List ℕ
 cell c = word c.address ++ val c.val
 
--- what is known of several parts together and what is said of the whole program: which there is of both, and then this
-unfoldable pub told : Relations × SummaryParts → List ℕ
-told p = present_number (present_in p.0) ∷ declared_number (declared_in p.1) ∷ (parts p.0 ++ summary p.1)
+-- In the region lie items, outside it other bytes.
+abbrev pub place_if : Bool → InMemory
+place_if true = Item
+place_if false = Address
+
+-- where the one byte's place in memory lies
+abbrev pub place_in : Region → Option ℕ → InMemory
+place_in region None = Nowhere
+place_in region (Some address) = place_if (meets region address address)
+
+abbrev pub is_address : InMemory → Bool
+is_address Nowhere = false
+is_address Address = true
+is_address Item = false
+
+abbrev pub is_item : InMemory → Bool
+is_item Nowhere = false
+is_item Address = false
+is_item Item = true
+
+-- the number of the item that lies there, in one byte
+abbrev pub item_number : ℕ → ℕ → ℕ
+item_number base address = (base - 1 - address) % 256
+
+abbrev pub memory_if : Bool → ℕ → ℕ → List ℕ
+memory_if true base address = item_number base address ∷ []
+memory_if false base address = word address
+
+-- the one byte's place in memory: an item's number, or an address
+abbrev pub memory : Region → ℕ → Option ℕ → List ℕ
+memory region base None = []
+memory region base (Some address) = memory_if (meets region address address) base address
+
+-- which parts there are of both, and then these, where the one byte's place in memory lies there and these bytes spell it
+abbrev pub told_by : InMemory → List ℕ → Relations × SummaryParts → List ℕ
+told_by place bytes p = present_number (present_by (is_address place) p.0) ∷ declared_number (declared_in (is_item place) p.1) ∷ (parts_by bytes p.0 ++ summary p.1)
+
+-- what is known of several parts together and what is said of the whole program, in a procedure with this base
+unfoldable pub told : Region → ℕ → Relations × SummaryParts → List ℕ
+told region base p = told_by (place_in region p.0.byte.address) (memory region base p.0.byte.address) p
 
 -- a core with its test, items, what is known and said, and cells
-unfoldable pub state : AbsState → List ℕ
-state s = core s.core (compared s.relations.byte.test) ++ (simple.counted val s.items ++ (told (s.relations, s.summary) ++ simple.counted cell s.cells))
+unfoldable pub state : Region → ℕ → AbsState → List ℕ
+state region base s = core s.core (compared s.relations.byte.test) ++ (simple.counted val s.items ++ (told region base (s.relations, s.summary) ++ simple.counted cell s.cells))
 
 -- ---- procedures and nodes
 
 -- whether it returns, and in what state
-unfoldable pub exit : Option AbsState → List ℕ
-exit None = 0 ∷ []
-exit (Some s) = 1 ∷ state s
+unfoldable pub exit : Region → ℕ → Option AbsState → List ℕ
+exit region base None = 0 ∷ []
+exit region base (Some s) = 1 ∷ state region base s
 
-unfoldable pub procedure : ProcedureParts → List ℕ
-procedure p =
+unfoldable pub procedure : Region → ProcedureParts → List ℕ
+procedure region p =
     simple.node_number 4 p.entry
-    ++ (simple.base Extended p.base ++ (word (p.need / unit Extended) ++ (simple.counted simple.range p.ranges ++ ((kept_addresses p.kept ++ (p.mark ∷ [])) ++ exit p.exit))))
+    ++ (simple.base Extended p.base ++ (word (p.need / unit Extended) ++ (simple.counted simple.range p.ranges ++ ((kept_addresses p.kept ++ (p.mark ∷ [])) ++ exit region p.base p.exit))))
 
-unfoldable pub node : Node → List ℕ
-node n = (word n.procedure ++ word n.address) ++ (word n.bank ++ state n.state)
+-- of procedures that have such forms
+unfoldable pub node : Region → (ℕ → ProcedureForm) → Node → List ℕ
+node region form_of n = (word n.procedure ++ word n.address) ++ (word n.bank ++ state region (form_of n.procedure).base n.state)
 
 -- ---- certificates of any version
 
@@ -185,16 +228,20 @@ abbrev pub facts_by : Bool → List Fact → List ℕ
 facts_by true fs = facts fs
 facts_by false fs = []
 
-abbrev pub procedure_by : Bool → ℕ → ProcedureParts → List ℕ
-procedure_by true version p = procedure p
-procedure_by false version p = simple.procedure version p
+abbrev pub procedure_by : Bool → ℕ → Region → ProcedureParts → List ℕ
+procedure_by true version region p = procedure region p
+procedure_by false version region p = simple.procedure version p
 
-abbrev pub node_by : Bool → ℕ → Node → List ℕ
-node_by true version n = node n
-node_by false version n = simple.node (rules_of version) n
+abbrev pub node_by : Bool → ℕ → Region → (ℕ → ProcedureForm) → Node → List ℕ
+node_by true version region form_of n = node region form_of n
+node_by false version region form_of n = simple.node (rules_of version) n
+
+-- all nodes, of these procedures
+abbrev pub nodes : ℕ → Region → List ProcedureParts → List Node → List ℕ
+nodes version region procedures ns = flat_map (node_by (version == 4) version region (form_in (procedure_forms procedures))) ns
 
 unfoldable pub spelling : Certificate → List ℕ
-spelling c = head c ++ (facts_by (c.version == 4) c.facts ++ (flat_map (procedure_by (c.version == 4) c.version) c.procedures ++ flat_map (node_by (c.version == 4) c.version) c.nodes))
+spelling c = head c ++ (facts_by (c.version == 4) c.facts ++ (flat_map (procedure_by (c.version == 4) c.version c.region) c.procedures ++ nodes c.version c.region c.procedures c.nodes))
 
 -- The bytes are a certificate of version 1, 2, 3 or 4, and this one.
 pub record Spells (bytes : List ℕ) (c : Certificate) : Type 0 where

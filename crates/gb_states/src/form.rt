@@ -14,21 +14,29 @@ use gb_fields::CertFault;
 use gb_fields::numbers::{byte, word};
 use gb_ops::machine::Region;
 
-/// How the states of a procedure are spelled: as in versions 1 to 3, or as in version 4 in a certificate of so many facts, where
-/// the procedure names so many addresses to be kept.
+/// What of its procedure the spelling of a state depends on, in version 4.
+#[derive(Clone, Copy, Default)]
+pub struct ProcedureForm {
+    /// How many addresses it names to be kept.
+    pub kept: u8,
+    /// The address above its items, 0 where it isn't known.
+    pub base: u16,
+}
+
+/// How the states of a procedure are spelled: as in versions 1 to 3, or as in version 4 in a certificate of so many facts.
 #[derive(Clone, Copy)]
 pub enum Form {
     Older(Rules),
-    Fourth(u16, u8),
+    Fourth(u16, ProcedureForm),
 }
 
 impl Form {
-    /// Of a procedure that names so many addresses to be kept, in a certificate of this version that has so many facts.
-    pub fn of(version: u8, facts: u16, kept: u8) -> Form
-        ensures { result ≡ form_by (version == 4) version facts kept }
+    /// Of a procedure of this form, in a certificate of this version that has so many facts.
+    pub fn of(version: u8, facts: u16, form: ProcedureForm) -> Form
+        ensures { result ≡ form_by (version == 4) version facts form }
     {
         if version == 4 {
-            Form::Fourth(facts, kept)
+            Form::Fourth(facts, form)
         } else {
             Form::Older(Rules::of(version))
         }
@@ -52,7 +60,7 @@ pub fn val_by(form: Form, bytes: &[u8]) -> Result<(Val, &[u8]), CertFault>
 {
     match form {
         Form::Older(rules) => fields::val_at(rules, bytes),
-        Form::Fourth(_, kept) => whole::val_at(kept, bytes),
+        Form::Fourth(_, form) => whole::val_at(form.kept, bytes),
     }
 }
 
@@ -68,7 +76,7 @@ pub fn cell_by(
 {
     match form {
         Form::Older(rules) => states::cell_at(rules, region, least, bytes),
-        Form::Fourth(_, kept) => whole_states::cell_at(kept, region, least, bytes),
+        Form::Fourth(_, form) => whole_states::cell_at(form.kept, region, least, bytes),
     }
 }
 
@@ -82,7 +90,7 @@ pub fn state_by(
 {
     match form {
         Form::Older(rules) => states::state_at(rules, role, region, bytes),
-        Form::Fourth(facts, kept) => whole_states::state_at(facts, kept, role, region, bytes),
+        Form::Fourth(facts, form) => whole_states::state_at(facts, form, role, region, bytes),
     }
 }
 

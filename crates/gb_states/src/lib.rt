@@ -22,8 +22,8 @@ pub mod states;
 pub mod whole;
 pub mod whole_states;
 
-pub use form::Form;
-pub use relations::Present;
+pub use form::{Form, ProcedureForm};
+pub use relations::{InMemory, Present};
 pub use role::Role;
 
 // What lies below, for the crates above.

@@ -5,11 +5,11 @@ ghost use Rattle.gb_fields.specs.Format.{Gives, optional, byte};
 ghost use Rattle.gb_domain.specs.Pairs.{nothing_known};
 ghost use Rattle.gb_domain.specs.Places.{no_byte};
 ghost use Rattle.gb_domain.specs.RelationRules.{is_known, compared_a, test_alone};
-ghost use Rattle.gb_states.specs.RelationReading.{defaulted, is_present, present_at, to_registers, registers_at, address_at, test_of, byte_at, pair_of, pair_at, bounds_at, other_of, other_at, factor_at, link_of, link_at, facts_at, pairs_at, parts_at, relations_at, relations_by};
+ghost use Rattle.gb_states.specs.RelationReading.{defaulted, is_present, present_at, to_registers, registers_at, address_at, is_stack_byte, item_address, is_item_number, item_at, is_somewhere, place_by, memory_at, test_of, byte_at, pair_of, pair_at, bounds_at, other_of, other_at, factor_at, link_of, link_at, facts_at, pairs_at, parts_at, no_items, relations_at, relations_by};
 
-use crate::states::is_free;
+use crate::states::{is_free, is_in_ram};
 use gb_domain::pairs::{Bounds, Link, NOTHING_KNOWN, Other, PairFacts, Pairs, WordPair};
-use gb_domain::places::{NO_REGISTER, OneByte, Test, is_some_register};
+use gb_domain::places::{NO_REGISTER, OneByte, StackBytes, Test, is_some_register};
 use gb_domain::relations::Relations;
 use gb_domain::types::Rules;
 use gb_fields::CertFault;
@@ -32,6 +32,38 @@ pub struct Present {
     pub bc: bool,
     pub de: bool,
     pub hl: bool,
+}
+
+/// Where in memory one of the places lies.
+#[derive(Clone, Copy)]
+pub enum InMemory {
+    Nowhere,
+    /// At an address of RAM outside the stack region.
+    Address,
+    /// At that of an item.
+    Item,
+}
+
+impl InMemory {
+    /// By which bits are set: that of an item, and that of an address.
+    pub fn by(item: bool, address: bool) -> InMemory
+        ensures { result ≡ place_by item address }
+    {
+        if item {
+            InMemory::Item
+        } else if address {
+            InMemory::Address
+        } else {
+            InMemory::Nowhere
+        }
+    }
+
+    /// Whether there is one.
+    fn is_somewhere(self) -> bool
+        ensures { result ≡ is_somewhere self }
+    {
+        !matches!(self, InMemory::Nowhere)
+    }
 }
 
 // ---- which parts there are
@@ -82,14 +114,14 @@ pub(crate) fn to_registers(number: u8) -> Registers<bool>
     }
 }
 
-/// The registers among the places, one at least where there is no address.
+/// The registers among the places, one at least where there is no place in memory.
 #[tactic(auto, unfolding(crate::specs::RelationReading::registers_at))]
-fn registers_at(address: bool, bytes: &[u8]) -> Result<(Registers<bool>, &[u8]), CertFault>
-    ensures { Gives (λ x. (x.0, x.1.now)) result (registers_at address bytes.now) }
+fn registers_at(in_memory: bool, bytes: &[u8]) -> Result<(Registers<bool>, &[u8]), CertFault>
+    ensures { Gives (λ x. (x.0, x.1.now)) result (registers_at in_memory bytes.now) }
 {
     let (number, rest) = byte_between(0, 127, bytes)?;
     let registers = to_registers(number);
-    if !(address || is_some_register(&registers)) {
+    if !(in_memory || is_some_register(&registers)) {
         return Err(CertFault::Field);
     }
     Ok((registers, rest))
@@ -104,6 +136,60 @@ pub(crate) fn address_at(region: Region, bytes: &[u8]) -> Result<(u16, &[u8]), C
         return Err(CertFault::Field);
     }
     Ok((address, rest))
+}
+
+/// Whether the address lies in RAM and in the region.
+fn is_stack_byte(region: Region, address: u16) -> bool
+    ensures { result ≡ is_stack_byte region address }
+{
+    is_in_ram(address, address) && region.first <= address && address <= region.last
+}
+
+/// Where the item with this number lies.
+fn item_address(base: u16, number: u8) -> u16
+    ensures { result ≡ item_address base number }
+{
+    base.saturating_sub(1).saturating_sub(u16::from(number))
+}
+
+/// Whether there is an item with this number, and it lies in the region.
+fn is_item_number(stack: StackBytes, number: u8) -> bool
+    ensures { result ≡ is_item_number stack number }
+{
+    number < stack.count && is_stack_byte(stack.region, item_address(stack.base, number))
+}
+
+/// The address of an item, by its number.
+#[tactic(auto, unfolding(crate::specs::RelationReading::item_at))]
+pub(crate) fn item_at(stack: StackBytes, bytes: &[u8]) -> Result<(u16, &[u8]), CertFault>
+    ensures { Gives (λ x. (x.0, x.1.now)) result (item_at stack bytes.now) }
+{
+    let (number, rest) = byte(bytes)?;
+    if !is_item_number(stack, number) {
+        return Err(CertFault::Field);
+    }
+    Ok((item_address(stack.base, number), rest))
+}
+
+/// The address of the place in memory, where there is one.
+fn memory_at(
+    stack: StackBytes,
+    place: InMemory,
+    bytes: &[u8],
+) -> Result<(Option<u16>, &[u8]), CertFault>
+    ensures { Gives (λ x. (x.0, x.1.now)) result (memory_at stack place bytes.now) }
+{
+    match place {
+        InMemory::Nowhere => Ok((None, bytes)),
+        InMemory::Address => {
+            let (address, rest) = address_at(stack.region, bytes)?;
+            Ok((Some(address), rest))
+        }
+        InMemory::Item => {
+            let (address, rest) = item_at(stack, bytes)?;
+            Ok((Some(address), rest))
+        }
+    }
 }
 
 /// What the state's test says of the byte, or else the bits.
@@ -144,16 +230,17 @@ fn bits_where(there: bool, bytes: &[u8]) -> Result<(Option<u8>, &[u8]), CertFaul
 
 #[tactic(auto, unfolding(crate::specs::RelationReading::byte_at))]
 fn byte_at(
-    region: Region,
+    stack: StackBytes,
     test: Option<u8>,
-    present: Present,
+    place: InMemory,
+    bits: bool,
     bytes: &[u8],
 ) -> Result<(OneByte, &[u8]), CertFault>
-    ensures { Gives (λ x. (x.0, x.1.now)) result (byte_at region test present.address present.bits bytes.now) }
+    ensures { Gives (λ x. (x.0, x.1.now)) result (byte_at stack test place bits bytes.now) }
 {
-    let (registers, rest) = registers_at(present.address, bytes)?;
-    let (address, rest) = address_where(present.address, region, rest)?;
-    let (bits, rest) = bits_where(present.bits, rest)?;
+    let (registers, rest) = registers_at(place.is_somewhere(), bytes)?;
+    let (address, rest) = memory_at(stack, place, rest)?;
+    let (bits, rest) = bits_where(bits, rest)?;
     let byte = OneByte {
         registers,
         address,
@@ -164,15 +251,16 @@ fn byte_at(
 
 /// The places that hold one byte, where they are there.
 fn byte_where(
-    region: Region,
+    stack: StackBytes,
     test: Option<u8>,
+    place: InMemory,
     present: Present,
     bytes: &[u8],
 ) -> Result<(OneByte, &[u8]), CertFault>
-    ensures { Gives (λ x. (x.0, x.1.now)) result (defaulted no_byte present.byte (byte_at region test present.address present.bits) bytes.now) }
+    ensures { Gives (λ x. (x.0, x.1.now)) result (defaulted no_byte present.byte (byte_at stack test place present.bits) bytes.now) }
 {
     if present.byte {
-        byte_at(region, test, present, bytes)
+        byte_at(stack, test, place, present.bits, bytes)
     } else {
         Ok((OneByte::default(), bytes))
     }
@@ -329,19 +417,31 @@ fn pairs_at(present: Present, bytes: &[u8]) -> Result<(Pairs, &[u8]), CertFault>
 /// One byte's places, what is zero, and the pairs.
 pub(crate) type Parts = (OneByte, (Option<WordPair>, Pairs));
 
-/// Those parts that there are; the test is the state's.
+/// Those parts that there are; the test is the state's, and the one byte's place in memory is this.
 pub(crate) fn parts_at(
-    region: Region,
+    stack: StackBytes,
     test: Option<u8>,
+    place: InMemory,
     present: Present,
     bytes: &[u8],
 ) -> Result<(Parts, &[u8]), CertFault>
-    ensures { Gives (λ x. (x.0, x.1.now)) result (parts_at region test present bytes.now) }
+    ensures { Gives (λ x. (x.0, x.1.now)) result (parts_at stack test place present bytes.now) }
 {
-    let (byte, rest) = byte_where(region, test, present, bytes)?;
+    let (byte, rest) = byte_where(stack, test, place, present, bytes)?;
     let (zero, rest) = zero_where(present.zero, rest)?;
     let (pairs, rest) = pairs_at(present, rest)?;
     Ok(((byte, (zero, pairs)), rest))
+}
+
+/// The stack of a state of versions 1 to 3, which name no items.
+fn no_items(region: Region) -> StackBytes
+    ensures { result ≡ no_items region }
+{
+    StackBytes {
+        region,
+        base: 0,
+        count: 0,
+    }
 }
 
 /// What is known of several parts of a state together; the test is the state's.
@@ -355,7 +455,8 @@ pub fn relations_at(
     ensures { Gives (λ x. (x.0, x.1.now)) result (relations_at region test bytes.now) }
 {
     let (present, rest) = present_at(test, bytes)?;
-    let ((byte, (zero, pairs)), rest) = parts_at(region, test, present, rest)?;
+    let place = InMemory::by(false, present.address);
+    let ((byte, (zero, pairs)), rest) = parts_at(no_items(region), test, place, present, rest)?;
     Ok((Relations { byte, zero, pairs }, rest))
 }
 

@@ -2,6 +2,7 @@
 
 ghost use Rattle.std.specs.Prelude.{◌≡◌};
 ghost use Rattle.gb_states.specs.Rules.{role_of, needs_stack, may_have_items};
+ghost use Rattle.gb_states.specs.WholeRules.{named_items};
 
 use gb_domain::types::Rules;
 
@@ -39,6 +40,16 @@ impl Role {
         match self {
             Role::Main | Role::Other => true,
             Role::Exit => matches!(rules, Rules::Extended),
+        }
+    }
+
+    /// How many of so many items may be named as a place of the one byte.
+    pub fn named_items(self, count: u8) -> u8
+        ensures { result ≡ named_items self count }
+    {
+        match self {
+            Role::Main | Role::Other => count,
+            Role::Exit => 0,
         }
     }
 }

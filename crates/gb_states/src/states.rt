@@ -70,15 +70,23 @@ fn items_at(
     some_items(rules, item_bytes(rules, count), rest)
 }
 
+/// Whether the addresses from first to last are in RAM.
+#[inline(always)]
+pub(crate) fn is_in_ram(first: u16, last: u16) -> bool
+    ensures { result ≡ is_area first last }
+{
+    let is_in_work_ram = 0xC000 <= first && last <= 0xDFFF;
+    let is_in_high_ram = 0xFF80 <= first && last <= 0xFFFE;
+    first <= last && (is_in_work_ram || is_in_high_ram)
+}
+
 /// Whether the addresses from first to last are in RAM, and outside the region.
 #[inline(always)]
 pub fn is_free(region: Region, first: u16, last: u16) -> bool
     ensures { result ≡ is_free region (first, last) }
 {
-    let is_in_work_ram = 0xC000 <= first && last <= 0xDFFF;
-    let is_in_high_ram = 0xFF80 <= first && last <= 0xFFFE;
     let meets_region = first <= region.last && region.first <= last;
-    first <= last && (is_in_work_ram || is_in_high_ram) && !meets_region
+    is_in_ram(first, last) && !meets_region
 }
 
 /// A cell, its address from the least one on.

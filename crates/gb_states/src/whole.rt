@@ -6,7 +6,7 @@ ghost use Rattle.gb_fields.specs.Limits.{fill_limit, kept_limit, kept_room};
 ghost use Rattle.gb_domain.specs.Summaries.{no_bank_shadows};
 ghost use Rattle.gb_states.specs.RelationReading.{defaulted, address_at, bounds_at};
 ghost use Rattle.gb_states.specs.WholeRules.{says_something, is_stepped, after_address};
-ghost use Rattle.gb_states.specs.WholeReading.{is_origin_number, val_at, kept_at, stretch_at, said_at, is_strided_interval, interval_at, fact_at, facts_at, pointer_of, reach_of, end_of, end_at, fill_at, fill_count_at, levels_at, to_shadows, has_address, shadows_at, others_at, bank_shadows_at, declared_at, no_levels, summary_at, free_address_at, kept_addresses_at};
+ghost use Rattle.gb_states.specs.WholeReading.{is_origin_number, val_at, kept_at, stretch_at, said_at, is_strided_interval, interval_at, fact_at, facts_at, pointer_of, reach_of, end_of, end_at, fill_at, fill_count_at, levels_at, to_shadows, has_address, shadows_at, others_at, bank_shadows_at, may_be_declared, declared_at, no_levels, summary_at, free_address_at, kept_addresses_at};
 
 use crate::fields::origin_of;
 use crate::relations::{address_at, address_where, bounds_at, to_registers};
@@ -41,6 +41,8 @@ pub struct Declared {
     pub levels: bool,
     /// Where SP points while the stack is put aside.
     pub aside: bool,
+    /// An item among the places of the one byte.
+    pub item: bool,
 }
 
 // ---- values
@@ -373,18 +375,30 @@ pub fn bank_shadows_at(region: Region, bytes: &[u8]) -> Result<(BankShadows, &[u
 
 // ---- what a state says that is about the whole program
 
-/// Which parts there are. The stack is put aside only where it may be.
-#[tactic(auto, unfolding(crate::specs::WholeReading::declared_at))]
-pub fn declared_at(may_be_aside: bool, bytes: &[u8]) -> Result<(Declared, &[u8]), CertFault>
-    ensures { Gives (λ x. (x.0, x.1.now)) result (declared_at may_be_aside bytes.now) }
+/// Whether the stack is put aside, and an item named, only where they may be.
+fn may_be_declared(may_be_aside: bool, may_be_item: bool, declared: Declared) -> bool
+    ensures { result ≡ may_be_declared may_be_aside may_be_item declared }
 {
-    let (bits, rest) = byte_between(0, 7, bytes)?;
+    (may_be_aside || !declared.aside) && (may_be_item || !declared.item)
+}
+
+/// Which parts there are. The stack is put aside, and an item named, only where they may be.
+#[tactic(auto, unfolding(crate::specs::WholeReading::declared_at))]
+pub fn declared_at(
+    may_be_aside: bool,
+    may_be_item: bool,
+    bytes: &[u8],
+) -> Result<(Declared, &[u8]), CertFault>
+    ensures { Gives (λ x. (x.0, x.1.now)) result (declared_at may_be_aside may_be_item bytes.now) }
+{
+    let (bits, rest) = byte_between(0, 15, bytes)?;
     let declared = Declared {
         shadows: bits % 2 == 1,
         levels: bits / 2 % 2 == 1,
-        aside: bits / 4 == 1,
+        aside: bits / 4 % 2 == 1,
+        item: bits / 8 == 1,
     };
-    if declared.aside && !may_be_aside {
+    if !may_be_declared(may_be_aside, may_be_item, declared) {
         return Err(CertFault::Field);
     }
     Ok((declared, rest))

@@ -4,17 +4,20 @@ ghost use Rattle.std.specs.Prelude.{◌≡◌, ◌≤◌, IfOk};
 ghost use Rattle.gb_domain.specs.declared.rules.Rules.TheVariants.{Extended};
 ghost use Rattle.gb_domain.specs.Limits.{cell_room};
 ghost use Rattle.gb_domain.specs.Rules.{after_cell};
-ghost use Rattle.gb_fields.specs.Format.{Gives, several};
+ghost use Rattle.gb_fields.specs.Format.{Gives, both, several};
 ghost use Rattle.gb_fields.specs.Limits.{item_limit};
-ghost use Rattle.gb_states.specs.WholeRules.{is_off_alone, may_be_aside};
-ghost use Rattle.gb_states.specs.WholeReading.{val_at, ctl_at, vals_at, core_at, items_at, cell_at, cells_at, told_at, state_at};
+ghost use Rattle.gb_states.specs.RelationReading.{parts_at};
+ghost use Rattle.gb_states.specs.WholeRules.{is_off_alone, may_be_aside, stack_bytes};
+ghost use Rattle.gb_states.specs.WholeReading.{val_at, ctl_at, vals_at, core_at, items_at, cell_at, cells_at, may_be_item, present_declared_at, place_of, summary_at, told_at, state_at};
 
 use crate::fields::{banks_at, flg_at, ime_at, may_at, ordered_at, test_at};
-use crate::relations::{parts_at, present_at};
+use crate::form::ProcedureForm;
+use crate::relations::{InMemory, Parts, Present, parts_at, present_at};
 use crate::role::Role;
 use crate::states::item_count_at;
-use crate::whole::{declared_at, free_address_at, kept_at, summary_at, val_at};
+use crate::whole::{Declared, declared_at, free_address_at, kept_at, summary_at, val_at};
 use arrayvec::ArrayVec;
+use gb_domain::places::StackBytes;
 use gb_domain::relations::Relations;
 use gb_domain::summary::Summary;
 use gb_domain::types::{Abs, Cell, Core, Ctl, ImeSet, Rules, Val};
@@ -196,42 +199,93 @@ pub fn may_be_aside(role: Role, core: &Core) -> bool
     }
 }
 
+/// The stack of a state that has so many items.
+#[inline(always)]
+pub fn stack_bytes(form: ProcedureForm, role: Role, region: Region, count: u8) -> StackBytes
+    ensures { result ≡ stack_bytes form role region count }
+{
+    StackBytes {
+        region,
+        base: form.base,
+        count: role.named_items(count),
+    }
+}
+
+/// Whether the one byte may have an item for a place.
+fn may_be_item(stack: StackBytes, present: Present) -> bool
+    ensures { result ≡ may_be_item stack present }
+{
+    present.byte && !present.address && stack.count != 0
+}
+
+/// Which parts there are of what is known of several parts together, and of what is said of the whole program.
+#[inline(always)]
+fn present_declared_at(
+    stack: StackBytes,
+    may_be_aside: bool,
+    test: Option<u8>,
+    bytes: &[u8],
+) -> Result<((Present, Declared), &[u8]), CertFault>
+    ensures { Gives (λ x. (x.0, x.1.now)) result (present_declared_at stack may_be_aside test bytes.now) }
+{
+    let (present, rest) = present_at(test, bytes)?;
+    let (declared, rest) = declared_at(may_be_aside, may_be_item(stack, present), rest)?;
+    Ok(((present, declared), rest))
+}
+
+/// The parts that there are of both; the test is the state's.
+#[inline(always)]
+fn both_parts_at(
+    facts: u16,
+    stack: StackBytes,
+    test: Option<u8>,
+    there: (Present, Declared),
+    bytes: &[u8],
+) -> Result<((Parts, Summary), &[u8]), CertFault>
+    ensures { Gives (λ x. ((x.0.0, x.0.1), x.1.now)) result (both (parts_at stack test (place_of there) there.0) (summary_at facts stack.region there.1) bytes.now) }
+{
+    let (present, declared) = there;
+    let place = InMemory::by(declared.item, present.address);
+    let (parts, rest) = parts_at(stack, test, place, present, bytes)?;
+    let (summary, rest) = summary_at(facts, stack.region, declared, rest)?;
+    Ok(((parts, summary), rest))
+}
+
 /// What is known of several parts together, and what is said of the whole program; the test is the state's.
 #[tactic(auto, unfolding(crate::specs::WholeReading::told_at))]
 pub fn told_at(
     facts: u16,
-    region: Region,
+    stack: StackBytes,
     may_be_aside: bool,
     test: Option<u8>,
     bytes: &[u8],
 ) -> Result<((Relations, Summary), &[u8]), CertFault>
-    ensures { Gives (λ x. ((x.0.0, x.0.1), x.1.now)) result (told_at facts region may_be_aside test bytes.now) }
+    ensures { Gives (λ x. ((x.0.0, x.0.1), x.1.now)) result (told_at facts stack may_be_aside test bytes.now) }
 {
-    let (present, rest) = present_at(test, bytes)?;
-    let (declared, rest) = declared_at(may_be_aside, rest)?;
-    let ((byte, (zero, pairs)), rest) = parts_at(region, test, present, rest)?;
-    let (summary, rest) = summary_at(facts, region, declared, rest)?;
+    let (there, rest) = present_declared_at(stack, may_be_aside, test, bytes)?;
+    let (((byte, (zero, pairs)), summary), rest) = both_parts_at(facts, stack, test, there, rest)?;
     Ok(((Relations { byte, zero, pairs }, summary), rest))
 }
 
 // ---- states
 
-/// A state of a procedure that names so many addresses to be kept, in a certificate of so many facts.
+/// A state of a procedure of this form, in a certificate of so many facts.
 #[tactic(auto, unfolding(crate::specs::WholeReading::state_at))]
 pub fn state_at(
     facts: u16,
-    kept: u8,
+    form: ProcedureForm,
     role: Role,
     region: Region,
     bytes: &[u8],
 ) -> Result<(Abs, &[u8]), CertFault>
-    ensures { Gives (λ x. (x.0, x.1.now)) result (state_at facts kept role region bytes.now) }
+    ensures { Gives (λ x. (x.0, x.1.now)) result (state_at facts form role region bytes.now) }
 {
-    let ((core, test), rest) = core_at(kept, role, bytes)?;
-    let (items, rest) = items_at(kept, role, core.stack_set, rest)?;
+    let ((core, test), rest) = core_at(form.kept, role, bytes)?;
+    let (items, rest) = items_at(form.kept, role, core.stack_set, rest)?;
+    let stack = stack_bytes(form, role, region, items.len() as u8);
     let may_be_aside = may_be_aside(role, &core);
-    let ((relations, summary), rest) = told_at(facts, region, may_be_aside, test, rest)?;
-    let (cells, rest) = cells_at(kept, region, rest)?;
+    let ((relations, summary), rest) = told_at(facts, stack, may_be_aside, test, rest)?;
+    let (cells, rest) = cells_at(form.kept, region, rest)?;
     let state = Abs::of_all_parts(core, items, cells, relations, summary);
     Ok((state, rest))
 }

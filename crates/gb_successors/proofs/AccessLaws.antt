@@ -47,6 +47,8 @@ use Rattle.gb_successors.specs.Loads.{read_word}
 use Rattle.gb_successors.specs.Refused.{is_unstorable, reads_closed_ram, writes_closed_ram, is_stack_limited, is_read_limited, is_write_limited}
 use Rattle.gb_abs_memory.specs.Kept.{IsKept}
 use Rattle.gb_product.specs.Below.gb_relations.Sound.{Writes}
+use Rattle.gb_product.specs.Held.{stack_held}
+use Rattle.gb_domain.specs.declared.places.StackBytes.{StackBytes}
 use Rattle.gb_successors.proofs.RamLaws.{ram_at, ram_same, differs, wrote_ram}
 use Rattle.gb_successors.proofs.PlainLaws.{Keeps, IsPlainRead, IsPlainWrite}
 
@@ -129,10 +131,10 @@ Loads-read z rom region s entry base x reads sp (read.Byte span) (machine_read.W
 -- ---- writes
 
 -- a word is written a byte at a time, the low one first
-abbrev pub WritesInTurn : Region → Write → (ℕ → ℕ) → (ℕ → ℕ) → Type 0
-WritesInTurn region (machine_write.Word a w) memory after =
-    (middle : ℕ → ℕ) × Writes region (machine_write.Byte a (w % 256)) memory middle × Writes region (machine_write.Byte ((a + 1) % 65536) (w / 256)) middle after
-WritesInTurn region w memory after = Writes region w memory after
+abbrev pub WritesInTurn : StackBytes → Write → (ℕ → ℕ) → (ℕ → ℕ) → Type 0
+WritesInTurn held (machine_write.Word a w) memory after =
+    (middle : ℕ → ℕ) × Writes held (machine_write.Byte a (w % 256)) memory middle × Writes held (machine_write.Byte ((a + 1) % 65536) (w / 256)) middle after
+WritesInTurn held w memory after = Writes held w memory after
 
 -- what an instruction writes, without a fault
 pub record Stores (z : Setting) (rom : List ℕ) (region : Region) (ranges : List Range) (s : AbsState) (w : AbsWrite) (entry : Activation) (base : ℕ) (x : MState) (m : View) (mw : Write) : Type 0 where
@@ -142,8 +144,8 @@ pub record Stores (z : Setting) (rom : List ℕ) (region : Region) (ranges : Lis
   pub starting : (stored m mw).starting ≡ starts w
   pub faults : store_faults region m mw ≡ no_faults
   pub kept : (b : ℕ) → IsKept z region ranges base b → peek (stored m mw).storage b ≡ peek x.storage b
-  pub writes : Writes region mw (ram_at x.storage) (ram_at (stored m mw).storage)
-  pub in_turn : WritesInTurn region mw (ram_at x.storage) (ram_at (stored m mw).storage)
+  pub writes : Writes (stack_held z region (length s.items)) mw (ram_at x.storage) (ram_at (stored m mw).storage)
+  pub in_turn : WritesInTurn (stack_held z region (length s.items)) mw (ram_at x.storage) (ram_at (stored m mw).storage)
 
 -- the state at a store, and where it may be
 pub record AtWrite (z : Setting) (region : Region) (s : AbsState) (entry : Activation) (base : ℕ) (x : MState) : Type 0 where

@@ -7,7 +7,7 @@ use Rattle.gb_ops.specs.declared.op.Condition.{Condition}
 use Rattle.gb_ops.specs.declared.op.Op.{Op}
 use Rattle.gb_ops.specs.declared.op.Op.TheVariants as op
 use Rattle.gb_ops.specs.declared.op.Row.{Row}
-use Rattle.gb_ops.specs.Machine.{executed}
+use Rattle.gb_ops.specs.Machine.{executed, advanced}
 use Rattle.gb_ops.specs.Play.{MState, within, outside}
 use Rattle.gb_domain.specs.declared.pairs.Bounds.{Bounds}
 use Rattle.gb_domain.specs.declared.relations.Relations.{Relations}
@@ -16,6 +16,12 @@ use Rattle.gb_domain.specs.declared.rules.Rules.{Rules}
 use Rattle.gb_domain.specs.declared.rules.Rules.TheVariants.{Simple, Extended}
 use Rattle.gb_domain.specs.declared.setting.Setting.{Setting}
 use Rattle.gb_domain.specs.declared.places.OneByte.{OneByte}
+use Rattle.gb_domain.specs.declared.places.StackBytes.{StackBytes}
+use Rattle.gb_domain.specs.Areas.{is_place_at}
+use Rattle.gb_ops.specs.declared.machine.Write.{Write}
+use Rattle.gb_ops.specs.declared.machine.Write.TheVariants as machine_write
+use Rattle.gb_product.specs.Below.gb_relations.Places.{is_ram}
+use Rattle.gb_successors.proofs.RamLaws.{ram_at, ram_is}
 use Rattle.gb_domain.specs.declared.types.Cell.{Cell}
 use Rattle.gb_domain.specs.declared.types.Core.{Core}
 use Rattle.gb_domain.specs.declared.types.Halves.{Halves}
@@ -29,7 +35,7 @@ use Rattle.gb_domain.specs.Types.{AbsState}
 use Rattle.gb_product.specs.Below.gb_abs.Cells.{with_cell}
 use Rattle.gb_product.specs.Below.gb_abs_effects.declared.writes.AbsWrite.{AbsWrite}
 use Rattle.gb_product.specs.Below.gb_abs.Located.{sp_halves, sp_bounds}
-use Rattle.gb_product.specs.Below.gb_abs.Meaning.{Activation, MeansCore, MeansParts}
+use Rattle.gb_product.specs.Below.gb_abs.Meaning.{Activation, Holds, MeansCore, MeansParts}
 use Rattle.gb_product.specs.Below.gb_abs.Operations.{core_settle, with_core}
 use Rattle.gb_product.specs.Below.gb_abs.Storage.{peek}
 use Rattle.gb_product.proofs.Below.gb_abs_laws.OperationLaws.{IsCore-settle}
@@ -45,7 +51,16 @@ use Rattle.gb_abs_memory.specs.Kept.{IsKept}
 use Rattle.gb_product.specs.declared.parts.Branch.{Branch}
 use Rattle.gb_product.specs.declared.parts.Product.{Product}
 use Rattle.gb_product.specs.Below.gb_pairs.Meaning.{AreBytes}
-use Rattle.gb_product.specs.Below.gb_relations.Sound.{IsByteFree}
+use Rattle.gb_product.specs.Below.gb_relations.Sound.{IsBytePlaced}
+use Rattle.gb_product.specs.Held.{stack_held}
+use Rattle.gb_product.specs.Sound.{HoldsCell}
+use Rattle.gb_product.proofs.SideLaws.{side_placed}
+use Rattle.gb_product.proofs.Below.gb_relations_laws.AddressLaws.{placed-ram}
+use Rattle.gb_product.proofs.Below.gb_relations_laws.MachineLaws.{is_outside, stores, effect_of-outside}
+use Rattle.gb_successors.specs.declared.way.Told.{Told}
+use Rattle.gb_successors.specs.Settled.{cell_outside, told_by, branch_outside, told_successor, held_successor}
+use Rattle.gb_successors.proofs.AccessLaws.{WritesInTurn}
+use Rattle.gb_successors.proofs.HoldingLaws.{LeadsWidely-related, to_widely, from_widely, told_right, Leads-settled, settled_is, settled_count}
 use Rattle.gb_product.specs.Meaning.{AreRelated}
 use Rattle.gb_product.specs.Reduced.{product_of, reduced}
 use Rattle.gb_product.specs.Sides.{side_where, taken_side, not_taken_side}
@@ -67,20 +82,20 @@ use Rattle.gb_successors.specs.Stacks.{around_of, extended, stack_move}
 use Rattle.gb_ops.specs.Pointers.{pointer_of}
 use Rattle.gb_successors.specs.Summaries.{pointed_bits, summary_by}
 use Rattle.gb_successors.specs.Way.{Successor}
-use Rattle.gb_successors.specs.Successors.{pointer_in, read_in, word_in, effect_in, taken_move, taken_parts, related_successor, relations_behind, said_successor, summary_behind, taken_successor, untaken_successor, with_product, reduced_successor, product_before, taken_from, not_taken_from, successors_of, memory_before, bits_in}
+use Rattle.gb_successors.specs.Successors.{pointer_in, read_in, word_in, effect_in, taken_move, taken_parts, related_successor, relations_behind, said_successor, summary_behind, taken_successor, untaken_successor, with_product, reduced_successor, product_before, taken_by_side, not_taken_by_side, taken_from, not_taken_from, successors_of, memory_before, bits_in}
 use Rattle.gb_successors.specs.Sound.{IsReady, IsAllowed, IsFound, IsStackFit, bytes_moved, IsHeld, IsStackRuled, is_followed, LeadsWidely, LeadsTo, Leads, Stands, IsRuled, Executes}
 use Rattle.gb_successors.proofs.AroundLaws.{located-same}
 use Rattle.gb_successors.proofs.SimpleLaws.{behind_row, IsTold, same_word, same_sp}
-use Rattle.gb_successors.proofs.ToldLaws.{told_core, told_items, IsToldCell, IsToldCell-side, Stands-told, IsAllowed-told, IsNoPop, IsNoPop-taken, IsTold-around, IsTold-taken, IsVal-memory_before, held_before}
+use Rattle.gb_successors.proofs.ToldLaws.{told_core, told_items, IsToldCell, IsToldCell-side, Stands-told, IsAllowed-told, IsNoPop, IsNoPop-taken, IsNoPop-outside, IsTold-around, IsTold-outside, IsTold-taken, IsVal-memory_before, held_before}
 use Rattle.gb_successors.proofs.PlainLaws.{Keeps, Keeps-both, Keeps-settle, Keeps-cut}
 use Rattle.gb_successors.proofs.MarkLaws.{executed_mark}
 use Rattle.gb_successors.proofs.SaidLaws.{LeadsRelated, Leads-summarized, Leads-said}
 use Rattle.gb_successors.proofs.SummaryLaws.{said_holds, said_aside}
 use Rattle.gb_successors.proofs.RelatedLaws.{MeansParts-related, related_begun, IsCore-ended, values_begun}
-use Rattle.gb_successors.proofs.SuccessorLaws.{begun, begun_core, given, effect, executed_is, left_by}
+use Rattle.gb_successors.proofs.SuccessorLaws.{begun, begun_core, given, effect, executed_is, left_by, passed_peek}
 use Rattle.gb_successors.proofs.UntakenLaws.{simple_untaken, untaken_simply, untaken_executes, side_facts}
-use Rattle.gb_successors.proofs.Situations.{Situation, acted_at, given_at, left_at, move_at, parts_at, related_at, IsTakenIn}
-use Rattle.gb_successors.proofs.LandingLaws.{given_by}
+use Rattle.gb_successors.proofs.Situations.{Situation, acted_at, given_at, begun_at, held_at, left_at, move_at, parts_at, related_at, IsTakenIn}
+use Rattle.gb_successors.proofs.LandingLaws.{given_by, stored_at}
 use Rattle.gb_successors.proofs.LedLaws.{IsAllowedAt, DoneAt, done_at}
 use Rattle.gb_successors.proofs.PossibleLaws.{some_reduced, possible, pairs_behind, bytes_behind_it}
 use Rattle.gb_successors.specs.StackMark.{marks, marked, marked_write}
@@ -139,22 +154,6 @@ related_narrowed z region w t p entry base y e are bytes related h followed = by
     by (target.Main a) k f = of_core (k.means entry refl).core
     by target.Unknown k f = cc
     by target.Lost k f = cc
-
-pub LeadsWidely-related :
-    (z : Setting) (region : Region) (w : Target) (r : Relations) (t : Successor) (entry : Activation) (base : ℕ) (y : MState) → LeadsWidely z region w t entry base y → LeadsWidely z region w (related_successor r t) entry base y
-LeadsWidely-related z region (target.At a) r t entry base y h = record { means = MeansParts-related r t.state entry base y h.means; goes = h.goes; room = h.room }
-LeadsWidely-related z region (target.Call a) r t entry base y h =
-    record { means = MeansParts-related r t.state entry base y h.means; goes = h.goes; room = h.room; located = h.located; next = h.next; top = h.top; placed = h.placed }
-LeadsWidely-related z region target.Return r t entry base y h = record { means = MeansParts-related r t.state entry base y h.means; goes = h.goes; room = h.room; procedure = h.procedure }
-LeadsWidely-related z region (target.Main a) r t entry base y h = record { means = λ other same. MeansParts-related r t.state other (region.last + 1) y (h.means other same); goes = h.goes; room = h.room }
-LeadsWidely-related z region target.Unknown r t entry base y h = tt
-LeadsWidely-related z region target.Lost r t entry base y h = tt
-
-to_widely : (z : Setting) (region : Region) (w : Target) (t : Successor) (entry : Activation) (base : ℕ) (x y : MState) → z.rules ≡ Extended → LeadsWidely z region w t entry base y → LeadsTo z.rules z region w t entry base x y
-to_widely z region w t entry base x y e h = subst (λ r. LeadsTo r z region w t entry base x y) (sym e) h
-
-from_widely : (z : Setting) (region : Region) (w : Target) (t : Successor) (entry : Activation) (base : ℕ) (x y : MState) → z.rules ≡ Extended → LeadsTo z.rules z region w t entry base x y → LeadsWidely z region w t entry base y
-from_widely z region w t entry base x y e h = subst (λ r. LeadsTo r z region w t entry base x y) e h
 
 pub Leads-narrowed :
     (z : Setting) (region : Region) (ranges : List Range) (t : Successor) (p : Product) (entry : Activation) (base : ℕ) (x y : MState) → z.rules ≡ Extended → reduced z.rules t.state.core t.state.relations ≡ Some p
@@ -263,7 +262,8 @@ relations_told :
     (k : Stack) (program : Program) (rom : List ℕ) (o : Op) (s : AbsState) (p : Product) (cell : Option Cell) → IsNoPop cell o → IsTold cell (read_of o p.core)
     → relations_behind k program rom o s p ≡ relations_behind k program rom o (with_cell_if k.setting cell s) p
 unfolding relations_behind
-relations_told k program rom o s p cell unpopped told = rw (word_told k program rom o s p cell unpopped told, same_sp_bounds k.setting cell s) refl
+relations_told k program rom o s p cell unpopped told =
+    rw (word_told k program rom o s p cell unpopped told, same_sp_bounds k.setting cell s, told_items k.setting cell s) refl
 
 no_such : false ≡ true → ⊥
 no_such h = cc
@@ -312,24 +312,24 @@ whole_side o memory core r b e h = by (Flags.condition_of o) e h
     by (Some k) f g = cc
 
 same_move :
-    (k : Stack) (program : Program) (rom : List ℕ) (row : Row) (next : ℕ) (s : AbsState) (p : Product) (b : Branch) → taken_side row.op (memory_before program s p) p.core p.relations ≡ Some b
-    → taken_move k program rom row next (with_cell_if k.setting b.cell s) (product_of b.core b.relations) ≡ taken_move k program rom row next s p
+    (k : Stack) (program : Program) (rom : List ℕ) (row : Row) (next : ℕ) (s : AbsState) (p : Product) (b : Branch) → taken_side row.op (memory_before k program s p) p.core p.relations ≡ Some b
+    → taken_move k program rom row next (with_cell_if k.setting (cell_outside k.region b.cell) s) (product_of b.core b.relations) ≡ taken_move k program rom row next s p
 unfolding with_cell_if
 same_move k program rom row next s p b e = choose (is_some (Flags.condition_of row.op)) refl
   where
     told : AbsState
-    told = with_cell_if k.setting b.cell s
+    told = with_cell_if k.setting (cell_outside k.region b.cell) s
 
     q : Product
     q = product_of b.core b.relations
 
-    choose : (t : Bool) → is_some (Flags.condition_of row.op) ≡ t → taken_move k program rom row next (with_cell_if k.setting b.cell s) (product_of b.core b.relations) ≡ taken_move k program rom row next s p
+    choose : (t : Bool) → is_some (Flags.condition_of row.op) ≡ t → taken_move k program rom row next (with_cell_if k.setting (cell_outside k.region b.cell) s) (product_of b.core b.relations) ≡ taken_move k program rom row next s p
     choose true h =
-        taken_move_is k program rom row next (with_cell_if k.setting b.cell s) (product_of b.core b.relations) h
+        taken_move_is k program rom row next (with_cell_if k.setting (cell_outside k.region b.cell) s) (product_of b.core b.relations) h
         ∙ (same_conditional k (around_of k told b.core) (around_of k s p.core) row.op next (sp_halves k.setting told) (sp_halves k.setting s) b.core p.core (word_in k program rom row.op told q).low (word_in k program rom row.op told q).high (word_in k program rom row.op s p).low (word_in k program rom row.op s p).high
         (pointer_in k row.op q) (pointer_in k row.op p) (bits_in k row.op q) (bits_in k row.op p) h ∙ sym (taken_move_is k program rom row next s p h))
     choose false h =
-        ap (λ (d : Branch). taken_move k program rom row next (with_cell_if k.setting d.cell s) (product_of d.core d.relations)) (whole_side row.op (memory_before program s p) p.core p.relations b e h)
+        ap (λ (d : Branch). taken_move k program rom row next (with_cell_if k.setting (cell_outside k.region d.cell) s) (product_of d.core d.relations)) (whole_side row.op (memory_before k program s p) p.core p.relations b e h)
 
 -- ---- the stack is ready on the side too
 
@@ -385,23 +385,32 @@ IsAllowed-with_product z rom region ranges s base m r p t e h =
     let found : IsFound t.target = subst (λ q. IsStackFit q region t.target s (with_product (said_successor m (related_successor r t)) p) base) e h.stack in
     record { stores = h.stores; ram = h.ram; oam_transfer = h.oam_transfer; stack = subst (λ q. IsStackFit q region t.target s t base) (sym e) found }
 
+-- what is against accesses asks nothing of what is told and of places
+IsAllowed-settled :
+    (k : Stack) (rom : List ℕ) (ranges : List Range) (s : AbsState) (base : ℕ) (o : Option Told) (core : Core) (t : Successor) → k.setting.rules ≡ Extended
+    → IsAllowed k.setting rom k.region ranges s base (held_successor k (told_successor o core t)) → IsAllowed k.setting rom k.region ranges s base t
+unfolding meets_closed meets_oam_transfer
+IsAllowed-settled k rom ranges s base o core t e h =
+    let found : IsFound t.target = subst (λ q. IsStackFit q k.region t.target s (held_successor k (told_successor o core t)) base) e h.stack in
+    record { stores = h.stores; ram = h.ram; oam_transfer = h.oam_transfer; stack = subst (λ q. IsStackFit q k.region t.target s t base) (sym e) found }
+
 pub taken_way :
     (k : Stack) (program : Program) (rom : List ℕ) (row : Row) (a : ℕ) (s : AbsState) (p : Product) (b : Branch) (t : Successor) → product_before k.setting.rules s ≡ Some p
-    → taken_side row.op (memory_before program s p) p.core p.relations ≡ Some b → reduced_successor k.setting.rules (taken_successor k program rom row (behind_row a row) s b) ≡ Some t
+    → taken_side row.op (memory_before k program s p) p.core p.relations ≡ Some b → taken_by_side k program rom row (behind_row a row) s b ≡ Some t
     → (successors_of k program rom row a s).taken ≡ Some t
 unfolding successors_of
 taken_way k program rom row a s p b t before side is =
     ap (option_and_then (taken_from k program rom row (behind_row a row) s)) before
-    ∙ (ap (option_and_then (λ (c : Branch). reduced_successor k.setting.rules (taken_successor k program rom row (behind_row a row) s c))) side ∙ is)
+    ∙ (ap (option_and_then (taken_by_side k program rom row (behind_row a row) s)) side ∙ is)
 
 untaken_way :
     (k : Stack) (program : Program) (rom : List ℕ) (row : Row) (a : ℕ) (s : AbsState) (p : Product) (b : Branch) (t : Successor) → product_before k.setting.rules s ≡ Some p
-    → not_taken_side row.op (memory_before program s p) p.core p.relations ≡ Some b → reduced_successor k.setting.rules (untaken_successor k row (behind_row a row) s b) ≡ Some t
+    → not_taken_side row.op (memory_before k program s p) p.core p.relations ≡ Some b → not_taken_by_side k row (behind_row a row) s b ≡ Some t
     → (successors_of k program rom row a s).not_taken ≡ Some t
 unfolding successors_of
 untaken_way k program rom row a s p b t before side is =
     ap (option_and_then (not_taken_from k program row (behind_row a row) s)) before
-    ∙ (ap (option_and_then (λ (c : Branch). reduced_successor k.setting.rules (untaken_successor k row (behind_row a row) s c))) side ∙ is)
+    ∙ (ap (option_and_then (not_taken_by_side k row (behind_row a row) s)) side ∙ is)
 
 pub reduced_way : (rules : Rules) (t : Successor) (p : Product) → reduced rules t.state.core t.state.relations ≡ Some p → reduced_successor rules t ≡ Some (with_product t p)
 unfolding reduced_successor
@@ -452,17 +461,66 @@ Leads-at c p k e d =
     (bytes_behind_it c (given_at c).low (given_at c).high k (given_by c k d.loads)) d.leaves.related
     (LeadsWidely-related c.stack.setting c.stack.region (parts_at c).target r (parts_at c) c.entry c.base (left_at c) d.to) d.leaves.kept
 
+-- ---- a byte that a side tells of stays
+
+-- an instruction with a condition stores nowhere but on the stack
+conditional_stores : (o : Op) → is_some (Flags.condition_of o) ≡ true → stores o ≡ false
+conditional_stores (op.JumpRelativeIf k e8) h = refl
+conditional_stores (op.JumpIf k w) h = refl
+conditional_stores (op.CallIf k w) h = refl
+conditional_stores (op.ReturnIf k) h = refl
+conditional_stores o h = absurd (no_such h)
+
+outside_stays : (held : StackBytes) (w : Write) (memory after : ℕ → ℕ) → is_outside w ≡ true → WritesInTurn held w memory after → (a : ℕ) → is_place_at held a ≡ true → after a ≡ memory a
+outside_stays held machine_write.Nothing memory after out w a place = w a
+outside_stays held (machine_write.Push sp n) memory after out w a place = w a place
+outside_stays held (machine_write.Byte b n) memory after out w a place = absurd (no_such out)
+outside_stays held (machine_write.Word b n) memory after out w a place = absurd (no_such out)
+
+byte_left : (c : Situation) → IsTakenIn c → DoneAt c → is_some (Flags.condition_of c.row.op) ≡ true → (a : ℕ) → is_place_at (held_at c) a ≡ true → peek (left_at c).storage a ≡ peek c.machine.storage a
+byte_left c k d conditional a place =
+    let ram : is_ram a ≡ true = placed-ram (held_at c) a place in
+    passed_peek (stored_at c) c.row.cycles a
+    ∙ (sym (ram_is (stored_at c).storage a ram)
+    ∙ (outside_stays (held_at c) (acted_at c).write (ram_at c.machine.storage) (ram_at (stored_at c).storage)
+    (effect_of-outside c.row.op (advanced c.machine.processor c.row) (given_at c).low (given_at c).high (conditional_stores c.row.op conditional)) d.leaves.in_turn a place
+    ∙ ram_is c.machine.storage a ram))
+
+-- without a condition a side tells of none
+abbrev IsConditional : Option Cell → Op → Type 0
+IsConditional None o = Unit {0}
+IsConditional (Some d) o = is_some (Flags.condition_of o) ≡ true
+
+side_conditional : (o : Op) (memory : Val) (core : Core) (r : Relations) (b : Branch) → taken_side o memory core r ≡ Some b → IsConditional b.cell o
+side_conditional o memory core r b e = choose (is_some (Flags.condition_of o)) refl
+  where
+    some : (cell : Option Cell) → is_some (Flags.condition_of o) ≡ true → IsConditional cell o
+    some None h = tt
+    some (Some d) h = h
+
+    choose : (t : Bool) → is_some (Flags.condition_of o) ≡ t → IsConditional b.cell o
+    choose true h = some b.cell h
+    choose false h = subst (λ (cell : Option Cell). IsConditional cell o) (sym (ap (λ (d : Branch). d.cell) (whole_side o memory core r b e h))) tt
+
+cell_left :
+    (c : Situation) → IsTakenIn c → DoneAt c → (cell : Option Cell) → IsConditional cell c.row.op → IfSome cell (λ d. is_place_at (held_at c) d.address ≡ true) → IfSome cell (λ d. HoldsCell c.entry (begun_at c) d)
+    → IfSome cell (λ d. HoldsCell c.entry (left_at c) d)
+cell_left c k done None conditional place h = tt
+cell_left c k done (Some d) conditional place h = subst (λ n. Holds d.val c.entry n) (sym (byte_left c k done conditional d.address place)) h
+
 taken_executes :
     (k : Stack) (rom : List ℕ) (row : Row) (a : ℕ) (s : AbsState) (ranges : List Range) (entry : Activation) (base : ℕ) (x : MState) (reads : List ℕ) (p : Product) (b : Branch)
     → k.setting.rules ≡ Extended → entry.mark ≡ address_below base k.mark → Stands k.setting rom k.region row a s entry base x → IsRuled k entry.program rom row a s base → x.processor.halt_mark ≡ false → slice_index reads 0 ≤ 255 → slice_index reads 1 ≤ 255
-    → product_before k.setting.rules s ≡ Some p → IsReduced (core_settle s.core) s.relations p → taken_side row.op (memory_before entry.program s p) p.core p.relations ≡ Some b → MeansBranch b entry (begun row x)
+    → product_before k.setting.rules s ≡ Some p → IsReduced (core_settle s.core) s.relations p → taken_side row.op (memory_before k entry.program s p) p.core p.relations ≡ Some b → MeansBranch b entry (begun row x)
     → (effect rom row x reads).is_taken ≡ true
     → Executes k entry.program rom ranges row a s (successors_of k entry.program rom row a s) entry base x reads
 taken_executes k rom row a s ranges entry base x reads p b extended marked stands ruled mark byte second before cut side meant taken =
-    let is : IsSideOf (memory_before entry.program s p) p.core p.relations b = side_facts _ b (memory_before entry.program s p) p.core p.relations side (taken_side_cuts row.op (memory_before entry.program s p) p.core p.relations _ refl) in
-    let told : AbsState = with_cell_if k.setting b.cell s in
-    let cell : IfSome b.cell (IsToldCell k.region entry x) =
-    IsToldCell-side k.region (memory_before entry.program s p) p.core p.relations b entry x (subst (λ (o : OneByte). IsByteFree k.region o.address) (sym cut.relations.byte) stands.free) (IsVal-memory_before entry.program s p stands.vals) is meant.cell in
+    let is : IsSideOf (memory_before k entry.program s p) p.core p.relations b = side_facts _ b (memory_before k entry.program s p) p.core p.relations side (taken_side_cuts row.op (memory_before k entry.program s p) p.core p.relations _ refl) in
+    let o : Branch = branch_outside k.region b in
+    let told : AbsState = with_cell_if k.setting o.cell s in
+    let place : IsBytePlaced (stack_held k.setting k.region (length s.items)) p.relations.byte.address = subst (λ (q : OneByte). IsBytePlaced (stack_held k.setting k.region (length s.items)) q.address) (sym cut.relations.byte) stands.place in
+    let cell : IfSome o.cell (IsToldCell k.region entry x) =
+    IsToldCell-side k.setting k.region (length s.items) (memory_before k entry.program s p) p.core p.relations b entry x place (IsVal-memory_before k entry.program s p stands.items stands.vals) is meant.cell in
     let c : Situation = record {
       stack = k;
       rom = rom;
@@ -478,13 +536,20 @@ taken_executes k rom row a s ranges entry base x reads p b extended marked stand
     } in
     let same : move_at c ≡ taken_move k entry.program rom row (behind_row a row) s p = same_move k entry.program rom row (behind_row a row) s p b side in
     let m : SummaryParts = summary_behind k entry.program row.op told (product_of b.core b.relations) (move_at c) (parts_at c) in
-    let way : (q : Product) → reduced k.setting.rules (parts_at c).state.core (related_at c) ≡ Some q → (successors_of k entry.program rom row a s).taken ≡ Some (with_product (said_successor m (related_successor (related_at c) (parts_at c))) q) =
+    let inner : Product → Successor = λ q. with_product (said_successor m (related_successor (related_at c) (parts_at c))) q in
+    let settled : Product → Successor = λ q. held_successor k (told_successor (told_by Extended k b.cell) s.core (inner q)) in
+    let parts_are : taken_successor k entry.program rom row (behind_row a row) s o ≡ said_successor m (related_successor (related_at c) (parts_at c)) =
+    taken_told k entry.program rom row (behind_row a row) s o
+    (IsNoPop-outside k.region b.cell row.op (IsNoPop-taken row.op (memory_before k entry.program s p) p.core p.relations b side))
+    (IsTold-outside k.region b.cell (read_of row.op b.core) (IsTold-taken row.op (memory_before k entry.program s p) p.core b.core p.relations b side)) in
+    let way : (q : Product) → reduced k.setting.rules (parts_at c).state.core (related_at c) ≡ Some q → (successors_of k entry.program rom row a s).taken ≡ Some (settled q) =
     λ q e.
-    taken_way k entry.program rom row a s p b (with_product (said_successor m (related_successor (related_at c) (parts_at c))) q) before side
-    (ap (reduced_successor k.setting.rules) (taken_told k entry.program rom row (behind_row a row) s b (IsNoPop-taken row.op (memory_before entry.program s p) p.core p.relations b side) (IsTold-taken row.op (memory_before entry.program s p) p.core b.core p.relations b side))
-    ∙ reduced_way k.setting.rules (said_successor m (related_successor (related_at c) (parts_at c))) q e) in
+    taken_way k entry.program rom row a s p b (settled q) before side
+    (settled_is k b.cell s.core (taken_successor k entry.program rom row (behind_row a row) s o) (inner q) extended
+    (ap (reduced_successor k.setting.rules) parts_are ∙ reduced_way k.setting.rules (said_successor m (related_successor (related_at c) (parts_at c))) q e)
+    (ap (λ (t : Successor). t.target) parts_are)) in
     let t : IsTakenIn c = record {
-      stands = Stands-told k.setting rom k.region row a b.cell s entry base x cell stands;
+      stands = Stands-told k.setting rom k.region row a o.cell s entry base x cell stands;
       extended = extended;
       operands = ruled.operands;
       runs = ruled.runs;
@@ -492,35 +557,45 @@ taken_executes k rom row a s ranges entry base x reads p b extended marked stand
       ready = λ meant.
           let some = some_of (reduced k.setting.rules (parts_at c).state.core (related_at c)) meant in
           subst (λ m. IsReady k row.op m told base) (sym same)
-          (IsReady-told k row.op _ b.cell s base (stack_ruled k entry.program rom row a s base p (with_product (said_successor m (related_successor (related_at c) (parts_at c))) some.0) extended before (way some.0 some.1) ruled));
+          (IsReady-told k row.op _ o.cell s base (stack_ruled k entry.program rom row a s base p (settled some.0) extended before (way some.0 some.1) ruled));
       mark = mark;
       byte = byte;
       second = second;
-      keeps = subst (λ d. Keeps d b.core) (sym (told_core k.setting b.cell s))
+      keeps = subst (λ d. Keeps d b.core) (sym (told_core k.setting o.cell s))
           (Keeps-both s.core p.core b.core (Keeps-both s.core (core_settle s.core) p.core (Keeps-settle s.core) (Keeps-cut (core_settle s.core) p.core cut.core)) (Keeps-cut p.core b.core is.core));
       means = meant.core;
       related = meant.related;
       core = is.inhabited (cut.inhabited (IsCore-settle s.core stands.core));
       pairs = is.relations.pairs (cut.relations.pairs stands.pairs);
-      free = subst (λ (o : OneByte). IsByteFree k.region o.address) (sym (is.relations.byte ∙ cut.relations.byte)) stands.free;
+      place = subst (λ items. IsBytePlaced (stack_held k.setting k.region (length items)) b.relations.byte.address) (sym (told_items k.setting o.cell s))
+          (subst (λ (q : OneByte). IsBytePlaced (stack_held k.setting k.region (length s.items)) q.address) (sym (is.relations.byte ∙ cut.relations.byte)) stands.place);
       taken = taken;
     } in
     let some = possible c t in
-    let r : Relations = relations_behind k entry.program rom row.op told (product_of b.core b.relations) in
-    let successor : Successor = with_product (said_successor m (related_successor r (parts_at c))) some.product in
+    let related : Successor = with_product (related_successor (related_at c) (parts_at c)) some.product in
+    let successor : Successor = settled some.product in
     let allowed_at : IsAllowed k.setting rom k.region ranges s base successor → IsAllowedAt c =
-    λ allowed. IsAllowed-told k.setting rom k.region ranges b.cell s base (parts_at c) (IsAllowed-with_product k.setting rom k.region ranges s base m r some.product (parts_at c) extended allowed) in
+    λ allowed. IsAllowed-told k.setting rom k.region ranges o.cell s base (parts_at c)
+    (IsAllowed-with_product k.setting rom k.region ranges s base m (related_at c) some.product (parts_at c) extended
+    (IsAllowed-settled k rom ranges s base (told_by Extended k b.cell) s.core (inner some.product) extended allowed)) in
     let done : IsAllowed k.setting rom k.region ranges s base successor → DoneAt c = λ allowed. done_at c t (allowed_at allowed) in
     record {
       successor = successor;
       is_one = inl (way some.product some.is);
       mark = executed_mark rom x row reads;
       held = λ allowed. held_taken k entry.program rom row a s successor p extended before (way some.product some.is)
-          (subst (λ m. length (parts_at c).state.items ≡ bytes_moved m (length s.items)) same
-          (subst (λ items. length (parts_at c).state.items ≡ bytes_moved (move_at c) (length items)) (told_items k.setting b.cell s) (done allowed).bytes));
+          (settled_count k (told_by Extended k b.cell) s.core (inner some.product)
+          ∙ subst (λ m. length (parts_at c).state.items ≡ bytes_moved m (length s.items)) same
+          (subst (λ items. length (parts_at c).state.items ≡ bytes_moved (move_at c) (length items)) (told_items k.setting o.cell s) (done allowed).bytes));
       leads = λ allowed. subst (λ y. Leads k.setting k.region ranges successor entry base x y) (sym (executed_at c t))
-          (Leads-said k.setting k.region ranges m (with_product (related_successor r (parts_at c)) some.product) entry base x (left_at c) (said_aside c t) (Leads-at c some.product t some.is (done allowed))
-          (said_holds c t (allowed_at allowed) (done allowed)));
+          (Leads-settled k ranges (told_by Extended k b.cell) s.core (inner some.product) entry base x (left_at c)
+          (record { extended = extended; based = stands.based; is_region = stands.is_region })
+          (told_right k b.cell entry (left_at c)
+          (cell_left c t (done allowed) b.cell (side_conditional row.op (memory_before k entry.program s p) p.core p.relations b side)
+          (subst (λ items. IfSome b.cell (λ d. is_place_at (stack_held k.setting k.region (length items)) d.address ≡ true)) (sym (told_items k.setting o.cell s))
+          (side_placed (stack_held k.setting k.region (length s.items)) (memory_before k entry.program s p) p.core p.relations b place is)) meant.cell))
+          (Leads-said k.setting k.region ranges m related entry base x (left_at c) (said_aside c t) (Leads-at c some.product t some.is (done allowed))
+          (said_holds c t (allowed_at allowed) (done allowed))));
       faults = λ allowed. (done allowed).leaves.faults;
     }
 
@@ -536,37 +611,52 @@ followed_at : (r : Rules) (a : ℕ) → is_followed r (target.At a) ≡ true
 followed_at Simple a = refl
 followed_at Extended a = refl
 
+cell_stays :
+    (cell : Option Cell) (entry : Activation) (x y : MState) → ((b : ℕ) → peek y.storage b ≡ peek x.storage b) → IfSome cell (λ d. HoldsCell entry x d) → IfSome cell (λ d. HoldsCell entry y d)
+cell_stays None entry x y same h = tt
+cell_stays (Some d) entry x y same h = subst (λ n. Holds d.val entry n) (sym (same d.address)) h
+
 -- it isn't taken
 untaken_leads :
     (k : Stack) (program : Program) (rom : List ℕ) (row : Row) (a : ℕ) (s : AbsState) (ranges : List Range) (entry : Activation) (base : ℕ) (x : MState) (reads : List ℕ) (p : Product) (b : Branch)
     → k.setting.rules ≡ Extended → Stands k.setting rom k.region row a s entry base x → IsRuled k program rom row a s base → x.processor.halt_mark ≡ false
-    → product_before k.setting.rules s ≡ Some p → IsReduced (core_settle s.core) s.relations p → not_taken_side row.op (memory_before program s p) p.core p.relations ≡ Some b → MeansBranch b entry (begun row x)
+    → product_before k.setting.rules s ≡ Some p → IsReduced (core_settle s.core) s.relations p → not_taken_side row.op (memory_before k program s p) p.core p.relations ≡ Some b → MeansBranch b entry (begun row x)
     → (effect rom row x reads).is_taken ≡ false
     → Executes k program rom ranges row a s (successors_of k program rom row a s) entry base x reads
 untaken_leads k program rom row a s ranges entry base x reads p b extended stands ruled mark before cut side meant not_taken =
     let y : MState = outside (executed (within rom x) row reads) in
-    let is : IsSideOf (memory_before program s p) p.core p.relations b = side_facts _ b (memory_before program s p) p.core p.relations side (not_taken_side_cuts row.op (memory_before program s p) p.core p.relations _ refl) in
-    let told : AbsState = with_cell_if k.setting b.cell s in
-    let cell : IfSome b.cell (IsToldCell k.region entry x) =
-    IsToldCell-side k.region (memory_before program s p) p.core p.relations b entry x (subst (λ (o : OneByte). IsByteFree k.region o.address) (sym cut.relations.byte) stands.free) (IsVal-memory_before program s p stands.vals) is meant.cell in
-    let keeps : Keeps told.core b.core = subst (λ d. Keeps d b.core) (sym (told_core k.setting b.cell s))
+    let is : IsSideOf (memory_before k program s p) p.core p.relations b = side_facts _ b (memory_before k program s p) p.core p.relations side (not_taken_side_cuts row.op (memory_before k program s p) p.core p.relations _ refl) in
+    let o : Branch = branch_outside k.region b in
+    let told : AbsState = with_cell_if k.setting o.cell s in
+    let place : IsBytePlaced (stack_held k.setting k.region (length s.items)) p.relations.byte.address = subst (λ (q : OneByte). IsBytePlaced (stack_held k.setting k.region (length s.items)) q.address) (sym cut.relations.byte) stands.place in
+    let cell : IfSome o.cell (IsToldCell k.region entry x) =
+    IsToldCell-side k.setting k.region (length s.items) (memory_before k program s p) p.core p.relations b entry x place (IsVal-memory_before k program s p stands.items stands.vals) is meant.cell in
+    let keeps : Keeps told.core b.core = subst (λ d. Keeps d b.core) (sym (told_core k.setting o.cell s))
     (Keeps-both s.core p.core b.core (Keeps-both s.core (core_settle s.core) p.core (Keeps-settle s.core) (Keeps-cut (core_settle s.core) p.core cut.core)) (Keeps-cut p.core b.core is.core)) in
     let are : ArePairs b.relations.pairs = is.relations.pairs (cut.relations.pairs stands.pairs) in
     let t : Successor = simple_untaken row (behind_row a row) told b.core b.relations in
     let core : IsCore b.core = is.inhabited (cut.inhabited (IsCore-settle s.core stands.core)) in
-    let done = untaken_executes k.setting rom k.region ranges row a told entry base x reads b.core b.relations (Stands-told k.setting rom k.region row a b.cell s entry base x cell stands) ruled.runs mark keeps meant.core meant.related not_taken in
+    let done = untaken_executes k.setting rom k.region ranges row a told entry base x reads b.core b.relations (Stands-told k.setting rom k.region row a o.cell s entry base x cell stands) ruled.runs mark keeps meant.core meant.related not_taken in
     let to : LeadsWidely k.setting k.region (target.At (behind_row a row)) t entry base y = from_widely k.setting k.region (target.At (behind_row a row)) t entry base x y extended done.0.to in
     let related : AreRelated b.relations y = done.0.related (followed_at k.setting.rules (behind_row a row)) in
     let bytes : AreBytes y.processor.registers = AreBytes-core t.state.core entry y (IsCore-untaken row (behind_row a row) told b.core b.relations core) to.means.core in
     let some = some_reduced k.setting.rules t.state.core b.relations y.processor.registers are bytes (Holds-values t.state.core b.relations entry y to.means.core related) in
+    let inner : Successor = with_product t some.product in
     record {
-      successor = with_product t some.product;
-      is_one = inr (inl (untaken_way k program rom row a s p b (with_product t some.product) before side
-          (ap (reduced_successor k.setting.rules) (untaken_simply k row (behind_row a row) s b) ∙ reduced_way k.setting.rules t some.product some.is)));
+      successor = held_successor k (told_successor (told_by Extended k b.cell) s.core inner);
+      is_one = inr (inl (untaken_way k program rom row a s p b (held_successor k (told_successor (told_by Extended k b.cell) s.core inner)) before side
+          (settled_is k b.cell s.core (untaken_successor k row (behind_row a row) s o) inner extended
+          (ap (reduced_successor k.setting.rules) (untaken_simply k row (behind_row a row) s o) ∙ reduced_way k.setting.rules t some.product some.is)
+          (ap (λ (u : Successor). u.target) (untaken_simply k row (behind_row a row) s o)))));
       mark = executed_mark rom x row reads;
-      held = λ allowed. held_as_before k program rom row a s (with_product t some.product) extended (ap length (untaken_items row (behind_row a row) told b.core b.relations ∙ told_items k.setting b.cell s));
-      leads = λ allowed. Leads-summarized k.setting k.region ranges (with_product t some.product) entry base x y
-          (Leads-narrowed k.setting k.region ranges t some.product entry base x y extended some.is are bytes related to done.0.kept) done.1;
+      held = λ allowed. held_as_before k program rom row a s (held_successor k (told_successor (told_by Extended k b.cell) s.core inner)) extended
+          (settled_count k (told_by Extended k b.cell) s.core inner
+          ∙ ap length (untaken_items row (behind_row a row) told b.core b.relations ∙ told_items k.setting o.cell s));
+      leads = λ allowed. Leads-settled k ranges (told_by Extended k b.cell) s.core inner entry base x y
+          (record { extended = extended; based = stands.based; is_region = stands.is_region })
+          (told_right k b.cell entry y (cell_stays b.cell entry (begun row x) y done.3 meant.cell))
+          (Leads-summarized k.setting k.region ranges inner entry base x y
+          (Leads-narrowed k.setting k.region ranges t some.product entry base x y extended some.is are bytes related to done.0.kept) done.1);
       faults = λ allowed. done.2;
     }
 
@@ -578,21 +668,21 @@ executes_widely k program rom row a s ranges entry base x reads extended of mark
     let before = before_of k s entry (begun row x) stands.core stands.pairs (begun_core row x s.core entry stands.means.parts.core) (related_begun row x s.relations stands.means.related) in
     by_flags before (effect rom row x reads).is_taken refl
   where
-    known : (b : Before k s entry (begun row x)) → IsKnown (memory_before program s b.product) b.product.relations entry (begun row x)
+    known : (b : Before k s entry (begun row x)) → IsKnown (memory_before k program s b.product) b.product.relations entry (begun row x)
     known b = record {
-      byte = held_before s b.product entry base x program of stands.means.parts stands.means.summary (values_begun row x (values_of b.product.core.registers b.product.relations.pairs) (Holds-values b.product.core b.product.relations entry (begun row x) b.means.core b.means.related));
+      byte = held_before k s b.product entry base x program of stands.based stands.means.parts stands.means.summary (values_begun row x (values_of b.product.core.registers b.product.relations.pairs) (Holds-values b.product.core b.product.relations entry (begun row x) b.means.core b.means.related));
       related = b.means.related;
     }
 
-    by_taken : (b : Before k s entry (begun row x)) (o : Option Branch) → taken_side row.op (memory_before program s b.product) b.product.core b.product.relations ≡ o → (effect rom row x reads).is_taken ≡ true → IsMeantBranch o entry (begun row x)
+    by_taken : (b : Before k s entry (begun row x)) (o : Option Branch) → taken_side row.op (memory_before k program s b.product) b.product.core b.product.relations ≡ o → (effect rom row x reads).is_taken ≡ true → IsMeantBranch o entry (begun row x)
         → Executes k program rom ranges row a s (successors_of k program rom row a s) entry base x reads
     by_taken b None e taken h = absurd h
     by_taken b (Some side) e taken h =
         subst (λ q. Executes k q rom ranges row a s (successors_of k q rom row a s) entry base x reads) of
         (taken_executes k rom row a s ranges entry base x reads b.product side extended marked stands (subst (λ q. IsRuled k q rom row a s base) (sym of) ruled) mark byte second b.is b.cut
-        (subst (λ q. taken_side row.op (memory_before q s b.product) b.product.core b.product.relations ≡ Some side) (sym of) e) h taken)
+        (subst (λ q. taken_side row.op (memory_before k q s b.product) b.product.core b.product.relations ≡ Some side) (sym of) e) h taken)
 
-    by_not_taken : (b : Before k s entry (begun row x)) (o : Option Branch) → not_taken_side row.op (memory_before program s b.product) b.product.core b.product.relations ≡ o → (effect rom row x reads).is_taken ≡ false → IsMeantBranch o entry (begun row x)
+    by_not_taken : (b : Before k s entry (begun row x)) (o : Option Branch) → not_taken_side row.op (memory_before k program s b.product) b.product.core b.product.relations ≡ o → (effect rom row x reads).is_taken ≡ false → IsMeantBranch o entry (begun row x)
         → Executes k program rom ranges row a s (successors_of k program rom row a s) entry base x reads
     by_not_taken b None e not_taken h = absurd h
     by_not_taken b (Some side) e not_taken h = untaken_leads k program rom row a s ranges entry base x reads b.product side extended stands ruled mark b.is b.cut e h not_taken
@@ -600,7 +690,7 @@ executes_widely k program rom row a s ranges entry base x reads extended of mark
     by_flags : (b : Before k s entry (begun row x)) (t : Bool) → (effect rom row x reads).is_taken ≡ t → Executes k program rom ranges row a s (successors_of k program rom row a s) entry base x reads
     by_flags b true e =
         by_taken b _ refl e
-        ((taken_side_sound row.op (memory_before program s b.product) b.product.core b.product.relations _ refl (b.cut.relations.pairs stands.pairs)).gives entry (begun row x) (given rom row x reads).low (given rom row x reads).high (known b) b.means.core e)
+        ((taken_side_sound row.op (memory_before k program s b.product) b.product.core b.product.relations _ refl (b.cut.relations.pairs stands.pairs)).gives entry (begun row x) (given rom row x reads).low (given rom row x reads).high (known b) b.means.core e)
     by_flags b false e =
         by_not_taken b _ refl e
-        ((not_taken_side_sound row.op (memory_before program s b.product) b.product.core b.product.relations _ refl (b.cut.relations.pairs stands.pairs)).gives entry (begun row x) (given rom row x reads).low (given rom row x reads).high (known b) b.means.core e)
+        ((not_taken_side_sound row.op (memory_before k program s b.product) b.product.core b.product.relations _ refl (b.cut.relations.pairs stands.pairs)).gives entry (begun row x) (given rom row x reads).low (given rom row x reads).high (known b) b.means.core e)

@@ -17,7 +17,7 @@ use Rattle.gb_domain.specs.declared.pairs.Bounds.{Bounds}
 use Rattle.gb_domain.specs.declared.pairs.WordPair.TheVariants as pairs
 use Rattle.gb_domain.specs.declared.places.OneByte.{OneByte}
 use Rattle.gb_domain.specs.declared.rules.Rules.{Rules}
-use Rattle.gb_domain.specs.declared.setting.Setting.{Setting}
+use Rattle.gb_domain.specs.declared.rules.Rules.TheVariants.{Simple, Extended}
 use Rattle.gb_domain.specs.declared.types.Cell.{Cell}
 use Rattle.gb_domain.specs.declared.types.Core.{Core}
 use Rattle.gb_domain.specs.declared.types.Val.{Val}
@@ -46,7 +46,15 @@ use Rattle.gb_abs_memory.specs.Access.{area_of, stored_core_in, stored_core}
 use Rattle.gb_abs_memory.proofs.WindowLaws.{ctl_written-valid}
 use Rattle.gb_product.specs.declared.parts.Branch.{Branch}
 use Rattle.gb_product.specs.declared.parts.Product.{Product}
-use Rattle.gb_product.specs.Below.gb_relations.Sound.{IsByteFree}
+use Rattle.gb_product.specs.Below.gb_relations.Sound.{IsBytePlaced}
+use Rattle.gb_product.specs.Held.{stack_held}
+use Rattle.gb_product.specs.Below.gb_abs_effects.declared.targets.Target.{Target}
+use Rattle.gb_product.specs.Below.gb_abs_effects.declared.targets.Target.TheVariants as target
+use Rattle.gb_domain.specs.declared.setting.Setting.{Setting}
+use Rattle.gb_successors.specs.declared.way.Told.{Told}
+use Rattle.gb_successors.specs.Behind.{told_behind}
+use Rattle.gb_successors.specs.Settled.{branch_outside, told_by, told_at_target, told_successor, relations_left, held_successor}
+use Rattle.gb_successors.proofs.HoldingLaws.{placed_left, settled_cases}
 use Rattle.gb_product.specs.Reduced.{product_of, reduced}
 use Rattle.gb_product.specs.Sides.{taken_side, not_taken_side}
 use Rattle.gb_product.specs.Sound.{IsReduced, IsSideOf}
@@ -61,7 +69,7 @@ use Rattle.gb_successors.specs.Behind.{starts, written_core, core_behind, ended}
 use Rattle.gb_successors.specs.Refined.{cut_write, with_carry, refined}
 use Rattle.gb_successors.specs.Sound.{IsOneOf, Stands}
 use Rattle.gb_successors.specs.Stacks.{moved_core}
-use Rattle.gb_successors.specs.Successors.{pointer_in, bits_in, word_in, effect_in, taken_parts, relations_behind, taken_successor, untaken_successor, with_product, reduced_successor, woken, staying_successor, may_stay, stays, product_before, taken_from, not_taken_from, successors_of, summary_behind, memory_before}
+use Rattle.gb_successors.specs.Successors.{pointer_in, bits_in, word_in, effect_in, taken_parts, relations_behind, taken_successor, untaken_successor, with_product, reduced_successor, woken, staying_successor, may_stay, stays, product_before, settled_way, taken_by_side, not_taken_by_side, taken_from, not_taken_from, successors_of, summary_behind, memory_before}
 use Rattle.gb_successors.specs.Way.{Successor}
 use Rattle.gb_successors.proofs.AroundLaws.{IsSpWithin-aside}
 use Rattle.gb_successors.proofs.RelatedLaws.{IsCore-ended, has_operands}
@@ -78,11 +86,18 @@ use Rattle.gb_successors.specs.StackMark.{marks, marked}
 use Rattle.gb_successors.proofs.StackMarkLaws.{IsCore-marked, IsWrite-marked}
 
 -- what a certificate too asks of states
-pub record IsFormed (region : Region) (s : AbsState) : Type 0 where
+pub record IsFormed (z : Setting) (region : Region) (s : AbsState) : Type 0 where
   pub core : IsCore s.core
-  pub free : IsByteFree region s.relations.byte.address
+  pub place : z.rules ≡ Extended → IsBytePlaced (stack_held z region (length s.items)) s.relations.byte.address
   pub pairs : ArePairs s.relations.pairs
   pub apart : IsFree region s.summary
+
+-- so far, places may be among so many items
+record IsFormedAmong (z : Setting) (region : Region) (n : ℕ) (s : AbsState) : Type 0 where
+  core : IsCore s.core
+  place : IsBytePlaced (stack_held z region n) s.relations.byte.address
+  pairs : ArePairs s.relations.pairs
+  apart : IsFree region s.summary
 
 -- ---- the core
 
@@ -160,38 +175,71 @@ IsCore-behind whole k m n w c is h = IsCore-ended (starts w) n _ (IsCore-written
 
 -- ---- reduced
 
-formed_product : (rules : Rules) (region : Region) (t : Successor) (p : Product) → reduced rules t.state.core t.state.relations ≡ Some p → IsFormed region t.state → IsFormed region (with_product t p).state
-formed_product rules region t p e h =
+formed_product :
+    (rules : Rules) (z : Setting) (region : Region) (n : ℕ) (t : Successor) (p : Product) → reduced rules t.state.core t.state.relations ≡ Some p
+    → IsFormedAmong z region n t.state → IsFormedAmong z region n (with_product t p).state
+formed_product rules z region n t p e h =
     let cut : IsReduced t.state.core t.state.relations p = reduced_cuts rules t.state.core t.state.relations (Some p) (sym e) in
     record {
       core = cut.inhabited h.core;
-      free = subst (λ (o : OneByte). IsByteFree region o.address) (sym cut.relations.byte) h.free;
+      place = subst (λ (o : OneByte). IsBytePlaced (stack_held z region n) o.address) (sym cut.relations.byte) h.place;
       pairs = cut.relations.pairs h.pairs;
       apart = h.apart;
     }
 
-formed_reduced : (rules : Rules) (region : Region) (u t : Successor) → reduced_successor rules u ≡ Some t → IsFormed region u.state → IsFormed region t.state
-unfolding reduced_successor
-formed_reduced rules region u t e h = by (reduced rules u.state.core u.state.relations) refl e
-  where
-    by : (o : Option Product) → reduced rules u.state.core u.state.relations ≡ o → option_map (with_product u) o ≡ Some t → IsFormed region t.state
-    by None is f = cc
-    by (Some p) is f = subst (λ (w : Successor). IsFormed region w.state) (same_Some _ _ f) (formed_product rules region u p is h)
+-- ---- settled
+
+pairs_left : (k : Stack) (w : Target) (s : AbsState) → (relations_left k w s).pairs ≡ s.relations.pairs
+pairs_left k (target.Main a) s = refl
+pairs_left k (target.At a) s = refl
+pairs_left k (target.Call a) s = refl
+pairs_left k target.Return s = refl
+pairs_left k target.Unknown s = refl
+pairs_left k target.Lost s = refl
+
+formed_told : (z : Setting) (region : Region) (n : ℕ) (o : Option Told) (core : Core) (s : AbsState) → IsFormedAmong z region n s → IsFormedAmong z region n (told_behind o core s)
+formed_told z region n None core s h = h
+formed_told z region n (Some t) core s h = record { core = h.core; place = h.place; pairs = h.pairs; apart = h.apart }
+
+formed_held : (k : Stack) (n : ℕ) (o : Option Told) (core : Core) (t : Successor) → IsFormedAmong k.setting k.region n t.state → IsFormed k.setting k.region (held_successor k (told_successor o core t)).state
+formed_held k n o core t h =
+    let s = told_behind (told_at_target t.target o) core t.state in
+    let told = formed_told k.setting k.region n (told_at_target t.target o) core t.state h in
+    record {
+      core = told.core;
+      place = λ e. placed_left k t.target s n told.place;
+      pairs = subst (λ p. ArePairs p) (sym (pairs_left k t.target s)) told.pairs;
+      apart = told.apart;
+    }
+
+not_both : Simple ≡ Extended → ⊥
+not_both e = cc
+
+formed_settled :
+    (k : Stack) (n : ℕ) (cell : Option Cell) (core : Core) (t u : Successor) → settled_way k cell core t ≡ Some u → IsFormedAmong k.setting k.region n t.state → IsFormed k.setting k.region u.state
+formed_settled k n cell core t u is h =
+    settled_cases (λ (w : Successor). IsFormed k.setting k.region w.state) k cell core t u is
+    (λ p e extended. formed_held k n (told_by Extended k cell) core (with_product t p) (formed_product k.setting.rules k.setting k.region n t p e h))
+    (λ p e simple.
+    let f = formed_product k.setting.rules k.setting k.region n t p e h in
+    record { core = f.core; place = λ extended. absurd (not_both (sym simple ∙ extended)); pairs = f.pairs; apart = f.apart })
 
 -- ---- the sides
 
 -- what is known on a side, before the instruction's work
-record IsFormedBranch (region : Region) (b : Branch) : Type 0 where
+record IsFormedBranch (z : Setting) (region : Region) (n : ℕ) (b : Branch) : Type 0 where
   core : IsCore b.core
-  free : IsByteFree region b.relations.byte.address
+  place : IsBytePlaced (stack_held z region n) b.relations.byte.address
   pairs : ArePairs b.relations.pairs
 
+-- of states that are formed, with a place by any rules
 branch_formed :
-    (region : Region) (memory : Val) (s : AbsState) (p : Product) (b : Branch) → IsFormed region s → IsReduced (core_settle s.core) s.relations p → IsSideOf memory p.core p.relations b → IsFormedBranch region b
-branch_formed region memory s p b h cut is =
+    (z : Setting) (region : Region) (n : ℕ) (memory : Val) (s : AbsState) (p : Product) (b : Branch) → IsFormedAmong z region n s → IsReduced (core_settle s.core) s.relations p → IsSideOf memory p.core p.relations b
+    → IsFormedBranch z region n (branch_outside region b)
+branch_formed z region n memory s p b h cut is =
     record {
       core = is.inhabited (cut.inhabited (IsCore-settle s.core h.core));
-      free = subst (λ (o : OneByte). IsByteFree region o.address) (sym (is.relations.byte ∙ cut.relations.byte)) h.free;
+      place = subst (λ (o : OneByte). IsBytePlaced (stack_held z region n) o.address) (sym (is.relations.byte ∙ cut.relations.byte)) h.place;
       pairs = is.relations.pairs (cut.relations.pairs h.pairs);
     }
 
@@ -241,99 +289,105 @@ parts_core k program rom row next s p cell h = IsCore-behind k.setting.is_whole 
 
 relations_formed :
     (k : Stack) (program : Program) (rom : List ℕ) (row : Row) (a : ℕ) (s : AbsState) (p : Product) (entry : Activation) (base : ℕ) (x : MState) → Stands k.setting rom k.region row a s entry base x → HasBytes row.op
-    → ArePairs p.relations.pairs → IsByteFree k.region p.relations.byte.address
-    → IsByteFree k.region (relations_behind k program rom row.op s p).byte.address × ArePairs (relations_behind k program rom row.op s p).pairs
+    → ArePairs p.relations.pairs → IsBytePlaced (stack_held k.setting k.region (length s.items)) p.relations.byte.address
+    → IsBytePlaced (stack_held k.setting k.region (length s.items)) (relations_behind k program rom row.op s p).byte.address × ArePairs (relations_behind k program rom row.op s p).pairs
 unfolding relations_behind
-relations_formed k program rom row a s p entry base x stands operands are free = (
-  (relations_after_sound k.setting.rules k.setting.is_whole k.region row.op (sp_bounds k.setting s) p.core.registers (word_in k program rom row.op s p).low p.relations _ refl
-      (has_operands row.op operands) (sp_below k.setting s entry base x stands.based stands.means.parts (IsSpWithin-aside s.summary.aside x.processor stands.means.summary.aside) stands.aside) (are.each pairs.Bc).last (are.each pairs.De).last (are.each pairs.Hl).last).free free,
-  relations_after_kept k.setting.rules k.setting.is_whole k.region row.op _ p.core.registers (word_in k program rom row.op s p).low p.relations _ refl are,
+relations_formed k program rom row a s p entry base x stands operands are place = (
+  (relations_after_sound k.setting.rules k.setting.is_whole (stack_held k.setting k.region (length s.items)) row.op (sp_bounds k.setting s) p.core.registers (word_in k program rom row.op s p).low p.relations _ refl
+      (has_operands row.op operands) (sp_below k.setting s entry base x stands.based stands.means.parts (IsSpWithin-aside s.summary.aside x.processor stands.means.summary.aside) stands.aside) (are.each pairs.Bc).last (are.each pairs.De).last (are.each pairs.Hl).last).placed place,
+  relations_after_kept k.setting.rules k.setting.is_whole (stack_held k.setting k.region (length s.items)) row.op _ p.core.registers (word_in k program rom row.op s p).low p.relations _ refl are,
 )
 
 taken_formed :
     (k : Stack) (program : Program) (rom : List ℕ) (row : Row) (a : ℕ) (s : AbsState) (b : Branch) (entry : Activation) (base : ℕ) (x : MState) → Stands k.setting rom k.region row a s entry base x → HasBytes row.op
-    → IsFormedBranch k.region b → IsFormed k.region (taken_successor k program rom row (behind_row a row) s b).state
+    → IsFormedBranch k.setting k.region (length s.items) b → IsFormedAmong k.setting k.region (length s.items) (taken_successor k program rom row (behind_row a row) s b).state
 unfolding taken_successor summary_behind
 taken_formed k program rom row a s b entry base x stands operands h =
     let p = product_of b.core b.relations in
-    let r = relations_formed k program rom row a s p entry base x stands operands h.pairs h.free in
-    record { core = parts_core k program rom row (behind_row a row) s p b.cell (effect_formed k program rom row a s p entry base x stands operands h.core); free = r.0; pairs = r.1; apart = apart_by k.setting.rules k program row.op s p _ _ _ h.free stands.apart }
+    let r = relations_formed k program rom row a s p entry base x stands operands h.pairs h.place in
+    record { core = parts_core k program rom row (behind_row a row) s p b.cell (effect_formed k program rom row a s p entry base x stands operands h.core); place = r.0; pairs = r.1; apart = apart_by k.setting.rules k program row.op s p _ _ _ h.place stands.apart }
 
-untaken_formed : (k : Stack) (row : Row) (next : ℕ) (s : AbsState) (b : Branch) → IsFormedBranch k.region b → IsFree k.region s.summary → IsFormed k.region (untaken_successor k row next s b).state
+untaken_formed :
+    (k : Stack) (row : Row) (next : ℕ) (s : AbsState) (b : Branch) → IsFormedBranch k.setting k.region (length s.items) b → IsFree k.region s.summary
+    → IsFormedAmong k.setting k.region (length s.items) (untaken_successor k row next s b).state
 unfolding ended
 untaken_formed k row next s b h apart =
-    subst (λ (t : Successor). IsFormed k.region t.state) (sym (untaken_simply k row next s b))
+    subst (λ (t : Successor). IsFormedAmong k.setting k.region (length s.items) t.state) (sym (untaken_simply k row next s b))
     (record {
       core = IsCore-ended false row.cycles_not_taken b.core h.core;
-      free = h.free;
+      place = h.place;
       pairs = h.pairs;
       apart = subst (IsFree k.region) (sym (told_summary k.setting b.cell s)) apart;
     })
 
-staying_formed : (region : Region) (a : ℕ) (s : AbsState) → IsFormed region s → IsFormed region (staying_successor a s).state
+staying_formed : (z : Setting) (region : Region) (a : ℕ) (s : AbsState) → IsFormedAmong z region (length s.items) s → IsFormed z region (staying_successor a s).state
 unfolding staying_successor ended
-staying_formed region a s h =
+staying_formed z region a s h =
     record {
       core = IsCore-ended false 1 (woken s.core) (record { ime = refl; bound = h.core.bound; ctl = h.core.ctl; flags = h.core.flags; ie = h.core.ie; registers = h.core.registers });
-      free = h.free;
+      place = λ e. h.place;
       pairs = h.pairs;
       apart = h.apart;
     }
 
 -- ---- each successor
 
-stands_formed : (z : Setting) (rom : List ℕ) (region : Region) (row : Row) (a : ℕ) (s : AbsState) (entry : Activation) (base : ℕ) (x : MState) → Stands z rom region row a s entry base x → IsFormed region s
-stands_formed z rom region row a s entry base x h = record { core = h.core; free = h.free; pairs = h.pairs; apart = h.apart }
+stands_formed :
+    (z : Setting) (rom : List ℕ) (region : Region) (row : Row) (a : ℕ) (s : AbsState) (entry : Activation) (base : ℕ) (x : MState) → Stands z rom region row a s entry base x → IsFormedAmong z region (length s.items) s
+stands_formed z rom region row a s entry base x h = record { core = h.core; place = h.place; pairs = h.pairs; apart = h.apart }
 
 formed_taken :
     (k : Stack) (program : Program) (rom : List ℕ) (row : Row) (a : ℕ) (s : AbsState) (t : Successor) (entry : Activation) (base : ℕ) (x : MState) → Stands k.setting rom k.region row a s entry base x → HasBytes row.op
-    → (successors_of k program rom row a s).taken ≡ Some t → IsFormed k.region t.state
+    → (successors_of k program rom row a s).taken ≡ Some t → IsFormed k.setting k.region t.state
 unfolding successors_of product_before
 formed_taken k program rom row a s t entry base x stands operands h =
     from (reduced k.setting.rules (core_settle s.core) s.relations) (reduced_cuts k.setting.rules (core_settle s.core) s.relations _ refl) h
   where
-    at_side : (p : Product) → IsReduced (core_settle s.core) s.relations p → (o : Option Branch) → IfSome o (IsSideOf (memory_before program s p) p.core p.relations)
-        → option_and_then (λ b. reduced_successor k.setting.rules (taken_successor k program rom row (behind_row a row) s b)) o ≡ Some t → IsFormed k.region t.state
+    at_side : (p : Product) → IsReduced (core_settle s.core) s.relations p → (o : Option Branch) → IfSome o (IsSideOf (memory_before k program s p) p.core p.relations)
+        → option_and_then (taken_by_side k program rom row (behind_row a row) s) o ≡ Some t → IsFormed k.setting k.region t.state
     at_side p cut None is e = cc
     at_side p cut (Some b) is e =
-        formed_reduced k.setting.rules k.region (taken_successor k program rom row (behind_row a row) s b) t e
-        (taken_formed k program rom row a s b entry base x stands operands (branch_formed k.region (memory_before program s p) s p b (stands_formed k.setting rom k.region row a s entry base x stands) cut is))
+        formed_settled k (length s.items) b.cell s.core (taken_successor k program rom row (behind_row a row) s (branch_outside k.region b)) t e
+        (taken_formed k program rom row a s (branch_outside k.region b) entry base x stands operands
+        (branch_formed k.setting k.region (length s.items) (memory_before k program s p) s p b (stands_formed k.setting rom k.region row a s entry base x stands) cut is))
 
-    from : (o : Option Product) → IfSome o (IsReduced (core_settle s.core) s.relations) → option_and_then (taken_from k program rom row (behind_row a row) s) o ≡ Some t → IsFormed k.region t.state
+    from : (o : Option Product) → IfSome o (IsReduced (core_settle s.core) s.relations) → option_and_then (taken_from k program rom row (behind_row a row) s) o ≡ Some t → IsFormed k.setting k.region t.state
     from None cut e = cc
-    from (Some p) cut e = at_side p cut (taken_side row.op (memory_before program s p) p.core p.relations) (taken_side_cuts row.op (memory_before program s p) p.core p.relations _ refl) e
+    from (Some p) cut e = at_side p cut (taken_side row.op (memory_before k program s p) p.core p.relations) (taken_side_cuts row.op (memory_before k program s p) p.core p.relations _ refl) e
 
 formed_untaken :
-    (k : Stack) (program : Program) (rom : List ℕ) (row : Row) (a : ℕ) (s : AbsState) (t : Successor) → IsFormed k.region s → (successors_of k program rom row a s).not_taken ≡ Some t → IsFormed k.region t.state
+    (k : Stack) (program : Program) (rom : List ℕ) (row : Row) (a : ℕ) (s : AbsState) (t : Successor) → IsFormedAmong k.setting k.region (length s.items) s → (successors_of k program rom row a s).not_taken ≡ Some t
+    → IsFormed k.setting k.region t.state
 unfolding successors_of product_before
 formed_untaken k program rom row a s t formed h = from (reduced k.setting.rules (core_settle s.core) s.relations) (reduced_cuts k.setting.rules (core_settle s.core) s.relations _ refl) h
   where
-    at_side : (p : Product) → IsReduced (core_settle s.core) s.relations p → (o : Option Branch) → IfSome o (IsSideOf (memory_before program s p) p.core p.relations)
-        → option_and_then (λ b. reduced_successor k.setting.rules (untaken_successor k row (behind_row a row) s b)) o ≡ Some t → IsFormed k.region t.state
+    at_side : (p : Product) → IsReduced (core_settle s.core) s.relations p → (o : Option Branch) → IfSome o (IsSideOf (memory_before k program s p) p.core p.relations)
+        → option_and_then (not_taken_by_side k row (behind_row a row) s) o ≡ Some t → IsFormed k.setting k.region t.state
     at_side p cut None is e = cc
     at_side p cut (Some b) is e =
-        formed_reduced k.setting.rules k.region (untaken_successor k row (behind_row a row) s b) t e (untaken_formed k row (behind_row a row) s b (branch_formed k.region (memory_before program s p) s p b formed cut is) formed.apart)
+        formed_settled k (length s.items) b.cell s.core (untaken_successor k row (behind_row a row) s (branch_outside k.region b)) t e
+        (untaken_formed k row (behind_row a row) s (branch_outside k.region b) (branch_formed k.setting k.region (length s.items) (memory_before k program s p) s p b formed cut is) formed.apart)
 
-    from : (o : Option Product) → IfSome o (IsReduced (core_settle s.core) s.relations) → option_and_then (not_taken_from k program row (behind_row a row) s) o ≡ Some t → IsFormed k.region t.state
+    from : (o : Option Product) → IfSome o (IsReduced (core_settle s.core) s.relations) → option_and_then (not_taken_from k program row (behind_row a row) s) o ≡ Some t → IsFormed k.setting k.region t.state
     from None cut e = cc
-    from (Some p) cut e = at_side p cut (not_taken_side row.op (memory_before program s p) p.core p.relations) (not_taken_side_cuts row.op (memory_before program s p) p.core p.relations _ refl) e
+    from (Some p) cut e = at_side p cut (not_taken_side row.op (memory_before k program s p) p.core p.relations) (not_taken_side_cuts row.op (memory_before k program s p) p.core p.relations _ refl) e
 
-formed_staying : (k : Stack) (program : Program) (rom : List ℕ) (row : Row) (a : ℕ) (s : AbsState) (t : Successor) → IsFormed k.region s → (successors_of k program rom row a s).stays ≡ Some t → IsFormed k.region t.state
+formed_staying : (k : Stack) (program : Program) (rom : List ℕ) (row : Row) (a : ℕ) (s : AbsState) (t : Successor) → IsFormedAmong k.setting k.region (length s.items) s → (successors_of k program rom row a s).stays ≡ Some t → IsFormed k.setting k.region t.state
 unfolding successors_of stays
 formed_staying k program rom row a s t formed h = from (product_before k.setting.rules s) h
   where
-    by : (b : Bool) → cond b (Some (staying_successor a s)) None ≡ Some t → IsFormed k.region t.state
-    by true e = subst (λ (w : Successor). IsFormed k.region w.state) (same_Some _ _ e) (staying_formed k.region a s formed)
+    by : (b : Bool) → cond b (Some (staying_successor a s)) None ≡ Some t → IsFormed k.setting k.region t.state
+    by true e = subst (λ (w : Successor). IsFormed k.setting k.region w.state) (same_Some _ _ e) (staying_formed k.setting k.region a s formed)
     by false e = cc
 
-    from : (o : Option Product) → option_and_then (λ (p : Product). stays row a s) o ≡ Some t → IsFormed k.region t.state
+    from : (o : Option Product) → option_and_then (λ (p : Product). stays row a s) o ≡ Some t → IsFormed k.setting k.region t.state
     from None e = cc
     from (Some p) e = by (may_stay row.op s.core) e
 
 -- the states of each successor are such as states may be
 pub IsFormed-successor :
     (k : Stack) (program : Program) (rom : List ℕ) (row : Row) (a : ℕ) (s : AbsState) (t : Successor) (entry : Activation) (base : ℕ) (x : MState) → Stands k.setting rom k.region row a s entry base x → HasBytes row.op
-    → IsOneOf (successors_of k program rom row a s) t → IsFormed k.region t.state
+    → IsOneOf (successors_of k program rom row a s) t → IsFormed k.setting k.region t.state
 IsFormed-successor k program rom row a s t entry base x stands operands (inl e) = formed_taken k program rom row a s t entry base x stands operands e
 IsFormed-successor k program rom row a s t entry base x stands operands (inr (inl e)) = formed_untaken k program rom row a s t (stands_formed k.setting rom k.region row a s entry base x stands) e
 IsFormed-successor k program rom row a s t entry base x stands operands (inr (inr e)) = formed_staying k program rom row a s t (stands_formed k.setting rom k.region row a s entry base x stands) e

@@ -40,7 +40,10 @@ use Rattle.gb_product.specs.Below.gb_abs_effects.Transfer.{transfer}
 use Rattle.gb_product.proofs.Below.gb_abs_effects_laws.SideLaws.{is_taken-without}
 use Rattle.gb_abs_memory.specs.Sound.{view}
 use Rattle.gb_product.specs.declared.parts.Product.{Product}
-use Rattle.gb_product.specs.Below.gb_relations.Sound.{IsByteFree}
+use Rattle.gb_product.specs.Below.gb_relations.Sound.{IsBytePlaced}
+use Rattle.gb_product.specs.Held.{stack_held}
+use Rattle.gb_successors.specs.Settled.{told_successor, held_successor}
+use Rattle.gb_successors.proofs.HoldingLaws.{LeadsWidely-related, Leads-settled, settled_is, settled_count}
 use Rattle.gb_product.specs.Sides.{side_where, taken_side}
 use Rattle.gb_domain.specs.declared.places.OneByte.{OneByte}
 use Rattle.gb_domain.specs.declared.rules.Rules.{Rules}
@@ -67,9 +70,10 @@ use Rattle.gb_successors.proofs.Situations.{Situation, next_at, pointer_at, know
 use Rattle.gb_successors.proofs.SituationLaws.{write_is}
 use Rattle.gb_successors.proofs.LandingLaws.{part_read, part_write, given_by}
 use Rattle.gb_successors.proofs.LeadingLaws.{target_is, move_is, around_at}
+use Rattle.gb_successors.proofs.SimpleLaws.{behind_row}
 use Rattle.gb_successors.proofs.LedLaws.{IsAllowedAt, done_at}
 use Rattle.gb_successors.proofs.PossibleLaws.{possible, pairs_behind, bytes_behind_it}
-use Rattle.gb_successors.proofs.ExtendedWayLaws.{before_of, Leads-narrowed, LeadsWidely-related, taken_way, reduced_way}
+use Rattle.gb_successors.proofs.ExtendedWayLaws.{before_of, Leads-narrowed, taken_way, reduced_way}
 use Rattle.gb_domain.specs.declared.types.Val.{Val}
 use Rattle.gb_successors.specs.StackMark.{marked_write}
 use Rattle.gb_successors.specs.Stacks.{address_below}
@@ -235,7 +239,7 @@ repeats_widely k rom row a s ranges entry base x extended below stands halt off 
       related = before.means.related;
       core = before.cut.inhabited (IsCore-settle s.core stands.core);
       pairs = before.cut.relations.pairs stands.pairs;
-      free = subst (λ (o : OneByte). IsByteFree k.region o.address) (sym before.cut.relations.byte) stands.free;
+      place = subst (λ (o : OneByte). IsBytePlaced (stack_held k.setting k.region (length s.items)) o.address) (sym before.cut.relations.byte) stands.place;
       taken = is_taken-without row.op (advanced x.processor row) (given_at c).low (given_at c).high (ap Flags.condition_of halt.op_is);
     } in
     let done = done_at c t (halt_allowed c t halt.op_is) in
@@ -250,17 +254,21 @@ repeats_widely k rom row a s ranges entry base x extended below stands halt off 
     let to : LeadsWidely k.setting k.region (parts_at c).target (parts_at c) entry base (marked (left_at c)) =
     subst (λ w. LeadsWidely k.setting k.region w (parts_at c) entry base (marked (left_at c))) (sym goes)
     (record { means = MeansParts-marked (parts_at c).state entry base (left_at c) led.means; goes = led.goes; room = led.room }) in
+    let inner : Successor = with_product parts some.product in
+    let settled : Successor = held_successor k (told_successor None s.core inner) in
     record {
-      successor = with_product parts some.product;
-      is_way = taken_way k entry.program rom row a s p (record { core = p.core; relations = p.relations; cell = None }) (with_product parts some.product) before.is (halt_side row.op (memory_before entry.program s p) p halt.op_is)
-          (reduced_way k.setting.rules parts some.product some.is);
-      held = as_many (subst (λ m. length (parts_at c).state.items ≡ bytes_moved m (length s.items)) (halt_stays_put c halt.op_is) done.bytes);
-      leads = subst (λ y. Leads k.setting k.region ranges (with_product parts some.product) entry base x y) (sym (left_is rom row x [] halt off mark))
+      successor = settled;
+      is_way = taken_way k entry.program rom row a s p (record { core = p.core; relations = p.relations; cell = None }) settled before.is (halt_side row.op (memory_before k entry.program s p) p halt.op_is)
+          (settled_is k None s.core (taken_successor k entry.program rom row (behind_row a row) s (record { core = p.core; relations = p.relations; cell = None })) inner extended
+          (reduced_way k.setting.rules parts some.product some.is) refl);
+      held = as_many (settled_count k None s.core inner ∙ subst (λ m. length (parts_at c).state.items ≡ bytes_moved m (length s.items)) (halt_stays_put c halt.op_is) done.bytes);
+      leads = subst (λ y. Leads k.setting k.region ranges settled entry base x y) (sym (left_is rom row x [] halt off mark))
+          (Leads-settled k ranges None s.core inner entry base x (marked (left_at c)) (record { extended = extended; based = stands.based; is_region = stands.is_region }) tt
           (Leads-said k.setting k.region ranges m (with_product related some.product) entry base x (marked (left_at c)) (said_aside c t)
           (Leads-narrowed k.setting k.region ranges related some.product entry base x (marked (left_at c)) extended some.is (pairs_behind c t) bytes done.leaves.related
           (LeadsWidely-related k.setting k.region (parts_at c).target r (parts_at c) entry base (marked (left_at c)) to) done.leaves.kept)
           (HoldSummary-settled entry.program (parts_at c).state.cells (said_at c) (left_at c).processor (marked (left_at c)).processor (peek (left_at c).storage) (left_at c).storage.banks refl refl (λ e. e)
-          (said_holds c t (halt_allowed c t halt.op_is) done)));
+          (said_holds c t (halt_allowed c t halt.op_is) done))));
     }
 
 pub halt_repeats_widely :

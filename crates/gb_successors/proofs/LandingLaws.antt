@@ -1,6 +1,6 @@
 -- Where nothing refuses what an instruction reads and writes, and its stack is ready, the machine stands behind it, without a
 -- fault, in a state that its successor stands for: by the rules of version 3.
-use Rattle.std.proofs.Common.{◌≡◌, ℕ, ◌+◌, ◌-◌, ◌%◌, ◌≤◌, Bool, true, false, inl, inr, nat_lt, List, [], ◌∷◌, ◌++◌, length, Option, Some, None, refl, sym, ◌∙◌, ap, subst, arith, length-append}
+use Rattle.std.proofs.Common.{◌≡◌, ℕ, ◌+◌, ◌-◌, ◌%◌, ◌≤◌, Bool, true, false, not, ◌&&◌, ◌||◌, cond, inl, inr, nat_le, nat_lt, List, [], ◌∷◌, ◌++◌, length, Option, Some, None, refl, sym, ◌∙◌, ap, subst, arith, length-append}
 use Rattle.gb_ops.specs.declared.machine.Region.{Region}
 use Rattle.gb_ops.specs.declared.machine.Write.TheVariants as machine_write
 use Rattle.gb_ops.specs.Cartridge.{kind_of}
@@ -11,6 +11,12 @@ use Rattle.gb_ops.specs.Machine.{advanced}
 use Rattle.gb_ops.specs.Faults.{no_faults, store_faults, row_faults}
 use Rattle.gb_ops.specs.Play.{MState, within}
 use Rattle.gb_domain.specs.declared.setting.Setting.{Setting}
+use Rattle.std.proofs.lemmas.Bool.{and_parts}
+use Rattle.std.proofs.lemmas.Bool.Decides.{nat_tests}
+use Rattle.gb_domain.specs.Areas.{are_in_ram, meets, is_item, is_place_at}
+use Rattle.gb_domain.specs.Settings.{IsBase}
+use Rattle.gb_product.specs.Held.{stack_held}
+use Rattle.gb_product.proofs.HeldLaws.{IsAmongItems, item_among}
 use Rattle.gb_domain.specs.declared.types.Val.{Val}
 use Rattle.gb_domain.specs.declared.types.Core.{Core}
 use Rattle.gb_domain.specs.declared.types.Halves.{Halves}
@@ -47,7 +53,7 @@ use Rattle.gb_successors.proofs.RamLaws.{ram_at, ram_same, ram_is, differs, Hold
 use Rattle.gb_successors.proofs.SuccessorLaws.{begun_sp, faults_are, MeansParts-ended, passed_peek}
 use Rattle.gb_successors.proofs.StackWayLaws.{push_of, small_word, not_pushed, same_but_sp, nothing_stored, no_store_faults}
 use Rattle.gb_successors.proofs.WordLaws.{pushed-if_room}
-use Rattle.gb_successors.proofs.Situations.{Situation, next_at, pointer_at, read_at, bits_at, known_at, word_at, transferred, effect_at, carry_at, move_at, parts_at, begun_at, given_at, acted_at, left_at, IsTakenIn, means_begun, related_at}
+use Rattle.gb_successors.proofs.Situations.{Situation, next_at, pointer_at, read_at, bits_at, known_at, word_at, transferred, effect_at, carry_at, move_at, parts_at, begun_at, given_at, acted_at, left_at, held_at, IsTakenIn, means_begun, related_at}
 use Rattle.gb_successors.proofs.SituationLaws.{AreGiven, values_hold, said_begun, follows, related_behind, read_holds, read_has, read_placed, transferred_is, write_is, core_is, IsWrite-cut, sp_below}
 use Rattle.gb_successors.specs.Refined.{with_carry}
 use Rattle.gb_successors.proofs.RelatedLaws.{has_operands}
@@ -173,18 +179,18 @@ pub record Leaves (c : Situation) : Type 0 where
   pub faults : row_faults (Some c.row) c.stack.region (within c.rom c.machine) c.reads ≡ no_faults
   pub related : AreRelated (related_at c) (left_at c)
   pub store : store_faults c.stack.region (view c.rom c.machine false) (acted_at c).write ≡ no_faults
-  pub in_turn : WritesInTurn c.stack.region (acted_at c).write (ram_at c.machine.storage) (ram_at (stored_at c).storage)
+  pub in_turn : WritesInTurn (held_at c) (acted_at c).write (ram_at c.machine.storage) (ram_at (stored_at c).storage)
 
-free_behind : (c : Situation) → IsTakenIn c → relations.IsByteFree c.stack.region (related_at c).byte.address
+place_behind : (c : Situation) → IsTakenIn c → relations.IsBytePlaced (held_at c) (related_at c).byte.address
 unfolding relations_behind
-free_behind c k =
-    (relations_after_sound c.stack.setting.rules c.stack.setting.is_whole c.stack.region c.row.op (sp_bounds c.stack.setting c.state) c.product.core.registers (word_at c).low c.product.relations _ refl
-    (has_operands c.row.op k.operands) (sp_below c k) (k.pairs.each pairs.Bc).last (k.pairs.each pairs.De).last (k.pairs.each pairs.Hl).last).free k.free
+place_behind c k =
+    (relations_after_sound c.stack.setting.rules c.stack.setting.is_whole (held_at c) c.row.op (sp_bounds c.stack.setting c.state) c.product.core.registers (word_at c).low c.product.relations _ refl
+    (has_operands c.row.op k.operands) (sp_below c k) (k.pairs.each pairs.Bc).last (k.pairs.each pairs.De).last (k.pairs.each pairs.Hl).last).placed k.place
 
-related_left : (c : Situation) → IsTakenIn c → LoadsAt c → relations.Writes c.stack.region (acted_at c).write (ram_at c.machine.storage) (ram_at (stored_at c).storage)
+related_left : (c : Situation) → IsTakenIn c → LoadsAt c → relations.Writes (held_at c) (acted_at c).write (ram_at c.machine.storage) (ram_at (stored_at c).storage)
     → AreRelated (related_at c) (left_at c)
 related_left c k l w =
-    HoldRelations-ram c.stack.region _ _ (ram_at (stored_at c).storage) (peek (left_at c).storage) _ (free_behind c k)
+    HoldRelations-ram (held_at c) _ _ (ram_at (stored_at c).storage) (peek (left_at c).storage) _ (place_behind c k)
     (λ b ram. passed_peek (stored_at c) c.row.cycles b ∙ sym (ram_is (stored_at c).storage b ram))
     (related_behind c (given_at c).low (given_at c).high (ram_at (stored_at c).storage) k (given_by c k l) w)
 
@@ -197,9 +203,9 @@ Leaves-quiet c k l quiet =
       kept = λ b kept. passed_peek (stored_at c) c.row.cycles b ∙ ap (λ (m : View). peek m.storage b) none;
       faults = faults_are c.rom c.stack.region c.machine c.row c.reads l.faults (no_store_faults c.stack.region (view c.rom c.machine false) (acted_at c).write quiet);
       related = related_left c k l
-          (subst (λ w. relations.Writes c.stack.region w (ram_at c.machine.storage) (ram_at (stored (view c.rom c.machine false) w).storage)) (sym quiet) (nothing_changed c));
+          (subst (λ w. relations.Writes (held_at c) w (ram_at c.machine.storage) (ram_at (stored (view c.rom c.machine false) w).storage)) (sym quiet) (nothing_changed c));
       store = no_store_faults c.stack.region (view c.rom c.machine false) (acted_at c).write quiet;
-      in_turn = subst (λ w. WritesInTurn c.stack.region w (ram_at c.machine.storage) (ram_at (stored (view c.rom c.machine false) w).storage)) (sym quiet) (nothing_changed c);
+      in_turn = subst (λ w. WritesInTurn (held_at c) w (ram_at c.machine.storage) (ram_at (stored (view c.rom c.machine false) w).storage)) (sym quiet) (nothing_changed c);
     }
   where
     nothing_changed : (c : Situation) (b : ℕ) → ram_at (stored (view c.rom c.machine false) machine_write.Nothing).storage b ≡ ram_at c.machine.storage b
@@ -286,16 +292,47 @@ pub record IsPut (c : Situation) (i : Halves) : Type 0 where
   starting : (stored_at c).starting ≡ false
   faults : store_faults c.stack.region (view c.rom c.machine false) (acted_at c).write ≡ no_faults
   kept : (b : ℕ) → IsKept c.stack.setting c.stack.region c.ranges c.base b → peek (stored_at c).storage b ≡ peek c.machine.storage b
-  writes : relations.Writes c.stack.region (acted_at c).write (ram_at c.machine.storage) (ram_at (stored_at c).storage)
-  in_turn : WritesInTurn c.stack.region (acted_at c).write (ram_at c.machine.storage) (ram_at (stored_at c).storage)
+  writes : relations.Writes (held_at c) (acted_at c).write (ram_at c.machine.storage) (ram_at (stored_at c).storage)
+  in_turn : WritesInTurn (held_at c) (acted_at c).write (ram_at c.machine.storage) (ram_at (stored_at c).storage)
 
 -- an address outside the region isn't one of the word's
-outside_push : (region : Region) (base sp bytes b : ℕ) → AreInRegion region base (bytes + 2) → sp + bytes ≡ base → ((region.first ≤ b) × (b ≤ region.last) → ⊥)
-    → ((b ≡ sp - 1 → ⊥)) × (b ≡ sp - 2 → ⊥)
+abbrev IsNoneOf : ℕ → ℕ → Type 0
+IsNoneOf sp b = ((b ≡ sp - 1 → ⊥)) × (b ≡ sp - 2 → ⊥)
+
+outside_push : (region : Region) (base sp bytes b : ℕ) → AreInRegion region base (bytes + 2) → sp + bytes ≡ base → (nat_le b region.last && nat_le region.first b) ≡ false → IsNoneOf sp b
 outside_push region base sp bytes b room stack out =
     let first = room.first in
     let last = room.last in
-    (λ e. out (omega arith, omega arith), λ e. out (omega arith, omega arith))
+    (λ e. inside (omega arith) (omega arith), λ e. inside (omega arith) (omega arith))
+  where
+    differ : true ≡ false → ⊥
+    differ h = cc
+
+    inside : region.first ≤ b → b ≤ region.last → ⊥
+    inside low high = differ (grind (arith, nat_tests))
+
+-- nor is that of an item
+item_above_push : (base sp bytes b : ℕ) → sp + bytes ≡ base → 2 ≤ sp → IsAmongItems base bytes b → IsNoneOf sp b
+item_above_push base sp bytes b stack low item =
+    let above = item.above in
+    (λ e. absurd (omega arith), λ e. absurd (omega arith))
+
+-- so no place is
+place_above_push :
+    (z : Setting) (region : Region) (base sp bytes b : ℕ)
+    → IsBase z base → AreInRegion region base (bytes + 2) → sp + bytes ≡ base → is_place_at (stack_held z region bytes) b ≡ true → IsNoneOf sp b
+unfolding stack_held
+place_above_push z region base sp bytes b right room stack placed =
+    let first = room.first in
+    let parts = and_parts (nat_le b b && are_in_ram b b) (not (meets region b b) || is_item (cond z.is_whole z.base 0) bytes b) placed in
+    choose (meets region b b) refl parts.1
+  where
+    low : 2 ≤ sp
+    low = let first = room.first in omega arith
+
+    choose : (m : Bool) → meets region b b ≡ m → (not m || is_item (cond z.is_whole z.base 0) bytes b) ≡ true → IsNoneOf sp b
+    choose false e h = outside_push region base sp bytes b room stack e
+    choose true e h = item_above_push base sp bytes b stack low (item_among z region bytes b base right h)
 
 pub puts : (c : Situation) (i : Halves) → IsTakenIn c → LoadsAt c → (effect_at c).write ≡ write.Push i.high i.low → HasRoomFor 2 c.stack.setting c.stack.region c.state c.base
     → is_stack_limited c.stack.region c.state.core ≡ false → IsPut c i
@@ -321,9 +358,9 @@ puts c i k l is has limited =
     (IsRegionOpen-bound c.state.core c.entry x region k.stands.means.parts.core (clear_stack region c.state.core limited)) held.high_held held.low_held small in
     let top = k.stands.means.parts.stack has.located in
     let after : Storage = (stored m (machine_write.Push x.processor.sp held.value)).storage in
-    let changed : (b : ℕ) → ((region.first ≤ b) × (b ≤ region.last) → ⊥) → ram_at after b ≡ ram_at x.storage b =
+    let changed : (b : ℕ) → is_place_at (held_at c) b ≡ true → ram_at after b ≡ ram_at x.storage b =
     λ b out.
-    let two = outside_push region c.base x.processor.sp (length c.state.items) b has.room top out in
+    let two = place_above_push c.stack.setting region c.base x.processor.sp (length c.state.items) b k.stands.based has.room top out in
     ram_same x.storage after b (λ ram. done.others b ram (differs b (x.processor.sp - 1) two.0) (differs b (x.processor.sp - 2) two.1)) in
     record {
       means = subst (λ w. MeansParts (pushed i (with_core c.state core)) c.entry c.base (record { processor = e.processor; storage = (stored m w).storage })) (sym writes)
@@ -334,8 +371,8 @@ puts c i k l is has limited =
           ap (λ w. peek (stored m w).storage b) writes
           ∙ done.others b kept.ram (not_pushed region c.base x.processor.sp (length c.state.items) (x.processor.sp - 1) b has.room top (inl refl) kept.above)
           (not_pushed region c.base x.processor.sp (length c.state.items) (x.processor.sp - 2) b has.room top (inr refl) kept.above);
-      writes = subst (λ w. relations.Writes region w (ram_at x.storage) (ram_at (stored m w).storage)) (sym writes) changed;
-      in_turn = subst (λ w. WritesInTurn region w (ram_at x.storage) (ram_at (stored m w).storage)) (sym writes) changed;
+      writes = subst (λ w. relations.Writes (held_at c) w (ram_at x.storage) (ram_at (stored m w).storage)) (sym writes) changed;
+      in_turn = subst (λ w. WritesInTurn (held_at c) w (ram_at x.storage) (ram_at (stored m w).storage)) (sym writes) changed;
     }
 
 stack_pushed : (z : Setting) (i : Halves) (s : AbsState) (core : Core) → nat_lt (item_room z.rules) (length s.items + 2) ≡ false → with_core (with_stack_moved z (move.Push i) s) (moved_core (move.Push i) core) ≡ pushed i (with_core s core)

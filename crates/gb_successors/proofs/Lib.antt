@@ -4,10 +4,12 @@ pub mod AroundLaws
 pub mod AsideLaws
 pub mod ByteLaws
 pub mod CodeLaws
+pub mod CountLaws
 pub mod ExtendedWayLaws
 pub mod FormedLaws
 pub mod GoingLaws
 pub mod HaltBugLaws
+pub mod HoldingLaws
 pub mod JoinedLaws
 pub mod LandingLaws
 pub mod LeadingLaws

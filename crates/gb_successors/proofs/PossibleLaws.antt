@@ -95,7 +95,8 @@ use Rattle.gb_successors.proofs.LoadedLaws.{Reads-loaded, HasRead, Loads-by}
 use Rattle.gb_successors.proofs.RamLaws.{ram_at, differs}
 use Rattle.gb_successors.proofs.RelatedLaws.{has_operands}
 use Rattle.gb_successors.proofs.StackWayLaws.{is_word_read, word_top, top_held}
-use Rattle.gb_successors.proofs.Situations.{Situation, read_at, bits_at, word_at, effect_at, move_at, parts_at, begun_at, given_at, effect_by, IsTakenIn, means_begun, related_at}
+use Rattle.gb_successors.proofs.Situations.{Situation, read_at, bits_at, word_at, effect_at, move_at, parts_at, begun_at, given_at, effect_by, IsTakenIn, means_begun, related_at, held_at}
+use Rattle.gb_domain.specs.declared.places.StackBytes.{StackBytes}
 use Rattle.gb_successors.proofs.SituationLaws.{AreGiven, values_hold, said_begun, read_has, follows, related_behind, read_holds, read_placed, is_word_at, bytes_begun}
 use Rattle.gb_successors.proofs.LandingLaws.{few_words, set_by_items, state_is}
 
@@ -494,12 +495,12 @@ after_write (machine_write.Byte a n) memory b = cond (b == a) n (memory b)
 after_write (machine_write.Word a w) memory b = memory b
 after_write (machine_write.Push sp w) memory b = memory b
 
-Writes-after : (region : Region) (w : Write) (memory : ℕ → ℕ) → relations.Writes region w memory (after_write w memory)
-Writes-after region machine_write.Nothing memory = λ b. refl
-Writes-after region (machine_write.Byte a n) memory =
+Writes-after : (held : StackBytes) (w : Write) (memory : ℕ → ℕ) → relations.Writes held w memory (after_write w memory)
+Writes-after held machine_write.Nothing memory = λ b. refl
+Writes-after held (machine_write.Byte a n) memory =
     (λ ram. ap (λ t. cond t n (memory a)) (eq-eqb a a refl), λ b ne. ap (λ t. cond t n (memory b)) (differs b a ne))
-Writes-after region (machine_write.Word a w) memory = λ b ne more. refl
-Writes-after region (machine_write.Push sp w) memory = λ b out. refl
+Writes-after held (machine_write.Word a w) memory = λ b ne more. refl
+Writes-after held (machine_write.Push sp w) memory = λ b out. refl
 
 -- the core behind the instruction has the registers of its effect, without origins at most
 In-stored : (whole : Bool) (a : Option Area) (k : Kind) (span : Span) (v : Val) (core : Core) → (stored_core_in whole a k span v core).registers ≡ core.registers
@@ -567,7 +568,7 @@ some_reduced Extended core r x are bytes h =
 
 pub pairs_behind : (c : Situation) → IsTakenIn c → ArePairs (related_at c).pairs
 unfolding relations_behind
-pairs_behind c k = relations_after_kept c.stack.setting.rules c.stack.setting.is_whole c.stack.region c.row.op _ c.product.core.registers (word_at c).low c.product.relations _ refl k.pairs
+pairs_behind c k = relations_after_kept c.stack.setting.rules c.stack.setting.is_whole (held_at c) c.row.op _ c.product.core.registers (word_at c).low c.product.relations _ refl k.pairs
 
 pub bytes_behind_it : (c : Situation) (l h : ℕ) → IsTakenIn c → AreGiven c l h → AreBytes (effect_by c l h).processor.registers
 bytes_behind_it c l h k g =
@@ -582,7 +583,7 @@ possible c k =
     let g = is_given c k in
     let e : Effect = effect_by c g.low g.high in
     let f = follows c g.low g.high k g.given in
-    let behind_it = related_behind c g.low g.high (after_write e.write (ram_at c.machine.storage)) k g.given (Writes-after c.stack.region e.write (ram_at c.machine.storage)) in
+    let behind_it = related_behind c g.low g.high (after_write e.write (ram_at c.machine.storage)) k g.given (Writes-after (held_at c) e.write (ram_at c.machine.storage)) in
     some_reduced c.stack.setting.rules (parts_at c).state.core _ e.processor.registers (pairs_behind c k) (bytes_behind_it c g.low g.high k g.given)
     (record {
       registers = λ r.

@@ -24,28 +24,22 @@ use Rattle.gb_successors.specs.declared.stacks.Stack.{Stack}
 use Rattle.gb_domain.specs.declared.types.Core.{Core}
 use Rattle.gb_successors.specs.Behind.{ended, with_cell_if}
 use Rattle.gb_successors.specs.Sound.{IsOneOf}
-use Rattle.gb_successors.specs.Successors.{summary_behind, taken_successor, untaken_successor, with_product, reduced_successor, staying_successor, may_stay, stays, product_before, taken_from, not_taken_from, successors_of, taken_move}
+use Rattle.gb_successors.specs.Successors.{summary_behind, taken_successor, untaken_successor, settled_way, staying_successor, may_stay, stays, product_before, taken_from, not_taken_from, successors_of, taken_move}
+use Rattle.gb_successors.specs.Settled.{branch_outside}
 use Rattle.gb_successors.specs.Way.{Successor}
+use Rattle.gb_successors.proofs.HoldingLaws.{settled_summary}
 use Rattle.gb_successors.proofs.SilentLaws.{silent_by}
 use Rattle.gb_successors.proofs.SimpleLaws.{behind_row}
 
 abbrev pub IsQuiet : Successor → Type 0
 IsQuiet t = t.state.summary ≡ no_summary
 
--- what is reduced
-quiet_product : (o : Option Product) (t w : Successor) → IsQuiet t → option_map (with_product t) o ≡ Some w → IsQuiet w
-quiet_product None t w q e = cc
-quiet_product (Some p) t w q e = subst IsQuiet (same_Some _ _ e) q
-
-quiet_reduced : (rules : Rules) (t w : Successor) → IsQuiet t → reduced_successor rules t ≡ Some w → IsQuiet w
-unfolding reduced_successor
-quiet_reduced rules t w q e = quiet_product (reduced rules t.state.core t.state.relations) t w q e
-
+-- what is reduced, and settled
 quiet_sides :
-    (rules : Rules) (way : Branch → Successor) (o : Option Branch) (w : Successor)
-    → ((b : Branch) → IsQuiet (way b)) → option_and_then (λ b. reduced_successor rules (way b)) o ≡ Some w → IsQuiet w
-quiet_sides rules way None w q e = cc
-quiet_sides rules way (Some b) w q e = quiet_reduced rules (way b) w (q b) e
+    (k : Stack) (core : Core) (way : Branch → Successor) (o : Option Branch) (w : Successor)
+    → ((b : Branch) → IsQuiet (way b)) → option_and_then (λ b. settled_way k b.cell core (way (branch_outside k.region b))) o ≡ Some w → IsQuiet w
+quiet_sides k core way None w q e = cc
+quiet_sides k core way (Some b) w q e = settled_summary k b.cell core (way (branch_outside k.region b)) w e ∙ q (branch_outside k.region b)
 
 quiet_ways : (ways : Product → Option Successor) (o : Option Product) (w : Successor) → ((p : Product) → ways p ≡ Some w → IsQuiet w) → option_and_then ways o ≡ Some w → IsQuiet w
 quiet_ways ways None w each e = cc
@@ -98,9 +92,9 @@ pub quiet_successor :
 unfolding successors_of
 quiet_successor k program rom row a s t older unknown q (inl e) =
     quiet_ways (taken_from k program rom row (behind_row a row) s) (product_before k.setting.rules s) t
-    (λ p. quiet_sides k.setting.rules (taken_successor k program rom row (behind_row a row) s) _ t (λ b. quiet_taken k program rom row (behind_row a row) s b older unknown q)) e
+    (λ p. quiet_sides k s.core (taken_successor k program rom row (behind_row a row) s) _ t (λ b. quiet_taken k program rom row (behind_row a row) s b older unknown q)) e
 quiet_successor k program rom row a s t older unknown q (inr (inl e)) =
     quiet_ways (not_taken_from k program row (behind_row a row) s) (product_before k.setting.rules s) t
-    (λ p. quiet_sides k.setting.rules (untaken_successor k row (behind_row a row) s) _ t (λ b. quiet_untaken k row (behind_row a row) s b q)) e
+    (λ p. quiet_sides k s.core (untaken_successor k row (behind_row a row) s) _ t (λ b. quiet_untaken k row (behind_row a row) s b q)) e
 quiet_successor k program rom row a s t older unknown q (inr (inr e)) =
     quiet_ways (λ p. stays row a s) (product_before k.setting.rules s) t (λ p. quiet_stays row a s t q) e

@@ -12,8 +12,9 @@ use Rattle.gb_product.specs.Below.gb_abs.Meaning.{IsMemory}
 use Rattle.gb_product.specs.Below.gb_abs.Storage.{is_ram, peek}
 use Rattle.gb_product.proofs.Below.gb_abs_laws.StorageLaws.{wrote-poked}
 use Rattle.gb_product.specs.Below.gb_relations.Meaning.{HoldRelations}
-use Rattle.gb_product.specs.Below.gb_relations.Sound.{IsByteFree}
-use Rattle.gb_product.proofs.Below.gb_relations_laws.AddressLaws.{free-ram}
+use Rattle.gb_product.specs.Below.gb_relations.Sound.{IsBytePlaced}
+use Rattle.gb_domain.specs.declared.places.StackBytes.{StackBytes}
+use Rattle.gb_product.proofs.Below.gb_relations_laws.AddressLaws.{placed-ram}
 
 -- the byte of RAM at an address
 abbrev pub ram_at : Storage → ℕ → ℕ
@@ -46,9 +47,9 @@ wrote_ram m a n k ram le faults = ram_is (wrote m a n).storage a ram ∙ (wrote-
 
 -- what is known together of memory is said of RAM
 pub HoldRelations-ram :
-    (region : Region) (r : Relations) (x : Registers ℕ) (memory after : ℕ → ℕ) (f : Flags) → IsByteFree region r.byte.address
+    (held : StackBytes) (r : Relations) (x : Registers ℕ) (memory after : ℕ → ℕ) (f : Flags) → IsBytePlaced held r.byte.address
     → ((b : ℕ) → is_ram b ≡ true → after b ≡ memory b) → HoldRelations r x memory f → HoldRelations r x after f
-HoldRelations-ram region r x memory after f free same h =
+HoldRelations-ram held r x memory after f free same h =
     record {
       byte = record {
         byte = h.byte.byte;
@@ -64,6 +65,6 @@ HoldRelations-ram region r x memory after f free same h =
     same_some : (b a : ℕ) → Some b ≡ Some a → b ≡ a
     same_some b a e = cc
 
-    lies : (o : Option ℕ) (a : ℕ) → o ≡ Some a → IsByteFree region o → is_ram a ≡ true
+    lies : (o : Option ℕ) (a : ℕ) → o ≡ Some a → IsBytePlaced held o → is_ram a ≡ true
     lies None a e h = absurd (let bad : None ≡ Some a = e in cc)
-    lies (Some b) a e h = subst (λ n. is_ram n ≡ true) (same_some b a e) (free-ram region b h)
+    lies (Some b) a e h = subst (λ n. is_ram n ≡ true) (same_some b a e) (placed-ram held b h)

@@ -11,6 +11,7 @@ use Rattle.gb_ops.specs.declared.registers.Flags.{Flags}
 use Rattle.gb_ops.specs.Machine.{executed, advanced}
 use Rattle.gb_ops.specs.Play.{MState, within, outside}
 use Rattle.gb_domain.specs.declared.pairs.Bounds.{Bounds}
+use Rattle.gb_domain.specs.declared.places.StackBytes.{StackBytes}
 use Rattle.gb_domain.specs.declared.relations.Relations.{Relations}
 use Rattle.gb_domain.specs.declared.rules.Rules.{Rules}
 use Rattle.gb_domain.specs.declared.rules.Rules.TheVariants.{Simple, Extended}
@@ -165,16 +166,16 @@ has_operands (op.AluImmediate how v) h = h
 has_operands o h = tt
 
 simply :
-    (is_whole : Bool) (region : Region) (o : Op) (sp : Bounds) (vals : Registers Val) (low : Val) (r : Relations) (x : Registers ℕ) (memory : ℕ → ℕ) (f : Flags)
-    → HoldOneByte (compared_after o r.byte) x memory f → AreBytes x → HoldRelations (relations_after Simple is_whole region o sp vals low r) x memory f
+    (is_whole : Bool) (held : StackBytes) (o : Op) (sp : Bounds) (vals : Registers Val) (low : Val) (r : Relations) (x : Registers ℕ) (memory : ℕ → ℕ) (f : Flags)
+    → HoldOneByte (compared_after o r.byte) x memory f → AreBytes x → HoldRelations (relations_after Simple is_whole held o sp vals low r) x memory f
 unfolding relations_after
-simply is_whole region o sp vals low r x memory f byte bytes = record { byte = byte; zero = tt; pairs = HoldPairs-nothing x bytes }
+simply is_whole held o sp vals low r x memory f byte bytes = record { byte = byte; zero = tt; pairs = HoldPairs-nothing x bytes }
 
 pub by_rules :
-    (rules : Rules) (is_whole : Bool) (region : Region) (o : Op) (sp : Bounds) (vals : Registers Val) (low : Val) (r : Relations) (x : Registers ℕ) (memory : ℕ → ℕ) (f : Flags)
-    → rules ≡ Simple → HoldOneByte (compared_after o r.byte) x memory f → AreBytes x → HoldRelations (relations_after rules is_whole region o sp vals low r) x memory f
-by_rules rules is_whole region o sp vals low r x memory f simple byte bytes =
-    subst (λ q. HoldRelations (relations_after q is_whole region o sp vals low r) x memory f) (sym simple) (simply is_whole region o sp vals low r x memory f byte bytes)
+    (rules : Rules) (is_whole : Bool) (held : StackBytes) (o : Op) (sp : Bounds) (vals : Registers Val) (low : Val) (r : Relations) (x : Registers ℕ) (memory : ℕ → ℕ) (f : Flags)
+    → rules ≡ Simple → HoldOneByte (compared_after o r.byte) x memory f → AreBytes x → HoldRelations (relations_after rules is_whole held o sp vals low r) x memory f
+by_rules rules is_whole held o sp vals low r x memory f simple byte bytes =
+    subst (λ q. HoldRelations (relations_after q is_whole held o sp vals low r) x memory f) (sym simple) (simply is_whole held o sp vals low r x memory f byte bytes)
 
 pub related_begun : (row : Row) (x : MState) (r : Relations) → AreRelated r x → AreRelated r (begun row x)
 unfolding advanced
@@ -189,9 +190,9 @@ pub related_taken :
     (z : Setting) (rom : List ℕ) (region : Region) (ranges : List Range) (row : Row) (a : ℕ) (s : AbsState) (entry : Activation) (base : ℕ) (x : MState) (reads : List ℕ) (c : Core) (w : Target)
     → IsTaken z rom region ranges row a s entry base x reads c → is_followed Simple w ≡ true
     → LeadsSimply region w (simple_parts z rom region row (behind_row a row) s c) entry base x (outside (executed (within rom x) row reads))
-    → (sp : Bounds) (low : Val) (r : Relations) → AreRelated r (begun row x)
-    → AreRelated (relations_after z.rules z.is_whole region row.op sp c.registers low r) (outside (executed (within rom x) row reads))
-related_taken z rom region ranges row a s entry base x reads c w k known led sp low r before =
+    → (held : StackBytes) (sp : Bounds) (low : Val) (r : Relations) → AreRelated r (begun row x)
+    → AreRelated (relations_after z.rules z.is_whole held row.op sp c.registers low r) (outside (executed (within rom x) row reads))
+related_taken z rom region ranges row a s entry base x reads c w k known led held sp low r before =
     let t = simple_parts z rom region row (behind_row a row) s c in
     let e = effect rom row x reads in
     let y = outside (executed (within rom x) row reads) in
@@ -200,23 +201,23 @@ related_taken z rom region ranges row a s entry base x reads c w k known led sp 
     let byte : HoldOneByte (compared_after row.op r.byte) e.processor.registers (peek (left_by rom x e row.cycles).storage) e.processor.flags =
     HoldOneByte-compared_after row.op r.byte (begun row x).processor (peek x.storage) (peek (left_by rom x e row.cycles).storage)
     (given rom row x reads).low (given rom row x reads).high (has_operands row.op k.operands) (AreBytes-core c entry (begun row x) k.core k.means) before.byte in
-    subst (λ (v : MState). AreRelated (relations_after z.rules z.is_whole region row.op sp c.registers low r) v) (sym is)
-    (by_rules z.rules z.is_whole region row.op sp c.registers low r _ _ _ k.rules byte (subst (λ (v : MState). AreBytes v.processor.registers) is bytes))
+    subst (λ (v : MState). AreRelated (relations_after z.rules z.is_whole held row.op sp c.registers low r) v) (sym is)
+    (by_rules z.rules z.is_whole held row.op sp c.registers low r _ _ _ k.rules byte (subst (λ (v : MState). AreBytes v.processor.registers) is bytes))
 
 pub Leads-taken :
     (z : Setting) (rom : List ℕ) (region : Region) (ranges : List Range) (row : Row) (a : ℕ) (s : AbsState) (entry : Activation) (base : ℕ) (x : MState) (reads : List ℕ) (c : Core)
     → IsTaken z rom region ranges row a s entry base x reads c
     → LeadsParts z region ranges (simple_parts z rom region row (behind_row a row) s c) entry base x (outside (executed (within rom x) row reads))
-    → (sp : Bounds) (low : Val) (r : Relations) → AreRelated r (begun row x)
-    → LeadsRelated z region ranges (related_successor (relations_after z.rules z.is_whole region row.op sp c.registers low r) (simple_parts z rom region row (behind_row a row) s c)) entry base x
+    → (held : StackBytes) (sp : Bounds) (low : Val) (r : Relations) → AreRelated r (begun row x)
+    → LeadsRelated z region ranges (related_successor (relations_after z.rules z.is_whole held row.op sp c.registers low r) (simple_parts z rom region row (behind_row a row) s c)) entry base x
     (outside (executed (within rom x) row reads))
-Leads-taken z rom region ranges row a s entry base x reads c k led sp low r before =
+Leads-taken z rom region ranges row a s entry base x reads c k led held sp low r before =
     let t = simple_parts z rom region row (behind_row a row) s c in
     record {
       to = leads_simply z region t.target _ entry base x _ k.rules
-          (LeadsSimply-related region t.target (relations_after z.rules z.is_whole region row.op sp c.registers low r) t entry base x _ (led_simply z region t.target t entry base x _ k.rules led.to));
+          (LeadsSimply-related region t.target (relations_after z.rules z.is_whole held row.op sp c.registers low r) t entry base x _ (led_simply z region t.target t entry base x _ k.rules led.to));
       kept = led.kept;
-      related = λ known. related_taken z rom region ranges row a s entry base x reads c t.target k (followed_simply z t.target k.rules known) (led_simply z region t.target t entry base x _ k.rules led.to) sp low r before;
+      related = λ known. related_taken z rom region ranges row a s entry base x reads c t.target k (followed_simply z t.target k.rules known) (led_simply z region t.target t entry base x _ k.rules led.to) held sp low r before;
     }
 
 -- ---- memory that stays

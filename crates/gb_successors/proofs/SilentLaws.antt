@@ -33,6 +33,7 @@ use Rattle.gb_product.specs.Below.gb_pairs.declared.values.Values.{Values}
 use Rattle.gb_product.specs.Below.gb_summaries.Below.gb_ram_bounds.Facts.{level_after}
 use Rattle.gb_product.specs.Below.gb_summaries.Below.gb_ram_bounds.declared.addresses.AddressSet.{AddressSet}
 use Rattle.gb_product.specs.Below.gb_relations.Bytes.{at_indirect}
+use Rattle.gb_product.specs.Below.gb_relations.Items.{places_outside}
 use Rattle.gb_product.specs.Below.gb_relations.Places.{is_ram, stored_place, loaded_place}
 use Rattle.gb_product.specs.Below.gb_relations.Written.{counted, written}
 use Rattle.gb_product.specs.Below.gb_summaries.declared.instruction.InstructionStore.{InstructionStore}
@@ -238,10 +239,11 @@ silent_by Simple k program o s p m what cells e none quiet = refl
 silent_by Extended k program o s p m what cells e none quiet =
     let sp = sp_bounds k.setting s in
     let values = values_of p.core.registers p.relations.pairs in
+    let byte = places_outside k.region p.relations.byte in
     let stores = stored_by o p.core.registers what in
-    ap (λ (t : SummaryParts). with_aside (aside_behind m t.aside) (summary_after program k.region cells o sp values p.relations.byte stores (with_aside None t))) quiet
-    ∙ (ap (λ a. with_aside a (summary_after program k.region cells o sp values p.relations.byte stores no_summary)) (silent_aside m none)
-    ∙ ap (with_aside None) (silent_after program k.region cells o sp values p.relations.byte stores e))
+    ap (λ (t : SummaryParts). with_aside (aside_behind m t.aside) (summary_after program k.region cells o sp values byte stores (with_aside None t))) quiet
+    ∙ (ap (λ a. with_aside a (summary_after program k.region cells o sp values byte stores no_summary)) (silent_aside m none)
+    ∙ ap (with_aside None) (silent_after program k.region cells o sp values byte stores e))
 
 silent_simply : (k : Stack) (program : Program) (o : Op) (s : AbsState) (p : Product) (m : StackMove) (what : AbsWrite) (cells : List Cell) → summary_by Simple k program o s p m what cells ≡ no_summary
 unfolding summary_by

@@ -70,7 +70,7 @@ use Rattle.gb_successors.proofs.RamLaws.{ram_at, ram_is, HoldRelations-ram}
 use Rattle.gb_successors.proofs.SettledLaws.{HoldSummary-begun}
 use Rattle.gb_successors.proofs.RelatedLaws.{has_operands}
 use Rattle.gb_successors.proofs.SuccessorLaws.{begun_pc, begun_sp, IsWord-sp}
-use Rattle.gb_successors.proofs.Situations.{Situation, next_at, pointer_at, read_at, bits_at, known_at, word_at, transferred, effect_at, carry_at, begun_at, given_at, effect_by, IsTakenIn, next_small, related_at}
+use Rattle.gb_successors.proofs.Situations.{Situation, next_at, pointer_at, read_at, bits_at, known_at, word_at, transferred, effect_at, carry_at, begun_at, given_at, effect_by, IsTakenIn, next_small, related_at, held_at}
 use Rattle.std.proofs.lemmas.Bool.{and_parts}
 use Rattle.gb_ops.specs.declared.op.Register.TheVariants.{H, L}
 use Rattle.gb_product.specs.Below.gb_abs.Meaning.{is_located}
@@ -317,13 +317,13 @@ follows c l h k g =
     }
 
 -- what is known together holds behind it, as far as memory is RAM
-pub related_behind : (c : Situation) (l h : ℕ) (written : ℕ → ℕ) → IsTakenIn c → AreGiven c l h → relations.Writes c.stack.region (effect_by c l h).write (ram_at c.machine.storage) written
+pub related_behind : (c : Situation) (l h : ℕ) (written : ℕ → ℕ) → IsTakenIn c → AreGiven c l h → relations.Writes (held_at c) (effect_by c l h).write (ram_at c.machine.storage) written
     → HoldRelations (related_at c) (effect_by c l h).processor.registers written (effect_by c l h).processor.flags
 unfolding relations_behind
 related_behind c l h written k g w =
     let known = bounds_sound c.stack.setting c.state (sp_bounds c.stack.setting c.state) refl in
     let word = is_word_at c k in
-    (relations_after_sound c.stack.setting.rules c.stack.setting.is_whole c.stack.region c.row.op (sp_bounds c.stack.setting c.state) c.product.core.registers (word_at c).low c.product.relations _ refl
+    (relations_after_sound c.stack.setting.rules c.stack.setting.is_whole (held_at c) c.row.op (sp_bounds c.stack.setting c.state) c.product.core.registers (word_at c).low c.product.relations _ refl
     (has_operands c.row.op k.operands) (sp_below c k) (k.pairs.each pairs.Bc).last (k.pairs.each pairs.De).last (k.pairs.each pairs.Hl).last).gives
     (advanced c.machine.processor c.row) (ram_at c.machine.storage) written l h
     (record {
@@ -334,8 +334,8 @@ related_behind c l h written k g w =
       low_read = In-from (word_at c).low c.entry l g.low;
       low_small = small (word_at c).low l word.low g.low;
       high_small = small (word_at c).high h word.high g.high;
-      free = k.free;
-      relations = HoldRelations-ram c.stack.region c.product.relations _ (peek c.machine.storage) (ram_at c.machine.storage) _ k.free (λ b ram. ram_is c.machine.storage b ram) k.related;
+      placed = k.place;
+      relations = HoldRelations-ram (held_at c) c.product.relations _ (peek c.machine.storage) (ram_at c.machine.storage) _ k.place (λ b ram. ram_is c.machine.storage b ram) k.related;
       reads = g.reads;
     })
     w

@@ -1,5 +1,5 @@
 -- An instruction that is taken by the rules of version 3, and what is known as it begins its work.
-use Rattle.std.proofs.Common.{◌≡◌, ℕ, ◌+◌, ◌%◌, ◌≤◌, ◌<◌, Bool, true, false, List, slice_index, Option, None, refl, sym, ◌∙◌, arith}
+use Rattle.std.proofs.Common.{◌≡◌, ℕ, ◌+◌, ◌%◌, ◌≤◌, ◌<◌, Bool, true, false, List, length, slice_index, Option, None, refl, sym, ◌∙◌, arith}
 use Rattle.gb_ops.specs.declared.machine.Effect.{Effect}
 use Rattle.gb_ops.specs.declared.machine.Loaded.{Loaded}
 use Rattle.gb_ops.specs.declared.op.Op.TheVariants as op
@@ -25,7 +25,9 @@ use Rattle.gb_product.specs.Below.gb_abs_effects.Transfer.{transfer}
 use Rattle.gb_product.specs.declared.parts.Product.{Product}
 use Rattle.gb_product.specs.Meaning.{AreRelated}
 use Rattle.gb_product.specs.Below.gb_relations.Pointers.{known_carry}
-use Rattle.gb_product.specs.Below.gb_relations.Sound.{IsByteFree}
+use Rattle.gb_product.specs.Below.gb_relations.Sound.{IsBytePlaced}
+use Rattle.gb_product.specs.Held.{stack_held}
+use Rattle.gb_domain.specs.declared.places.StackBytes.{StackBytes}
 use Rattle.gb_successors.specs.declared.stacks.Stack.{Stack}
 use Rattle.gb_successors.specs.declared.stacks.StackMove.{StackMove}
 use Rattle.gb_product.specs.Reduced.{reduced}
@@ -128,6 +130,10 @@ related_at c = relations_behind c.stack c.entry.program c.rom c.row.op c.state c
 abbrev pub is_meant : Situation → Bool
 is_meant c = is_some (reduced c.stack.setting.rules (parts_at c).state.core (related_at c))
 
+-- the stack with the items before it
+abbrev pub held_at : Situation → StackBytes
+held_at c = stack_held c.stack.setting c.stack.region (length c.state.items)
+
 pub record IsTakenIn (c : Situation) : Type 0 where
   pub stands : Stands c.stack.setting c.rom c.stack.region c.row c.address c.state c.entry c.base c.machine
   pub extended : c.stack.setting.rules ≡ Extended
@@ -143,7 +149,7 @@ pub record IsTakenIn (c : Situation) : Type 0 where
   pub related : AreRelated c.product.relations (begun_at c)
   pub core : IsCore c.product.core
   pub pairs : ArePairs c.product.relations.pairs
-  pub free : IsByteFree c.stack.region c.product.relations.byte.address
+  pub place : IsBytePlaced (held_at c) c.product.relations.byte.address
   pub taken : (acted_at c).is_taken ≡ true
 
 -- the state before its reads

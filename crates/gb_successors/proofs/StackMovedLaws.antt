@@ -37,16 +37,16 @@ use Rattle.gb_successors.proofs.SpMoveLaws.{IsMovedTo}
 not_less : (n m : ℕ) → m ≤ n → nat_lt n m ≡ false
 not_less n m h = grind (arith, nat_tests)
 
-length-taken : (n : ℕ) (items : List Val) → length (take (length items - n) items) ≡ length items - n
+pub length-taken : (n : ℕ) (items : List Val) → length (take (length items - n) items) ≡ length items - n
 length-taken n items = length-take-le (length items - n) items (omega arith)
 
-length-appended : (n : ℕ) (items : List Val) → length (items ++ replicate n any_val) ≡ length items + n
+pub length-appended : (n : ℕ) (items : List Val) → length (items ++ replicate n any_val) ≡ length items + n
 length-appended n items =
     let whole = length-append items (replicate n any_val) in
     let more = length-replicate n any_val in
     omega arith
 
-length-resized : (n : ℕ) (items : List Val) → length (take n items ++ replicate (n - length items) any_val) ≡ n
+pub length-resized : (n : ℕ) (items : List Val) → length (take n items ++ replicate (n - length items) any_val) ≡ n
 length-resized n items =
     let whole = length-append (take n items) (replicate (n - length items) any_val) in
     let more = length-replicate (n - length items) any_val in

@@ -38,7 +38,8 @@ use Rattle.gb_domain.specs.Values.{interval_of}
 use Rattle.gb_product.specs.Below.gb_copies.Windows.{is_in_window}
 use Rattle.gb_product.specs.Below.gb_pairs.Meaning.{AreBytes}
 use Rattle.gb_product.specs.Below.gb_summaries.Below.gb_ram_bounds.Addresses.{is_in}
-use Rattle.gb_product.specs.Below.gb_relations.Places.{is_free}
+use Rattle.gb_product.specs.Held.{stack_held}
+use Rattle.gb_product.proofs.HeldLaws.{free_at}
 use Rattle.gb_product.specs.Below.gb_summaries.declared.instruction.InstructionStore.TheVariants as stored_as
 use Rattle.gb_product.specs.Below.gb_summaries.Instruction.{banks_after, StoresByte, StoresWord, Stores}
 use Rattle.gb_product.specs.Below.gb_summaries.Stores.{ShareWindows}
@@ -189,11 +190,11 @@ seen_windows q rom a b (inl none) h = subst (λ k. ShareWindows k a b) (sym none
 seen_windows q rom a b (inr same) h = subst (λ k. ShareWindows k a b) (sym same) h
 
 stores_one :
-    (q : Kind) (z : Setting) (rom : List ℕ) (region : Region) (ranges : List Range) (span : Span) (low : LowBits) (v : Val) (entry : Activation) (a n : ℕ) (memory after : ℕ → ℕ) (banks : Banks)
+    (q : Kind) (z : Setting) (rom : List ℕ) (region : Region) (ranges : List Range) (count : ℕ) (span : Span) (low : LowBits) (v : Val) (entry : Activation) (a n : ℕ) (memory after : ℕ → ℕ) (banks : Banks)
     → IsSeen q rom → is_storable z (kind_of rom) region ranges span ≡ true → IsIn span a → Has low a → Holds v entry n → n ≤ 255
-    → Writes region (machine_write.Byte a n) memory after
+    → Writes (stack_held z region count) (machine_write.Byte a n) memory after
     → StoresByte q (record { first = span.first; last = span.last; low = low }) (interval_of v) a n memory after banks (banks_after q a n banks)
-stores_one q z rom region ranges span low v entry a n memory after banks seen storable i bits h le w =
+stores_one q z rom region ranges count span low v entry a n memory after banks seen storable i bits h le w =
     let area = same_area (kind_of rom) span a (storable_area z (kind_of rom) region ranges span storable) i in
     record {
       among = among span low a i bits;
@@ -209,15 +210,6 @@ stores_one q z rom region ranges span low v entry a n memory after banks seen st
 
 -- ---- each write
 
-not_in : (region : Region) (b : ℕ) → is_free region b ≡ true → (region.first ≤ b) × (b ≤ region.last) → true ≡ false
-not_in region b free at =
-    let first = at.0 in
-    let last = at.1 in
-    grind (arith, nat_tests)
-
-differ : true ≡ false → ⊥
-differ h = cc
-
 at_one : (a : ℕ) → IsIn (one a) a
 at_one a = IsIn-alone a
 
@@ -230,48 +222,48 @@ both_storable false c h = cc
 both_storable true false h = cc
 
 stores_word :
-    (q : Kind) (z : Setting) (rom : List ℕ) (region : Region) (ranges : List Range) (a : ℕ) (low high : Val) (entry : Activation) (n : ℕ) (memory after : ℕ → ℕ) (banks : Banks)
+    (q : Kind) (z : Setting) (rom : List ℕ) (region : Region) (ranges : List Range) (count : ℕ) (a : ℕ) (low high : Val) (entry : Activation) (n : ℕ) (memory after : ℕ → ℕ) (banks : Banks)
     → IsSeen q rom → is_storable z (kind_of rom) region ranges (one a) ≡ true → is_storable z (kind_of rom) region ranges (one (behind a)) ≡ true
     → IsVal low → IsVal high → Holds low entry (n % 256) → Holds high entry (n / 256)
-    → WritesInTurn region (machine_write.Word a n) memory after
+    → WritesInTurn (stack_held z region count) (machine_write.Word a n) memory after
     → StoresWord q a (interval_of low) (interval_of high) a n memory after banks (banks_after q (behind a) (n / 256) (banks_after q a (n % 256) banks))
-stores_word q z rom region ranges a low high entry n memory after banks seen here there is_low is_high l h w =
+stores_word q z rom region ranges count a low high entry n memory after banks seen here there is_low is_high l h w =
     record {
       middle = w.0;
       between = banks_after q a (n % 256) banks;
-      first = stores_one q z rom region ranges (one a) no_low_bits low entry a (n % 256) memory w.0 banks seen here (at_one a) (Has-none a) l (byte_at_most low entry _ is_low l) w.1;
-      second = stores_one q z rom region ranges (one (behind a)) no_low_bits high entry (behind a) (n / 256) w.0 after (banks_after q a (n % 256) banks) seen there (at_one (behind a)) (Has-none (behind a)) h
+      first = stores_one q z rom region ranges count (one a) no_low_bits low entry a (n % 256) memory w.0 banks seen here (at_one a) (Has-none a) l (byte_at_most low entry _ is_low l) w.1;
+      second = stores_one q z rom region ranges count (one (behind a)) no_low_bits high entry (behind a) (n / 256) w.0 after (banks_after q a (n % 256) banks) seen there (at_one (behind a)) (Has-none (behind a)) h
           (byte_at_most high entry _ is_high h) w.2;
     }
 
 -- what the machine writes is stored as it is told
 pub stores_told :
-    (q : Kind) (z : Setting) (rom : List ℕ) (region : Region) (ranges : List Range) (o : Op) (registers : Registers Val) (what : AbsWrite) (entry : Activation) (sp : ℕ) (p : Processor) (l h : ℕ)
+    (q : Kind) (z : Setting) (rom : List ℕ) (region : Region) (ranges : List Range) (count : ℕ) (o : Op) (registers : Registers Val) (what : AbsWrite) (entry : Activation) (sp : ℕ) (p : Processor) (l h : ℕ)
     (w : Write) (memory after : ℕ → ℕ) (banks : Banks)
     → IsSeen q rom → (Effects.effect_of o p l h).write ≡ w → HoldsWrite what entry sp w → IsWrite what → is_unstorable z (kind_of rom) region ranges what ≡ false
     → ((r : Register) → Holds (get r registers) entry (get r p.registers)) → AreBytes p.registers
-    → WritesInTurn region w memory after → Stores q region (stored_by o registers what) w memory after banks (banks_seen q w banks)
+    → WritesInTurn (stack_held z region count) w memory after → Stores q region (stored_by o registers what) w memory after banks (banks_seen q w banks)
 unfolding stored_by is_unstorable banks_seen
-stores_told q z rom region ranges o registers write.Nothing entry sp p l h machine_write.Nothing memory after banks seen e f is allowed holds bytes w = (w, refl)
-stores_told q z rom region ranges o registers (write.Byte span v) entry sp p l h (machine_write.Byte a n) memory after banks seen e f is allowed holds bytes w =
-    stores_one q z rom region ranges span (pointed_bits (pointer_of o) registers) v entry a n memory after banks seen (not-false _ allowed) f.0
+stores_told q z rom region ranges count o registers write.Nothing entry sp p l h machine_write.Nothing memory after banks seen e f is allowed holds bytes w = (w, refl)
+stores_told q z rom region ranges count o registers (write.Byte span v) entry sp p l h (machine_write.Byte a n) memory after banks seen e f is allowed holds bytes w =
+    stores_one q z rom region ranges count span (pointed_bits (pointer_of o) registers) v entry a n memory after banks seen (not-false _ allowed) f.0
     (Has-pointed (pointer_of o) registers entry p (Effects.read_of o p) (Effects.effect_of o p l h).write a n holds bytes (follows o p l h) e) f.1 f.2 w
-stores_told q z rom region ranges o registers (write.Word a low high) entry sp p l h (machine_write.Word b n) memory after banks seen e f is allowed holds bytes w =
+stores_told q z rom region ranges count o registers (write.Word a low high) entry sp p l h (machine_write.Word b n) memory after banks seen e f is allowed holds bytes w =
     let both = both_storable _ _ allowed in
     subst (λ c. Stores q region (stored_as.Word a (interval_of low) (interval_of high)) (machine_write.Word c n) memory after banks (banks_after q ((c + 1) % 65536) (n / 256) (banks_after q c (n % 256) banks))) (sym f.0)
-    (stores_word q z rom region ranges a low high entry n memory after banks seen both.0 both.1 is.0 is.1 f.1 f.2
-    (subst (λ c. WritesInTurn region (machine_write.Word c n) memory after) f.0 w))
-stores_told q z rom region ranges o registers (write.Push high low) entry sp p l h (machine_write.Push a n) memory after banks seen e f is allowed holds bytes w =
-    (λ b free. w b (λ at. differ (not_in region b free at)), refl)
-stores_told q z rom region ranges o registers write.Nothing entry sp p l h (machine_write.Byte a n) memory after banks seen e f is allowed holds bytes w = absurd f
-stores_told q z rom region ranges o registers write.Nothing entry sp p l h (machine_write.Word a n) memory after banks seen e f is allowed holds bytes w = absurd f
-stores_told q z rom region ranges o registers write.Nothing entry sp p l h (machine_write.Push a n) memory after banks seen e f is allowed holds bytes w = absurd f
-stores_told q z rom region ranges o registers (write.Byte span v) entry sp p l h machine_write.Nothing memory after banks seen e f is allowed holds bytes w = absurd f
-stores_told q z rom region ranges o registers (write.Byte span v) entry sp p l h (machine_write.Word a n) memory after banks seen e f is allowed holds bytes w = absurd f
-stores_told q z rom region ranges o registers (write.Byte span v) entry sp p l h (machine_write.Push a n) memory after banks seen e f is allowed holds bytes w = absurd f
-stores_told q z rom region ranges o registers (write.Word a low high) entry sp p l h machine_write.Nothing memory after banks seen e f is allowed holds bytes w = absurd f
-stores_told q z rom region ranges o registers (write.Word a low high) entry sp p l h (machine_write.Byte b n) memory after banks seen e f is allowed holds bytes w = absurd f
-stores_told q z rom region ranges o registers (write.Word a low high) entry sp p l h (machine_write.Push b n) memory after banks seen e f is allowed holds bytes w = absurd f
-stores_told q z rom region ranges o registers (write.Push high low) entry sp p l h machine_write.Nothing memory after banks seen e f is allowed holds bytes w = absurd f
-stores_told q z rom region ranges o registers (write.Push high low) entry sp p l h (machine_write.Byte b n) memory after banks seen e f is allowed holds bytes w = absurd f
-stores_told q z rom region ranges o registers (write.Push high low) entry sp p l h (machine_write.Word b n) memory after banks seen e f is allowed holds bytes w = absurd f
+    (stores_word q z rom region ranges count a low high entry n memory after banks seen both.0 both.1 is.0 is.1 f.1 f.2
+    (subst (λ c. WritesInTurn (stack_held z region count) (machine_write.Word c n) memory after) f.0 w))
+stores_told q z rom region ranges count o registers (write.Push high low) entry sp p l h (machine_write.Push a n) memory after banks seen e f is allowed holds bytes w =
+    (λ b free. w b (free_at z region count b free), refl)
+stores_told q z rom region ranges count o registers write.Nothing entry sp p l h (machine_write.Byte a n) memory after banks seen e f is allowed holds bytes w = absurd f
+stores_told q z rom region ranges count o registers write.Nothing entry sp p l h (machine_write.Word a n) memory after banks seen e f is allowed holds bytes w = absurd f
+stores_told q z rom region ranges count o registers write.Nothing entry sp p l h (machine_write.Push a n) memory after banks seen e f is allowed holds bytes w = absurd f
+stores_told q z rom region ranges count o registers (write.Byte span v) entry sp p l h machine_write.Nothing memory after banks seen e f is allowed holds bytes w = absurd f
+stores_told q z rom region ranges count o registers (write.Byte span v) entry sp p l h (machine_write.Word a n) memory after banks seen e f is allowed holds bytes w = absurd f
+stores_told q z rom region ranges count o registers (write.Byte span v) entry sp p l h (machine_write.Push a n) memory after banks seen e f is allowed holds bytes w = absurd f
+stores_told q z rom region ranges count o registers (write.Word a low high) entry sp p l h machine_write.Nothing memory after banks seen e f is allowed holds bytes w = absurd f
+stores_told q z rom region ranges count o registers (write.Word a low high) entry sp p l h (machine_write.Byte b n) memory after banks seen e f is allowed holds bytes w = absurd f
+stores_told q z rom region ranges count o registers (write.Word a low high) entry sp p l h (machine_write.Push b n) memory after banks seen e f is allowed holds bytes w = absurd f
+stores_told q z rom region ranges count o registers (write.Push high low) entry sp p l h machine_write.Nothing memory after banks seen e f is allowed holds bytes w = absurd f
+stores_told q z rom region ranges count o registers (write.Push high low) entry sp p l h (machine_write.Byte b n) memory after banks seen e f is allowed holds bytes w = absurd f
+stores_told q z rom region ranges count o registers (write.Push high low) entry sp p l h (machine_write.Word b n) memory after banks seen e f is allowed holds bytes w = absurd f

@@ -51,7 +51,12 @@ use Rattle.gb_abs_memory.specs.Access.{area_of, stored_in, one_stored, several_s
 use Rattle.gb_abs_memory.specs.declared.store.Area.{Area}
 use Rattle.gb_abs_memory.specs.declared.store.Area.TheVariants as area
 use Rattle.gb_abs_memory.specs.Sound.{view}
-use Rattle.gb_product.specs.Below.gb_relations.Sound.{IsByteFree}
+use Rattle.gb_product.specs.Below.gb_relations.Sound.{IsBytePlaced}
+use Rattle.gb_domain.specs.declared.places.OneByte.{OneByte}
+use Rattle.gb_product.specs.Below.gb_relations.Items.{places_outside}
+use Rattle.gb_product.proofs.Below.gb_relations_laws.ItemLaws.{places_outside_part}
+use Rattle.gb_product.specs.Held.{stack_held}
+use Rattle.gb_product.proofs.HeldLaws.{outside_free}
 use Rattle.gb_product.specs.declared.parts.Product.{Product}
 use Rattle.gb_successors.specs.declared.stacks.Stack.{Stack}
 use Rattle.gb_successors.specs.declared.stacks.StackMove.{StackMove}
@@ -67,7 +72,7 @@ use Rattle.gb_successors.proofs.LedLaws.{DoneAt, IsAllowedAt}
 use Rattle.gb_successors.proofs.RamLaws.{ram_at, ram_is, HoldRelations-ram}
 use Rattle.gb_successors.proofs.SettledLaws.{HoldSummary-begun}
 use Rattle.gb_successors.proofs.SituationLaws.{values_hold, bytes_begun, follows, sp_within}
-use Rattle.gb_successors.proofs.Situations.{Situation, effect_at, move_at, parts_at, begun_at, given_at, acted_at, left_at, IsTakenIn}
+use Rattle.gb_successors.proofs.Situations.{Situation, effect_at, move_at, parts_at, begun_at, given_at, acted_at, left_at, IsTakenIn, held_at}
 use Rattle.gb_successors.proofs.StoredLaws.{banks_seen, stored_banks, stores_told}
 use Rattle.gb_successors.proofs.SuccessorLaws.{begun_sp, passed_peek}
 
@@ -187,13 +192,14 @@ apart_aside region o s h = record { fills = h.fills; first = h.first; second = h
 -- what is said behind an instruction lies where what is said may lie
 pub apart_by :
     (r : Rules) (k : Stack) (program : Program) (o : Op) (s : AbsState) (p : Product) (m : StackMove) (what : AbsWrite) (cells : List Cell)
-    → IsByteFree k.region p.relations.byte.address → IsFree k.region s.summary → IsFree k.region (summary_by r k program o s p m what cells)
+    → IsBytePlaced (stack_held k.setting k.region (length s.items)) p.relations.byte.address → IsFree k.region s.summary
+    → IsFree k.region (summary_by r k program o s p m what cells)
 unfolding summary_by
-apart_by Simple k program o s p m what cells free apart = record { fills = tt; first = tt; second = tt }
-apart_by Extended k program o s p m what cells free apart =
+apart_by Simple k program o s p m what cells place apart = record { fills = tt; first = tt; second = tt }
+apart_by Extended k program o s p m what cells place apart =
     apart_aside k.region (aside_behind m s.summary.aside) _
-    ((summary_after_sound program k.region cells o (sp_bounds k.setting s) (values_of p.core.registers p.relations.pairs) p.relations.byte (stored_by o p.core.registers what) (with_aside None s.summary) _ refl).free
-    free (apart_aside k.region None s.summary apart))
+    ((summary_after_sound program k.region cells o (sp_bounds k.setting s) (values_of p.core.registers p.relations.pairs) (places_outside k.region p.relations.byte) (stored_by o p.core.registers what) (with_aside None s.summary) _ refl).free
+    (outside_free k.setting k.region (length s.items) p.relations.byte place) (apart_aside k.region None s.summary apart))
 
 -- of no controller nothing is said
 shadows_unseen : (which : BankWindow) (s : Shadows) (x : Registers ℕ) (memory : ℕ → ℕ) (before after : Banks) → AreShadows kind.Rom which s x memory before → AreShadows kind.Rom which s x memory after
@@ -219,6 +225,10 @@ HoldSummary-unseen program cells s p memory before after none h =
 abbrev pub said_at : Situation → SummaryParts
 said_at c = summary_behind c.stack c.entry.program c.row.op c.state c.product (move_at c) (parts_at c)
 
+-- the places outside the stack
+abbrev byte_outside : Situation → OneByte
+byte_outside c = places_outside c.stack.region c.product.relations.byte
+
 -- what it stores
 abbrev stored_in_turn : Situation → InstructionStore
 stored_in_turn c = stored_by c.row.op c.product.core.registers (effect_at c).write
@@ -230,7 +240,7 @@ said_before c = with_aside None c.state.summary
 -- what is said behind it, but for that
 abbrev said_inside : Situation → SummaryParts
 said_inside c =
-    summary_after c.entry.program c.stack.region (parts_at c).state.cells c.row.op (sp_bounds c.stack.setting c.state) (values_of c.product.core.registers c.product.relations.pairs) c.product.relations.byte
+    summary_after c.entry.program c.stack.region (parts_at c).state.cells c.row.op (sp_bounds c.stack.setting c.state) (values_of c.product.core.registers c.product.relations.pairs) (byte_outside c)
     (stored_in_turn c) (said_before c)
 
 abbrev said_after : Situation → SummaryParts
@@ -263,28 +273,28 @@ ram_left : (region : Region) (s : Storage) → IsLeft region (ram_at s) (peek s)
 ram_left region s b free = sym (ram_is s b (free-ram region b free))
 
 sound_at : (c : Situation)
-    → IsSoundInstruction c.entry.program c.stack.region (parts_at c).state.cells c.row.op (sp_bounds c.stack.setting c.state) (values_of c.product.core.registers c.product.relations.pairs) c.product.relations.byte
+    → IsSoundInstruction c.entry.program c.stack.region (parts_at c).state.cells c.row.op (sp_bounds c.stack.setting c.state) (values_of c.product.core.registers c.product.relations.pairs) (byte_outside c)
     (stored_in_turn c) (said_before c) (said_inside c)
 sound_at c =
-    summary_after_sound c.entry.program c.stack.region (parts_at c).state.cells c.row.op (sp_bounds c.stack.setting c.state) (values_of c.product.core.registers c.product.relations.pairs) c.product.relations.byte
+    summary_after_sound c.entry.program c.stack.region (parts_at c).state.cells c.row.op (sp_bounds c.stack.setting c.state) (values_of c.product.core.registers c.product.relations.pairs) (byte_outside c)
     (stored_in_turn c) (said_before c) (said_inside c) refl
 
 begins_at :
     (c : Situation) → IsTakenIn c → LoadsAt c
-    → Begins c.entry.program c.stack.region c.row.op (sp_bounds c.stack.setting c.state) (values_of c.product.core.registers c.product.relations.pairs) c.product.relations.byte (said_before c)
+    → Begins c.entry.program c.stack.region c.row.op (sp_bounds c.stack.setting c.state) (values_of c.product.core.registers c.product.relations.pairs) (byte_outside c) (said_before c)
     (advanced c.machine.processor c.row) (ram_at c.machine.storage) (given_at c).low (given_at c).high
 begins_at c k l =
     let known = bounds_sound c.stack.setting c.state (sp_bounds c.stack.setting c.state) refl in
     let related =
-    HoldRelations-ram c.stack.region c.product.relations _ (peek c.machine.storage) (ram_at c.machine.storage) _ k.free (λ b ram. ram_is c.machine.storage b ram) k.related in
+    HoldRelations-ram (held_at c) c.product.relations _ (peek c.machine.storage) (ram_at c.machine.storage) _ k.place (λ b ram. ram_is c.machine.storage b ram) k.related in
     record {
       values = values_hold c k;
       bytes = bytes_begun c k;
       sp_first = subst (λ n. (sp_bounds c.stack.setting c.state).first ≤ n) (sym (begun_sp c.row c.machine)) (known.first c.entry c.base c.machine k.stands.based k.stands.means.parts (sp_within c k));
       sp_last = subst (λ n. n ≤ (sp_bounds c.stack.setting c.state).last) (sym (begun_sp c.row c.machine)) (known.last c.entry c.base c.machine k.stands.based k.stands.means.parts (sp_within c k));
       sp_small = subst (λ n. n < 65536) (sym (begun_sp c.row c.machine)) k.stands.means.parts.sp;
-      byte = related.byte;
-      byte_free = k.free;
+      byte = (places_outside_part c.stack.region c.product.relations.byte _ refl).gives _ _ _ related.byte;
+      byte_free = outside_free c.stack.setting c.stack.region (length c.state.items) c.product.relations.byte k.place;
       facts = k.stands.program.facts;
       free = apart_aside c.stack.region None c.state.summary k.stands.apart;
       reads = (given_by c k l).reads;
@@ -295,7 +305,7 @@ stores_at :
     → Stores c.entry.program.kind c.stack.region (stored_in_turn c) (acted_at c).write (ram_at c.machine.storage) (ram_at (stored_at c).storage) c.machine.storage.banks
     (banks_seen c.entry.program.kind (acted_at c).write c.machine.storage.banks)
 stores_at c k allowed d =
-    stores_told c.entry.program.kind c.stack.setting c.rom c.stack.region c.ranges c.row.op c.product.core.registers (effect_at c).write c.entry (begun_at c).processor.sp (advanced c.machine.processor c.row)
+    stores_told c.entry.program.kind c.stack.setting c.rom c.stack.region c.ranges (length c.state.items) c.row.op c.product.core.registers (effect_at c).write c.entry (begun_at c).processor.sp (advanced c.machine.processor c.row)
     (given_at c).low (given_at c).high (acted_at c).write (ram_at c.machine.storage) (ram_at (stored_at c).storage) c.machine.storage.banks k.stands.program.controller refl
     (follows c (given_at c).low (given_at c).high k (given_by c k d.loads)).write (is_write_at c k)
     (subst (λ w. is_unstorable c.stack.setting (kind_of c.rom) c.stack.region c.ranges w ≡ false) (part_write c) allowed.stores)
@@ -345,7 +355,7 @@ left_summary c k allowed d = by k.stands.program.controller (acted_summary c k a
 pub apart_at : (c : Situation) → IsTakenIn c → IsFree c.stack.region (said_at c)
 apart_at c k =
     subst (IsFree c.stack.region) (sym (said_is c k))
-    (apart_aside c.stack.region (aside_behind (move_at c) c.state.summary.aside) (said_inside c) ((sound_at c).free k.free (apart_aside c.stack.region None c.state.summary k.stands.apart)))
+    (apart_aside c.stack.region (aside_behind (move_at c) c.state.summary.aside) (said_inside c) ((sound_at c).free (outside_free c.stack.setting c.stack.region (length c.state.items) c.product.relations.byte k.place) (apart_aside c.stack.region None c.state.summary k.stands.apart)))
 
 peek_left : (c : Situation) (region : Region) → IsLeft region (ram_at (stored_at c).storage) (peek (left_at c).storage)
 peek_left c region b free = passed_peek (stored_at c) c.row.cycles b ∙ ram_left region (stored_at c).storage b free

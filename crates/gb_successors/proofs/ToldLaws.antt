@@ -1,5 +1,5 @@
 -- What a condition tells of a byte of memory is known of the states before the instruction too.
-use Rattle.std.proofs.Common.{◌≡◌, ℕ, Bool, true, false, cond, ◌||◌, ◌⊎◌, inl, inr, nat_lt, List, ◌∷◌, length, Option, Some, None, refl, sym, subst, ◌≤◌, ◌<◌, arith}
+use Rattle.std.proofs.Common.{◌≡◌, ℕ, zero, suc, ◌-◌, Bool, true, false, not, cond, ◌&&◌, ◌||◌, ◌⊎◌, inl, inr, nat_le, nat_lt, List, [], ◌∷◌, length, slice_get, Option, Some, None, refl, sym, subst, ◌≤◌, ◌<◌, arith}
 use Rattle.std.specs.Prelude.{IfSome, is_some}
 use Rattle.std.specs.List.{AllByRecursion, filter, list_any}
 use Rattle.gb_ops.specs.declared.machine.Region.{Region}
@@ -15,7 +15,9 @@ use Rattle.gb_domain.specs.declared.setting.Setting.{Setting}
 use Rattle.gb_domain.specs.declared.types.Cell.{Cell}
 use Rattle.gb_domain.specs.declared.types.Core.{Core}
 use Rattle.gb_domain.specs.declared.types.Range.{Range}
-use Rattle.gb_domain.specs.Areas.{IsRegion}
+use Rattle.std.proofs.lemmas.Bool.{and_parts}
+use Rattle.gb_domain.specs.Areas.{IsRegion, are_in_ram, meets, is_item, is_place_at}
+use Rattle.gb_domain.specs.Settings.{IsBase}
 use Rattle.gb_domain.specs.Limits.{cell_room}
 use Rattle.gb_domain.specs.Rules.{IsVal}
 use Rattle.gb_domain.specs.Types.{AbsState}
@@ -34,10 +36,17 @@ use Rattle.gb_product.specs.Below.gb_abs_effects.Accesses.{read_of}
 use Rattle.gb_product.specs.Below.gb_abs_effects.Sides as Flags
 use Rattle.gb_abs_memory.specs.Sound.{AreVals}
 use Rattle.gb_product.specs.declared.parts.Branch.{Branch}
-use Rattle.gb_product.specs.Below.gb_relations.Sound.{IsByteFree}
+use Rattle.gb_product.specs.Below.gb_relations.Sound.{IsBytePlaced}
+use Rattle.gb_product.specs.Below.gb_relations.Places.{is_free}
+use Rattle.gb_product.specs.Held.{stack_held}
+use Rattle.gb_abs_memory.specs.Access.{item_or}
+use Rattle.gb_successors.specs.declared.stacks.Stack.{Stack}
+use Rattle.gb_successors.specs.Settled.{cell_outside}
 use Rattle.gb_product.specs.Sides.{side_where, taken_side, memory_of}
 use Rattle.gb_product.specs.Sound.{HoldsCell, IsSideOf}
-use Rattle.gb_product.proofs.SideLaws.{side_placed}
+use Rattle.gb_product.proofs.SideLaws.{IsPlaced-free, side_placed}
+use Rattle.gb_product.proofs.Below.gb_abs_laws.LocatedLaws.{IsSoundItem-item_at}
+use Rattle.gb_product.specs.Below.gb_abs.Located.{stack_base, item_by, item_at}
 use Rattle.gb_product.proofs.SummaryLaws.{has_cells_with_cell, HoldSummary-with_cells}
 use Rattle.gb_domain.specs.declared.pairs.Bounds.{Bounds}
 use Rattle.gb_product.specs.Below.gb_abs_effects.Targets.{is_pop}
@@ -46,7 +55,7 @@ use Rattle.gb_successors.specs.Sound.{IsStackKnown, IsStackFit, IsAllowed, Stand
 use Rattle.gb_successors.specs.Way.{Successor}
 use Rattle.gb_successors.specs.Refined.{read_around}
 use Rattle.gb_successors.proofs.SimpleLaws.{IsTold}
-use Rattle.gb_successors.specs.Successors.{memory_before}
+use Rattle.gb_successors.specs.Successors.{item_of, memory_before}
 use Rattle.gb_product.proofs.ByteLaws.{IsVal-byte_in}
 use Rattle.gb_abs_memory.proofs.LoadLaws.{IsVal-cell}
 use Rattle.gb_product.specs.Below.gb_pairs.Meaning.{Holds as HoldValues}
@@ -83,22 +92,60 @@ pub record IsToldCell (region : Region) (entry : Activation) (x : MState) (c : C
   pub val : IsVal c.val
   pub holds : HoldsCell entry x c
 
-IsToldCell-if :
-    (region : Region) (entry : Activation) (x : MState) (cell : Option Cell)
-    → IfSome cell (IsPlaced region) → IfSome cell (λ c. IsVal c.val) → IfSome cell (λ c. HoldsCell entry x c) → IfSome cell (IsToldCell region entry x)
-IsToldCell-if region entry x None p v h = tt
-IsToldCell-if region entry x (Some c) p v h = record { placed = p; val = v; holds = h }
+IsToldCell-outside :
+    (z : Setting) (region : Region) (n : ℕ) (entry : Activation) (x : MState) (cell : Option Cell)
+    → IfSome cell (λ c. is_place_at (stack_held z region n) c.address ≡ true) → IfSome cell (λ c. IsVal c.val) → IfSome cell (λ c. HoldsCell entry x c)
+    → IfSome (cell_outside region cell) (IsToldCell region entry x)
+unfolding stack_held
+IsToldCell-outside z region n entry x None p v h = tt
+IsToldCell-outside z region n entry x (Some c) p v h = choose (meets region c.address c.address) refl
+  where
+    free : meets region c.address c.address ≡ false → is_free region c.address ≡ true
+    free e =
+        let parts = and_parts (nat_le c.address c.address && are_in_ram c.address c.address) (not (meets region c.address c.address) || is_item (cond z.is_whole z.base 0) n c.address) p in
+        let ram = and_parts (nat_le c.address c.address) (are_in_ram c.address c.address) parts.0 in
+        simp (ram.1, e)
+
+    choose : (b : Bool) → meets region c.address c.address ≡ b → IfSome (cond b None (Some c)) (IsToldCell region entry x)
+    choose true e = tt
+    choose false e = record { placed = IsPlaced-free region c (free e); val = v; holds = h }
 
 -- that of a side
 pub IsToldCell-side :
-    (region : Region) (memory : Val) (core : Core) (r : Relations) (b : Branch) (entry : Activation) (x : MState)
-    → IsByteFree region r.byte.address → IsVal memory → IsSideOf memory core r b → IfSome b.cell (λ c. HoldsCell entry x c) → IfSome b.cell (IsToldCell region entry x)
-IsToldCell-side region memory core r b entry x free val is h = IsToldCell-if region entry x b.cell (side_placed region memory core r b free is) (is.val val) h
+    (z : Setting) (region : Region) (n : ℕ) (memory : Val) (core : Core) (r : Relations) (b : Branch) (entry : Activation) (x : MState)
+    → IsBytePlaced (stack_held z region n) r.byte.address → IsVal memory → IsSideOf memory core r b → IfSome b.cell (λ c. HoldsCell entry x c)
+    → IfSome (cell_outside region b.cell) (IsToldCell region entry x)
+IsToldCell-side z region n memory core r b entry x place val is h =
+    IsToldCell-outside z region n entry x b.cell (side_placed (stack_held z region n) memory core r b place is) (is.val val) h
 
 -- ---- the byte at the address among the places
 
-pub IsVal-memory_before : (program : Program) (s : AbsState) (p : Product) → AreVals s.cells → IsVal (memory_before program s p)
-IsVal-memory_before program s p vals = by p.relations.byte.address
+IsVal-item : (o : Option Val) (v : Val) → IfSome o IsVal → IsVal v → IsVal (item_or o v)
+IsVal-item None v h k = k
+IsVal-item (Some i) v h k = h
+
+IsVal-in : (items : List Val) (i : ℕ) → AllByRecursion IsVal items → IfSome (slice_get items i) IsVal
+IsVal-in [] i h = tt
+IsVal-in (v ∷ items) zero h = h.0
+IsVal-in (v ∷ items) (suc i) h = IsVal-in items i h.1
+
+IsVal-item_of : (z : Setting) (s : AbsState) (o : Option ℕ) → AllByRecursion IsVal s.items → IfSome (item_of z s o) IsVal
+unfolding item_at
+IsVal-item_of z s None h = tt
+IsVal-item_of z s (Some a) h = by z.is_whole (stack_base z s.core)
+  where
+    below : (b : ℕ) (is : Bool) → IfSome (cond is (slice_get s.items (b - 1 - a)) None) IsVal
+    below b true = IsVal-in s.items (b - 1 - a) h
+    below b false = tt
+
+    by : (w : Bool) (base : Option ℕ) → IfSome (cond w (item_by base s.items a) None) IsVal
+    by false base = tt
+    by true None = tt
+    by true (Some b) = below b (nat_lt a b)
+
+pub IsVal-memory_before : (k : Stack) (program : Program) (s : AbsState) (p : Product) → AllByRecursion IsVal s.items → AreVals s.cells → IsVal (memory_before k program s p)
+IsVal-memory_before k program s p items vals =
+    IsVal-item (item_of k.setting s p.relations.byte.address) _ (IsVal-item_of k.setting s p.relations.byte.address items) (by p.relations.byte.address)
   where
     v : Values
     v = values_of p.core.registers p.relations.pairs
@@ -107,15 +154,25 @@ IsVal-memory_before program s p vals = by p.relations.byte.address
     by None = record { order = omega arith; hi = omega arith; strided = refl }
     by (Some a) = IsVal-byte_in program v s.cells s.summary a (IsVal-cell s.cells a vals)
 
+Holds-item :
+    (z : Setting) (s : AbsState) (a : ℕ) (v : Val) (entry : Activation) (base : ℕ) (x : MState)
+    → IsBase z base → MeansParts s entry base x → Holds v entry (peek x.storage a) → Holds (item_or (item_of z s (Some a)) v) entry (peek x.storage a)
+Holds-item z s a v entry base x right m h = choose z.is_whole (item_at z s a) refl
+  where
+    choose : (w : Bool) (o : Option Val) → item_at z s a ≡ o → Holds (item_or (cond w o None) v) entry (peek x.storage a)
+    choose false o e = h
+    choose true None e = h
+    choose true (Some i) e = (IsSoundItem-item_at z s a i e).gives entry base x right m
+
 pub held_before :
-    (s : AbsState) (p : Product) (entry : Activation) (base : ℕ) (x : MState) (program : Program)
-    → entry.program ≡ program → MeansParts s entry base x → IsSummarized s entry x → HoldValues (values_of p.core.registers p.relations.pairs) x.processor.registers
-    → (a : ℕ) → p.relations.byte.address ≡ Some a → Holds (memory_before program s p) entry (peek x.storage a)
-held_before s p entry base x program of means said values a e =
+    (k : Stack) (s : AbsState) (p : Product) (entry : Activation) (base : ℕ) (x : MState) (program : Program)
+    → entry.program ≡ program → IsBase k.setting base → MeansParts s entry base x → IsSummarized s entry x → HoldValues (values_of p.core.registers p.relations.pairs) x.processor.registers
+    → (a : ℕ) → p.relations.byte.address ≡ Some a → Holds (memory_before k program s p) entry (peek x.storage a)
+held_before k s p entry base x program of right means said values a e =
     let v = values_of p.core.registers p.relations.pairs in
-    subst (λ q. Holds (memory_before q s p) entry (peek x.storage a)) of
-    (subst (λ o. Holds (memory_of entry.program v s.cells s.summary o) entry (peek x.storage a)) (sym e)
-    (Holds-byte_in_state v s a entry base x means said values))
+    subst (λ q. Holds (memory_before k q s p) entry (peek x.storage a)) of
+    (subst (λ o. Holds (item_or (item_of k.setting s o) (memory_of entry.program v s.cells s.summary o)) entry (peek x.storage a)) (sym e)
+    (Holds-item k.setting s a _ entry base x right means (Holds-byte_in_state v s a entry base x means said values)))
 
 pub AllByRecursion-with_cell : (P : Cell → Type 0) (room : ℕ) (c : Cell) (cells : List Cell) → P c → AllByRecursion P cells → AllByRecursion P (with_cell room c cells)
 unfolding with_cell entered
@@ -149,7 +206,7 @@ Stands-told z rom region row a (Some c) s entry base x told h =
       is_region = h.is_region;
       core = h.core;
       placed = ArePlaced-with_cell region (cell_room z.rules) c s.cells told.placed h.placed;
-      free = h.free;
+      place = h.place;
       pairs = h.pairs;
       vals = AllByRecursion-with_cell (λ d. IsVal d.val) (cell_room z.rules) c s.cells told.val h.vals;
       items = h.items;
@@ -258,3 +315,20 @@ IsTold-taken o memory core c r b e = choose (is_some (Flags.condition_of o)) ref
     choose : (t : Bool) → is_some (Flags.condition_of o) ≡ t → IsTold b.cell (read_of o c)
     choose true h = plain_told b.cell (read_of o c) (conditional_read o c h)
     choose false h = subst (λ (cell : Option Cell). IsTold cell (read_of o c)) (sym (none_told (Flags.condition_of o) memory r _ b e h)) tt
+
+-- of what a side tells of a cell the same holds
+pub IsNoPop-outside : (region : Region) (cell : Option Cell) (o : Op) → IsNoPop cell o → IsNoPop (cell_outside region cell) o
+IsNoPop-outside region None o h = tt
+IsNoPop-outside region (Some c) o h = choose (meets region c.address c.address)
+  where
+    choose : (b : Bool) → IsNoPop (cond b None (Some c)) o
+    choose true = tt
+    choose false = h
+
+pub IsTold-outside : (region : Region) (cell : Option Cell) (what : AbsRead) → IsTold cell what → IsTold (cell_outside region cell) what
+IsTold-outside region None what h = tt
+IsTold-outside region (Some c) what h = choose (meets region c.address c.address)
+  where
+    choose : (b : Bool) → IsTold (cond b None (Some c)) what
+    choose true = tt
+    choose false = h

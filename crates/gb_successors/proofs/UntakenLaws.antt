@@ -105,6 +105,7 @@ pub untaken_executes :
     → Keeps s.core c → MeansCore c entry (begun row x) → AreRelated r (begun row x) → (effect rom row x reads).is_taken ≡ false
     → LeadsRelated z region ranges (simple_untaken row (behind_row a row) s c r) entry base x (outside (executed (within rom x) row reads))
     × IsSummarized (simple_untaken row (behind_row a row) s c r).state entry (outside (executed (within rom x) row reads)) × (row_faults (Some row) region (within rom x) reads ≡ no_faults)
+    × ((b : ℕ) → peek (outside (executed (within rom x) row reads)).storage b ≡ peek x.storage b)
 unfolding untaken ended
 untaken_executes z rom region ranges row a s entry base x reads c r stands runs mark keeps means related not_taken =
     let e = effect rom row x reads in
@@ -135,6 +136,7 @@ untaken_executes z rom region ranges row a s entry base x reads c r stands runs 
       faults_are rom region x row reads
           (no_load_faults (view rom x false) _ (sound.reads row.op (advanced x.processor row) v.low v.high not_taken))
           (no_store_faults region (view rom x false) e.write nothing),
+      subst (λ (y : MState). (b : ℕ) → peek y.storage b ≡ peek x.storage b) (sym is) (λ b. passed_peek (view rom x false) row.cycles_not_taken b),
     )
 
 -- ---- sides

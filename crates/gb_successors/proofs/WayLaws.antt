@@ -66,11 +66,14 @@ use Rattle.gb_successors.specs.declared.stacks.Stack.{Stack}
 use Rattle.gb_successors.specs.declared.successors.Successors.{Successors}
 use Rattle.gb_successors.specs.Behind.{starts, written, with_cell_if, ended}
 use Rattle.gb_successors.specs.Way.{Successor}
-use Rattle.gb_successors.specs.Successors.{word_in, related_successor, relations_behind, taken_successor, untaken_successor, with_product, reduced_successor, product_before, taken_from, not_taken_from, staying_successor, woken, may_stay, stays, successors_of, taken_parts, said_successor, summary_behind, memory_before, taken_move}
+use Rattle.gb_successors.specs.Successors.{word_in, related_successor, relations_behind, taken_successor, untaken_successor, with_product, reduced_successor, product_before, taken_by_side, not_taken_by_side, taken_from, not_taken_from, staying_successor, woken, may_stay, stays, successors_of, taken_parts, said_successor, summary_behind, memory_before, taken_move}
 use Rattle.gb_successors.specs.Summaries.{summary_by}
 use Rattle.gb_successors.specs.Sound.{bytes_behind, IsAllowed, Leads, LeadsSimply, LeadsParts, LeadsBy, IsHalt, IsHeld, IsStackKnown, Stands, IsRuled, IsStackRuled, Executes, AreSoundSuccessors}
 use Rattle.gb_successors.proofs.SimpleLaws.{behind_row, with_stack_of, simple_parts, IsTold, taken_simply}
-use Rattle.gb_successors.proofs.ToldLaws.{told_core, told_items, IsToldCell, IsToldCell-side, Stands-told, IsStackKnown-told, IsAllowed-told, IsTold-taken, IsVal-memory_before, held_before}
+use Rattle.gb_successors.proofs.ToldLaws.{told_core, told_items, IsToldCell, IsToldCell-side, Stands-told, IsStackKnown-told, IsAllowed-told, IsTold-outside, IsTold-taken, IsVal-memory_before, held_before}
+use Rattle.gb_successors.proofs.HoldingLaws.{settled_simply}
+use Rattle.gb_successors.specs.Settled.{branch_outside}
+use Rattle.gb_product.specs.Held.{stack_held}
 use Rattle.gb_successors.proofs.PlainLaws.{Keeps, Keeps-settle}
 use Rattle.gb_successors.proofs.MarkLaws.{executed_mark}
 use Rattle.gb_successors.proofs.SaidLaws.{Leads-summarized, Leads-said, IsAllowed-said}
@@ -99,24 +102,26 @@ unfolding reduced_successor
 whole_successor rules t h = ap (option_map (with_product t)) (reduced_simply rules t.state.core t.state.relations h)
 
 taken_way : (k : Stack) (program : Program) (rom : List ℕ) (row : Row) (a : ℕ) (s : AbsState) (b : Branch) → k.setting.rules ≡ Simple
-    → taken_side row.op (memory_before program s (product_of (core_settle s.core) s.relations)) (core_settle s.core) s.relations ≡ Some b
-    → (successors_of k program rom row a s).taken ≡ Some (taken_successor k program rom row (behind_row a row) s b)
+    → taken_side row.op (memory_before k program s (product_of (core_settle s.core) s.relations)) (core_settle s.core) s.relations ≡ Some b
+    → (successors_of k program rom row a s).taken ≡ Some (taken_successor k program rom row (behind_row a row) s (branch_outside k.region b))
 unfolding successors_of product_before
 taken_way k program rom row a s b h e =
     let next = behind_row a row in
     ap (option_and_then (taken_from k program rom row next s)) (reduced_simply k.setting.rules (core_settle s.core) s.relations h)
-    ∙ (ap (option_and_then (λ (c : Branch). reduced_successor k.setting.rules (taken_successor k program rom row next s c))) e
-    ∙ whole_successor k.setting.rules (taken_successor k program rom row next s b) h)
+    ∙ (ap (option_and_then (taken_by_side k program rom row next s)) e
+    ∙ (settled_simply k b.cell s.core (taken_successor k program rom row next s (branch_outside k.region b)) h
+    ∙ whole_successor k.setting.rules (taken_successor k program rom row next s (branch_outside k.region b)) h))
 
 untaken_way : (k : Stack) (program : Program) (rom : List ℕ) (row : Row) (a : ℕ) (s : AbsState) (b : Branch) → k.setting.rules ≡ Simple
-    → not_taken_side row.op (memory_before program s (product_of (core_settle s.core) s.relations)) (core_settle s.core) s.relations ≡ Some b
-    → (successors_of k program rom row a s).not_taken ≡ Some (untaken_successor k row (behind_row a row) s b)
+    → not_taken_side row.op (memory_before k program s (product_of (core_settle s.core) s.relations)) (core_settle s.core) s.relations ≡ Some b
+    → (successors_of k program rom row a s).not_taken ≡ Some (untaken_successor k row (behind_row a row) s (branch_outside k.region b))
 unfolding successors_of product_before
 untaken_way k program rom row a s b h e =
     let next = behind_row a row in
     ap (option_and_then (not_taken_from k program row next s)) (reduced_simply k.setting.rules (core_settle s.core) s.relations h)
-    ∙ (ap (option_and_then (λ (c : Branch). reduced_successor k.setting.rules (untaken_successor k row next s c))) e
-    ∙ whole_successor k.setting.rules (untaken_successor k row next s b) h)
+    ∙ (ap (option_and_then (not_taken_by_side k row next s)) e
+    ∙ (settled_simply k b.cell s.core (untaken_successor k row next s (branch_outside k.region b)) h
+    ∙ whole_successor k.setting.rules (untaken_successor k row next s (branch_outside k.region b)) h))
 
 -- the successor where it is taken, which says nothing of the whole program
 abbrev simple_related : Stack → Program → List ℕ → Row → ℕ → AbsState → Branch → Successor
@@ -179,7 +184,7 @@ Leads-behind k program rom ranges row a s entry base x reads b none taken relate
     Leads-said k.setting k.region ranges no_summary (simple_related k program rom row (behind_row a row) s b) entry base x y
     (sym (simple_none k.setting rom k.region row (behind_row a row) (with_cell_if k.setting b.cell s) b.core none))
     (Leads-taken k.setting rom k.region ranges row a (with_cell_if k.setting b.cell s) entry base x reads b.core taken led
-    (sp_bounds k.setting s) (word_in k program rom row.op s (product_of b.core b.relations)).low b.relations related)
+    (stack_held k.setting k.region (length s.items)) (sp_bounds k.setting s) (word_in k program rom row.op s (product_of b.core b.relations)).low b.relations related)
     (nothing_holds entry.program _ y.processor (peek y.storage) y.storage.banks)
 
 held_simply : (k : Stack) (program : Program) (rom : List ℕ) (row : Row) (a : ℕ) (s : AbsState) (t : Successor) → k.setting.rules ≡ Simple → length t.state.items ≤ bytes_behind row.op (length s.items) → IsHeld k.setting.rules k program rom row a s t
@@ -199,7 +204,7 @@ executes_simply k program rom row a s ranges entry base x reads simple of stands
     settled = core_settle s.core
 
     memory : Val
-    memory = memory_before program s (product_of settled s.relations)
+    memory = memory_before k program s (product_of settled s.relations)
 
     begins : MeansCore settled entry (begun row x)
     begins = begun_core row x s.core entry stands.means.parts.core
@@ -209,7 +214,7 @@ executes_simply k program rom row a s ranges entry base x reads simple of stands
 
     known : IsKnown memory s.relations entry (begun row x)
     known = record {
-      byte = held_before s (product_of settled s.relations) entry base x program of stands.means.parts stands.means.summary (values_begun row x (values_of settled.registers s.relations.pairs) (Holds-values settled s.relations entry (begun row x) begins related));
+      byte = held_before k s (product_of settled s.relations) entry base x program of stands.based stands.means.parts stands.means.summary (values_begun row x (values_of settled.registers s.relations.pairs) (Holds-values settled s.relations entry (begun row x) begins related));
       related = related;
     }
 
@@ -218,33 +223,34 @@ executes_simply k program rom row a s ranges entry base x reads simple of stands
     by_taken None e taken h = absurd h
     by_taken (Some b) e taken h =
         let is = side_facts _ b memory settled s.relations e (taken_side_cuts row.op memory settled s.relations _ refl) in
-        let told = with_cell_if k.setting b.cell s in
-        let cell : IfSome b.cell (IsToldCell k.region entry x) = IsToldCell-side k.region memory settled s.relations b entry x stands.free (IsVal-memory_before program s (product_of settled s.relations) stands.vals) is h.cell in
+        let o : Branch = branch_outside k.region b in
+        let told = with_cell_if k.setting o.cell s in
+        let cell : IfSome o.cell (IsToldCell k.region entry x) = IsToldCell-side k.setting k.region (length s.items) memory settled s.relations b entry x stands.place (IsVal-memory_before k program s (product_of settled s.relations) stands.items stands.vals) is h.cell in
         let t : IsTaken k.setting rom k.region ranges row a told entry base x reads b.core = record {
-          stands = Stands-told k.setting rom k.region row a b.cell s entry base x cell stands;
+          stands = Stands-told k.setting rom k.region row a o.cell s entry base x cell stands;
           rules = simple;
           operands = ruled.operands;
           runs = ruled.runs;
-          stack = IsStackKnown-told k.setting k.region row.op b.cell s base (stack_simply k program rom row a s base simple ruled);
+          stack = IsStackKnown-told k.setting k.region row.op o.cell s base (stack_simply k program rom row a s base simple ruled);
           mark = mark;
           byte = byte;
-          keeps = subst (λ c. Keeps c b.core) (sym (told_core k.setting b.cell s)) (keeps_side s.core settled memory s.relations b (Keeps-settle s.core) is);
+          keeps = subst (λ c. Keeps c b.core) (sym (told_core k.setting o.cell s)) (keeps_side s.core settled memory s.relations b (Keeps-settle s.core) is);
           means = h.core;
           core = is.inhabited (IsCore-settle s.core stands.core);
           taken = taken;
         } in
         let parts = simple_parts k.setting rom k.region row (behind_row a row) told b.core in
-        let done : IsAllowed k.setting rom k.region ranges s base (simple_taken k program rom row (behind_row a row) s b) → Done k.setting rom k.region ranges row told parts entry base x reads =
+        let done : IsAllowed k.setting rom k.region ranges s base (simple_taken k program rom row (behind_row a row) s o) → Done k.setting rom k.region ranges row told parts entry base x reads =
         λ allowed. taken_executes k.setting rom k.region ranges row a told entry base x reads b.core t
-        (IsAllowed-told k.setting rom k.region ranges b.cell s base parts
+        (IsAllowed-told k.setting rom k.region ranges o.cell s base parts
         (IsAllowed-parts k.setting rom k.region ranges s base (relations_behind k program rom row.op s (product_of b.core b.relations)) parts
-        (IsAllowed-said k.setting rom k.region ranges s base no_summary (simple_related k program rom row (behind_row a row) s b) allowed))) in
+        (IsAllowed-said k.setting rom k.region ranges s base no_summary (simple_related k program rom row (behind_row a row) s o) allowed))) in
         record {
-          successor = simple_taken k program rom row (behind_row a row) s b;
-          is_one = inl (taken_way k program rom row a s b simple e ∙ ap Some (taken_is k program rom row (behind_row a row) s b simple (IsTold-taken row.op memory settled b.core s.relations b e)));
+          successor = simple_taken k program rom row (behind_row a row) s o;
+          is_one = inl (taken_way k program rom row a s b simple e ∙ ap Some (taken_is k program rom row (behind_row a row) s o simple (IsTold-outside k.region b.cell (read_of row.op b.core) (IsTold-taken row.op memory settled b.core s.relations b e))));
           mark = executed_mark rom x row reads;
-          held = λ allowed. held_simply k program rom row a s (simple_taken k program rom row (behind_row a row) s b) simple (subst (λ items. length parts.state.items ≤ bytes_behind row.op (length items)) (told_items k.setting b.cell s) (done allowed).held);
-          leads = λ allowed. Leads-behind k program rom ranges row a s entry base x reads b (ap (λ (m : SummaryParts). m.aside) (told_summary k.setting b.cell s) ∙ stands.quiet simple) t h.related (done allowed).leads;
+          held = λ allowed. held_simply k program rom row a s (simple_taken k program rom row (behind_row a row) s o) simple (subst (λ items. length parts.state.items ≤ bytes_behind row.op (length items)) (told_items k.setting o.cell s) (done allowed).held);
+          leads = λ allowed. Leads-behind k program rom ranges row a s entry base x reads o (ap (λ (m : SummaryParts). m.aside) (told_summary k.setting o.cell s) ∙ stands.quiet simple) t h.related (done allowed).leads;
           faults = λ allowed. (done allowed).faults;
         }
 
@@ -253,15 +259,16 @@ executes_simply k program rom row a s ranges entry base x reads simple of stands
     by_not_taken None e not_taken h = absurd h
     by_not_taken (Some b) e not_taken h =
         let is = side_facts _ b memory settled s.relations e (not_taken_side_cuts row.op memory settled s.relations _ refl) in
-        let told = with_cell_if k.setting b.cell s in
-        let cell : IfSome b.cell (IsToldCell k.region entry x) = IsToldCell-side k.region memory settled s.relations b entry x stands.free (IsVal-memory_before program s (product_of settled s.relations) stands.vals) is h.cell in
-        let keeps : Keeps told.core b.core = subst (λ c. Keeps c b.core) (sym (told_core k.setting b.cell s)) (keeps_side s.core settled memory s.relations b (Keeps-settle s.core) is) in
-        let done = untaken_executes k.setting rom k.region ranges row a told entry base x reads b.core b.relations (Stands-told k.setting rom k.region row a b.cell s entry base x cell stands) ruled.runs mark keeps h.core h.related not_taken in
+        let o : Branch = branch_outside k.region b in
+        let told = with_cell_if k.setting o.cell s in
+        let cell : IfSome o.cell (IsToldCell k.region entry x) = IsToldCell-side k.setting k.region (length s.items) memory settled s.relations b entry x stands.place (IsVal-memory_before k program s (product_of settled s.relations) stands.items stands.vals) is h.cell in
+        let keeps : Keeps told.core b.core = subst (λ c. Keeps c b.core) (sym (told_core k.setting o.cell s)) (keeps_side s.core settled memory s.relations b (Keeps-settle s.core) is) in
+        let done = untaken_executes k.setting rom k.region ranges row a told entry base x reads b.core b.relations (Stands-told k.setting rom k.region row a o.cell s entry base x cell stands) ruled.runs mark keeps h.core h.related not_taken in
         record {
           successor = simple_untaken row (behind_row a row) told b.core b.relations;
-          is_one = inr (inl (untaken_way k program rom row a s b simple e ∙ ap Some (untaken_simply k row (behind_row a row) s b)));
+          is_one = inr (inl (untaken_way k program rom row a s b simple e ∙ ap Some (untaken_simply k row (behind_row a row) s o)));
           mark = executed_mark rom x row reads;
-          held = λ allowed. held_simply k program rom row a s (simple_untaken row (behind_row a row) told b.core b.relations) simple (subst (λ items. length (simple_untaken row (behind_row a row) told b.core b.relations).state.items ≤ bytes_behind row.op (length items)) (told_items k.setting b.cell s)
+          held = λ allowed. held_simply k program rom row a s (simple_untaken row (behind_row a row) told b.core b.relations) simple (subst (λ items. length (simple_untaken row (behind_row a row) told b.core b.relations).state.items ≤ bytes_behind row.op (length items)) (told_items k.setting o.cell s)
               (bytes_untaken row (behind_row a row) told b.core b.relations));
           leads = λ allowed. Leads-summarized k.setting k.region ranges (simple_untaken row (behind_row a row) told b.core b.relations) entry base x (outside (executed (within rom x) row reads)) done.0 done.1;
           faults = λ allowed. done.2;
@@ -377,7 +384,7 @@ halt_related :
     → AreRelated (relations_behind k program rom row.op s (product_of (core_settle s.core) s.relations)) y
 unfolding relations_behind compared_after comparison_of writes_a writes_flags written_registers
 halt_related k program rom row a s entry base x y simple stands halt registers flags =
-    by_rules k.setting.rules k.setting.is_whole k.region row.op _ _ _ s.relations _ _ _ simple
+    by_rules k.setting.rules k.setting.is_whole (stack_held k.setting k.region (length s.items)) row.op _ _ _ s.relations _ _ _ simple
     (subst (λ (o : Op). HoldOneByte (compared_after o s.relations.byte) y.processor.registers (peek y.storage) y.processor.flags) (sym halt.op_is)
     (HoldOneByte-only_of_a s.relations.byte x.processor.registers y.processor.registers (peek x.storage) (peek y.storage) x.processor.flags y.processor.flags
     (ap (λ (r : Registers ℕ). r.a) registers) flags stands.means.related.byte))
@@ -407,7 +414,7 @@ halt_repeats_simply k program rom row a s ranges entry base x simple stands halt
     }) in
     record {
       successor = simple_taken k program rom row (behind_row a row) s b;
-      is_way = taken_way k program rom row a s b simple (halt_side row (memory_before program s (product_of c s.relations)) c s.relations halt.op_is) ∙ ap Some (taken_is k program rom row (behind_row a row) s b simple tt);
+      is_way = taken_way k program rom row a s b simple (halt_side row (memory_before k program s (product_of c s.relations)) c s.relations halt.op_is) ∙ ap Some (taken_is k program rom row (behind_row a row) s b simple tt);
       held = subst (λ (u : AbsState). length u.items ≤ length s.items) (sym (halt_state k.setting rom k.region row a s c halt)) (bytes_ended 1 (with_core s c));
       leads = Leads-said k.setting k.region ranges no_summary (related_successor (relations_behind k program rom row.op s (product_of c s.relations)) t) entry base x y
           (sym (simple_none k.setting rom k.region row (behind_row a row) s c (stands.quiet simple)))

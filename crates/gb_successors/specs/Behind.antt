@@ -16,11 +16,13 @@ use Rattle.gb_product.specs.Below.gb_abs_effects.declared.writes.AbsWrite.{AbsWr
 use Rattle.gb_product.specs.Below.gb_abs_effects.declared.writes.AbsWrite.TheVariants as write
 use Rattle.gb_abs_memory.specs.declared.store.Area.{Area}
 use Rattle.gb_abs_memory.specs.declared.store.Area.TheVariants as area
+use Rattle.gb_abs_memory.specs.Items.{items_stored}
 use Rattle.gb_abs_memory.specs.Access.{area_of, stored_state, stored_core, starts_oam_transfer}
 use Rattle.gb_successors.specs.declared.stacks.Stack.{Stack}
 use Rattle.gb_successors.specs.declared.stacks.StackMove.{StackMove}
 use Rattle.gb_successors.specs.declared.stacks.StackMove.TheVariants as move
 use Rattle.gb_successors.specs.declared.way.Moved.{Moved}
+use Rattle.gb_successors.specs.declared.way.Told.{Told}
 use Rattle.gb_successors.specs.Stacks.{with_stack_moved, moved_core}
 
 -- ---- writes
@@ -95,6 +97,11 @@ moved_state k kind cell m what s =
 abbrev pub moved_by : Option Moved → AbsWrite → AbsState → AbsState
 moved_by None what s = s
 moved_by (Some m) what s = moved_state m.stack m.kind m.cell m.stack_move what s
+
+-- what a side tells of an item is known of the states behind; the core is that before
+abbrev pub told_behind : Option Told → Core → AbsState → AbsState
+told_behind None core s = s
+told_behind (Some t) core s = record s { items = items_stored t.setting t.region (one t.cell.address) t.cell.val core s.items }
 
 abbrev pub state_behind : Option Moved → AbsWrite → Core → Relations → Option SummaryParts → AbsState → AbsState
 state_behind m what core r said s = with_summary (summary_or said s.summary) (with_relations r (with_core (moved_by m what s) core))

@@ -7,6 +7,7 @@ pub mod StackMark
 pub mod Refined
 pub mod Loads
 pub mod Behind
+pub mod Settled
 pub mod Summaries
 pub mod Successors
 pub mod Refused

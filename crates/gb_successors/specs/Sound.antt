@@ -36,7 +36,8 @@ use Rattle.gb_product.specs.Below.gb_abs_effects.Sound.{HasBytes}
 use Rattle.gb_product.specs.Below.gb_abs_effects.Targets.{moves_sp, is_push, is_pop, is_call, is_return}
 use Rattle.gb_abs_memory.specs.Kept.{IsKept}
 use Rattle.gb_abs_memory.specs.Sound.{IsRom, AreVals}
-use Rattle.gb_product.specs.Below.gb_relations.Sound.{IsByteFree}
+use Rattle.gb_product.specs.Below.gb_relations.Sound.{IsBytePlaced}
+use Rattle.gb_product.specs.Held.{stack_held}
 use Rattle.gb_product.specs.declared.parts.Product.{Product}
 use Rattle.gb_product.specs.Meaning.{AreRelated, IsSummarized, Means}
 use Rattle.gb_abs_memory.specs.Windows.{known_kind}
@@ -264,7 +265,7 @@ pub record Stands (z : Setting) (rom : List ℕ) (region : Region) (row : Row) (
   pub is_region : IsRegion region
   pub core : IsCore s.core
   pub placed : ArePlaced region s.cells
-  pub free : IsByteFree region s.relations.byte.address
+  pub place : IsBytePlaced (stack_held z region (length s.items)) s.relations.byte.address
   pub pairs : ArePairs s.relations.pairs
   pub vals : AreVals s.cells
   pub items : AllByRecursion IsVal s.items

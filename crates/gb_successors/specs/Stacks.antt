@@ -186,6 +186,18 @@ with_stack_moved z move.Lost s = s
 abbrev pub core_set : Core → Core
 core_set core = record core { stack_set = true }
 
+-- how many of so many items are held then, as far as there is room
+abbrev pub in_room : Rules → ℕ → ℕ → ℕ
+in_room rules more count = if nat_lt (item_room rules) more then count else more
+
+abbrev pub count_behind : Rules → StackMove → ℕ → ℕ
+count_behind rules (move.Push w) count = in_room rules (count + 2) count
+count_behind rules (move.Take n) count = count - n
+count_behind rules (move.Append n) count = in_room rules (count + n) count
+count_behind rules (move.Set n) count = in_room rules n count
+count_behind rules (move.Restart n) count = in_room rules n 0
+count_behind rules _ count = count
+
 -- what it makes of the core
 unfoldable pub moved_core : StackMove → Core → Core
 moved_core (move.Set n) core = core_set core

@@ -1,5 +1,5 @@
 -- The possible successors of an instruction (abstract interpretation: abstract semantics; own).
-use Rattle.std.specs.Prelude.{ℕ, ◌+◌, ◌%◌, Bool, true, false, ◌&&◌, ◌||◌, if◌then◌else◌, List, Option, Some, None, option_map, option_and_then}
+use Rattle.std.specs.Prelude.{ℕ, ◌+◌, ◌%◌, Bool, true, false, ◌&&◌, ◌||◌, if◌then◌else◌, List, length, Option, Some, None, option_map, option_and_then}
 use Rattle.gb_ops.specs.declared.op.Op.{Op}
 use Rattle.gb_ops.specs.declared.op.Op.TheVariants as op
 use Rattle.gb_ops.specs.declared.op.Row.{Row}
@@ -9,13 +9,14 @@ use Rattle.gb_domain.specs.declared.low_bits.LowBits.{LowBits}
 use Rattle.gb_domain.specs.declared.pairs.Bounds.{Bounds}
 use Rattle.gb_domain.specs.declared.relations.Relations.{Relations}
 use Rattle.gb_domain.specs.declared.rules.Rules.{Rules}
+use Rattle.gb_domain.specs.declared.setting.Setting.{Setting}
 use Rattle.gb_domain.specs.declared.types.Cell.{Cell}
 use Rattle.gb_domain.specs.declared.types.Core.{Core}
 use Rattle.gb_domain.specs.declared.types.Halves.{Halves}
 use Rattle.gb_domain.specs.Summaries.{SummaryParts, Program}
 use Rattle.gb_domain.specs.Types.{AbsState}
 use Rattle.gb_product.specs.Below.gb_vals.Bits.{may_enable}
-use Rattle.gb_product.specs.Below.gb_abs.Located.{sp_halves, sp_bounds}
+use Rattle.gb_product.specs.Below.gb_abs.Located.{item_at, sp_halves, sp_bounds}
 use Rattle.gb_product.specs.Below.gb_abs.Operations.{core_settle, with_core}
 use Rattle.gb_product.specs.Below.gb_abs_effects.declared.reads.AbsRead.{AbsRead}
 use Rattle.gb_product.specs.Below.gb_abs_effects.declared.reads.AbsRead.TheVariants as read
@@ -31,12 +32,15 @@ use Rattle.gb_successors.specs.declared.stacks.Stack.{Stack}
 use Rattle.gb_successors.specs.declared.stacks.StackMove.{StackMove}
 use Rattle.gb_product.specs.declared.parts.Branch.{Branch}
 use Rattle.gb_product.specs.declared.parts.Product.{Product}
+use Rattle.gb_product.specs.Held.{stack_held}
 use Rattle.gb_product.specs.Reduced.{product_of, reduced}
 use Rattle.gb_product.specs.Sides.{memory_of, taken_side, not_taken_side}
 use Rattle.gb_product.specs.Below.gb_relations.PointedBits.{known_bits}
 use Rattle.gb_product.specs.Below.gb_relations.Pointers.{pointer_bounds, known_carry}
 use Rattle.gb_product.specs.Below.gb_relations.Transfer.{relations_after, values_of}
 use Rattle.gb_successors.specs.Behind.{ended, with_relations, with_summary, with_cell_if, moved_state, core_behind}
+use Rattle.gb_abs_memory.specs.Access.{item_or}
+use Rattle.gb_successors.specs.Settled.{branch_outside, told_by, told_successor, held_way}
 use Rattle.gb_successors.specs.StackMark.{marks, marked}
 use Rattle.gb_successors.specs.Refined.{cut_read, read_around, refined, refined_target}
 use Rattle.gb_successors.specs.Stacks.{around_of, stack_move}
@@ -98,7 +102,8 @@ related_successor r t = record t { state = with_relations r t.state }
 -- what is known together behind it
 unfoldable pub relations_behind : Stack → Program → List ℕ → Op → AbsState → Product → Relations
 relations_behind k program rom o s p =
-    relations_after k.setting.rules k.setting.is_whole k.region o (sp_bounds k.setting s) p.core.registers (word_in k program rom o s p).low p.relations
+    relations_after k.setting.rules k.setting.is_whole (stack_held k.setting k.region (length s.items)) o (sp_bounds k.setting s) p.core.registers
+    (word_in k program rom o s p).low p.relations
 
 -- the same states, which say something else of the whole program
 abbrev pub said_successor : SummaryParts → Successor → Successor
@@ -158,17 +163,36 @@ stays row a s = if may_stay row.op s.core then Some (staying_successor a s) else
 unfoldable pub product_before : Rules → AbsState → Option Product
 product_before rules s = reduced rules (core_settle s.core) s.relations
 
--- what is known of the byte at the address among the places
-abbrev pub memory_before : Program → AbsState → Product → Val
-memory_before program s p = memory_of program (values_of p.core.registers p.relations.pairs) s.cells s.summary p.relations.byte.address
+-- the item at the address among the places, by the rules of version 4
+abbrev pub item_of : Setting → AbsState → Option ℕ → Option Val
+item_of z s None = None
+item_of z s (Some a) = if z.is_whole then item_at z s a else None
+
+-- what is known of the byte at that address
+abbrev pub memory_before : Stack → Program → AbsState → Product → Val
+memory_before k program s p =
+    item_or (item_of k.setting s p.relations.byte.address)
+    (memory_of program (values_of p.core.registers p.relations.pairs) s.cells s.summary p.relations.byte.address)
+
+-- of a side, which may tell of an item: reduced, and with the places that are left
+unfoldable pub settled_way : Stack → Option Cell → Core → Successor → Option Successor
+settled_way k cell core t =
+    held_way k.setting.rules k (reduced_successor k.setting.rules (told_successor (told_by k.setting.rules k cell) core t))
+
+abbrev pub taken_by_side : Stack → Program → List ℕ → Row → ℕ → AbsState → Branch → Option Successor
+taken_by_side k program rom row next s b =
+    settled_way k b.cell s.core (taken_successor k program rom row next s (branch_outside k.region b))
+
+abbrev pub not_taken_by_side : Stack → Row → ℕ → AbsState → Branch → Option Successor
+not_taken_by_side k row next s b = settled_way k b.cell s.core (untaken_successor k row next s (branch_outside k.region b))
 
 abbrev pub taken_from : Stack → Program → List ℕ → Row → ℕ → AbsState → Product → Option Successor
 taken_from k program rom row next s p =
-    option_and_then (λ b. reduced_successor k.setting.rules (taken_successor k program rom row next s b)) (taken_side row.op (memory_before program s p) p.core p.relations)
+    option_and_then (taken_by_side k program rom row next s) (taken_side row.op (memory_before k program s p) p.core p.relations)
 
 abbrev pub not_taken_from : Stack → Program → Row → ℕ → AbsState → Product → Option Successor
 not_taken_from k program row next s p =
-    option_and_then (λ b. reduced_successor k.setting.rules (untaken_successor k row next s b)) (not_taken_side row.op (memory_before program s p) p.core p.relations)
+    option_and_then (not_taken_by_side k row next s) (not_taken_side row.op (memory_before k program s p) p.core p.relations)
 
 -- each of the possible successors of the instruction at an address
 abbrev pub way_taken : Stack → Program → List ℕ → Row → ℕ → AbsState → Option Successor

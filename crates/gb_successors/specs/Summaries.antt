@@ -20,6 +20,7 @@ use Rattle.gb_product.specs.Below.gb_summaries.Instruction.{summary_after}
 use Rattle.gb_product.specs.Below.gb_abs.Located.{sp_bounds}
 use Rattle.gb_product.specs.Below.gb_abs_effects.declared.writes.AbsWrite.{AbsWrite}
 use Rattle.gb_product.specs.Below.gb_abs_effects.declared.writes.AbsWrite.TheVariants as write
+use Rattle.gb_product.specs.Below.gb_relations.Items.{places_outside}
 use Rattle.gb_product.specs.Below.gb_relations.Transfer.{values_of}
 pub use Rattle.gb_product.specs.Below.gb_relations.PointedBits.{pointed_bits}
 use Rattle.gb_product.specs.declared.parts.Product.{Product}
@@ -57,13 +58,13 @@ with_aside b s = record s { aside = b }
 
 -- ---- behind it
 
--- what is said where it is taken, by what is known before it, the stack's move, what it writes, and the cells that are there then; by the
--- rules of versions 1 and 2 nothing is
+-- what is said where it is taken, by what is known before it, the stack's move, what it writes, and the cells that are there then; an
+-- item is no place of the controller; by the rules of versions 1 and 2 nothing is said
 unfoldable pub summary_by : Rules → Stack → Program → Op → AbsState → Product → StackMove → AbsWrite → List Cell → SummaryParts
 summary_by Simple k program o s p m what cells = no_summary
 summary_by Extended k program o s p m what cells =
     with_aside (aside_behind m s.summary.aside)
-    (summary_after program k.region cells o (sp_bounds k.setting s) (values_of p.core.registers p.relations.pairs) p.relations.byte
+    (summary_after program k.region cells o (sp_bounds k.setting s) (values_of p.core.registers p.relations.pairs) (places_outside k.region p.relations.byte)
     (stored_by o p.core.registers what) (with_aside None s.summary))
 
 -- ---- silence

@@ -19,6 +19,7 @@ ghost use Rattle.gb_successors.specs.Loads as Loads;
 ghost use Rattle.gb_successors.specs.Summaries as Summaries;
 
 use crate::stacks::Stack;
+use crate::way::Told;
 use gb_abs_memory::load::{home_of, is_table, loaded_by};
 use gb_abs_memory::shown::known_bank;
 use gb_abs_memory::{Rom, is_ram, item_at};
@@ -49,6 +50,8 @@ pub(crate) struct TakenSide<'w, 'a> {
     pub(crate) core: &'w Core,
     pub(crate) relations: &'w Relations,
     pub(crate) cell: &'w Option<Cell>,
+    /// What the side tells of an item.
+    pub(crate) told: Option<Told>,
 }
 
 impl<'w, 'a> TakenSide<'w, 'a> {

@@ -21,7 +21,8 @@ use gb_ops::machine::Kind;
 use gb_ops::op::{Op, Pair};
 use gb_ops::registers::Registers;
 use gb_product::{
-    AbsWrite, AddressSet, InstructionStore, Program, Values, pointed_bits, sp_bounds, summary_after,
+    AbsWrite, AddressSet, InstructionStore, Program, Values, places_outside, pointed_bits,
+    sp_bounds, summary_after,
 };
 
 /// What an instruction stores, and where it may.
@@ -88,7 +89,7 @@ fn summary_with(
         op,
         sp_bounds(stack.setting, state),
         &values,
-        &relations.byte,
+        &places_outside(stack.region, &relations.byte),
         stored_by(op, &core.registers, write),
         &with_aside(state.summary(), None),
     );

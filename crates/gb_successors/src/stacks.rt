@@ -1,21 +1,23 @@
 //! What an instruction does to the stack.
 
-ghost use Rattle.std.specs.Prelude.{◌≡◌, Some, None};
+ghost use Rattle.std.specs.Prelude.{◌≡◌, ◌≤◌, Some, None, length};
 ghost use Rattle.gb_domain.specs.declared.rules.Rules.TheVariants.{Extended};
 ghost use Rattle.gb_product.specs.Below.gb_abs.Bytes as Bytes;
 ghost use Rattle.gb_product.specs.Below.gb_abs.Meaning as Located;
 ghost use Rattle.gb_product.specs.Below.gb_abs.Origins as Origins;
+ghost use Rattle.gb_product.specs.Held.{stack_held};
 ghost use Rattle.gb_successors.specs.Stacks as Stacks;
 
 use arrayvec::ArrayVec;
 use gb_domain::pairs::{ANY_BOUNDS, Bounds};
+use gb_domain::places::StackBytes;
 use gb_domain::summary::Summary;
 use gb_domain::types::{Abs, Core, Halves, ImeSet, Origin, Rules, Setting, Val};
 use gb_ops::machine::Region;
 use gb_ops::op::{Op, Pair};
 use gb_ops::registers::Registers;
 use gb_product::{
-    AbsWrite, append_bytes, cells_without_origins, core_without_origins, is_own, resize,
+    AbsWrite, append_bytes, cells_without_origins, core_without_origins, is_own, resize, stack_held,
 };
 
 /// Where the states of a procedure stand, and how much it may have on the stack.
@@ -78,6 +80,13 @@ pub fn is_located(state: &Abs) -> bool
         None => state.core().stack_set,
         Some(_) => false,
     }
+}
+
+/// The stack with the items of states, which may be places.
+pub(crate) fn held_of(setting: Setting, region: Region, state: &Abs) -> StackBytes
+    ensures { result ≡ stack_held setting region (length state.now.items) }
+{
+    stack_held(setting, region, state.items().len() as u8)
 }
 
 /// Whether HL is the address of the mark.
@@ -326,6 +335,35 @@ pub fn stack_move(
             extended(rules, StackMove::Take(2))
         }
         _ => StackMove::Stay,
+    }
+}
+
+#[tactic(auto, unfolding(gb_domain::specs::Limits::item_room))]
+fn in_room(rules: Rules, more: usize, count: usize) -> usize
+    requires { count ≤ 255 }
+    ensures exact { result ≡ Stacks.in_room rules more count }
+    ensures few { result ≤ 255 }
+{
+    if more > rules.item_room() {
+        count
+    } else {
+        more
+    }
+}
+
+/// How many of so many items are held behind a move, as far as there is room.
+pub(crate) fn count_behind(rules: Rules, stack_move: StackMove, count: usize) -> usize
+    requires { count ≤ 255 }
+    ensures exact { result ≡ Stacks.count_behind rules stack_move count }
+    ensures few { result ≤ 255 }
+{
+    match stack_move {
+        StackMove::Push(_) => in_room(rules, count + 2, count),
+        StackMove::Take(less) => count.saturating_sub(usize::from(less)),
+        StackMove::Append(more) => in_room(rules, count + usize::from(more), count),
+        StackMove::Set(held) => in_room(rules, usize::from(held), count),
+        StackMove::Restart(held) => in_room(rules, usize::from(held), 0),
+        StackMove::Stay | StackMove::Aside(_) | StackMove::Lost => count,
     }
 }
 

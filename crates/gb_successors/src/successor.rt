@@ -8,15 +8,17 @@ ghost use Rattle.gb_product.specs.Below.gb_abs_effects.declared.targets.Target.T
 ghost use Rattle.gb_product.specs.Below.gb_abs_effects.declared.writes.AbsWrite.TheVariants.{Nothing};
 ghost use Rattle.gb_successors.specs.declared.stacks.StackMove.TheVariants.{Stay};
 ghost use Rattle.gb_successors.specs.Behind as Behind;
-ghost use Rattle.gb_successors.specs.Behind.{state_behind};
+ghost use Rattle.gb_successors.specs.Behind.{state_behind, told_behind};
+ghost use Rattle.gb_successors.specs.Settled as Settled;
+ghost use Rattle.gb_successors.specs.Settled.{told_successor};
 ghost use Rattle.gb_successors.specs.Successors as Succession;
 
 use crate::loads::{TakenSide, read_word};
 use crate::refined::{cut_read, read_around, refine, refined_target};
 use crate::said::summary_behind;
 use crate::stack_mark::{mark, marks};
-use crate::stacks::{Stack, StackMove, around_of, move_core, stack_move};
-pub use crate::way::{Moved, Successor};
+use crate::stacks::{Stack, StackMove, around_of, held_of, move_core, stack_move};
+pub use crate::way::{Moved, Successor, Told};
 use gb_abs_memory::Rom;
 use gb_abs_memory::store::{Area, area_of, starts_oam_transfer, store_in_core};
 use gb_domain::pairs::Bounds;
@@ -134,6 +136,17 @@ fn end_core(
     pass(starts(write), cycles, core);
 }
 
+/// Where main begins anew nothing is told of an item.
+fn told_at_target(target: Target, told: Option<Told>) -> Option<Told>
+    ensures { result ≡ Settled.told_at_target target told }
+{
+    match (target, told) {
+        (_, None) => None,
+        (Target::Main(_), Some(_)) => None,
+        (_, Some(told)) => Some(told),
+    }
+}
+
 /// The bounds of an address that an instruction takes from a pair.
 pub fn pointer_in(stack: Stack, op: Op, product: &Product) -> Option<Bounds>
     ensures { result ≡ Succession.pointer_in stack op product.now }
@@ -156,7 +169,7 @@ fn successor_by<'a>(
 ) -> Successor<'a>
     requires own { taken.now.stack.now.setting.rules ≡ rules }
     requires before { effect.old ≡ Transfer.quiet taken.now.core.now }
-    ensures { result ≡ Succession.taken_successor taken.now.stack.now taken.now.program.now taken.now.rom.now taken.now.row.now taken.now.next taken.now.state.now (record { core = taken.now.core.now; relations = taken.now.relations.now; cell = taken.now.cell.now }) }
+    ensures { result ≡ told_successor taken.now.told taken.now.state.now.core (Succession.taken_successor taken.now.stack.now taken.now.program.now taken.now.rom.now taken.now.row.now taken.now.next taken.now.state.now (record { core = taken.now.core.now; relations = taken.now.relations.now; cell = taken.now.cell.now })) }
 {
     let (stack, state) = (taken.stack, taken.state);
     let (core, relations) = (taken.core, taken.relations);
@@ -206,7 +219,7 @@ fn successor_by<'a>(
     let relations = relations_after(
         rules,
         setting.is_whole,
-        stack.region,
+        held_of(setting, stack.region, state),
         op,
         sp,
         &core.registers,
@@ -230,6 +243,7 @@ fn successor_by<'a>(
         relations,
         moved,
         summary,
+        told: told_at_target(target, taken.told),
         before: state,
     }
 }
@@ -238,7 +252,7 @@ fn successor_by<'a>(
 #[inline(never)]
 fn simple_successor<'a>(taken: &TakenSide<'_, 'a>) -> Successor<'a>
     requires { taken.now.stack.now.setting.rules ≡ Simple }
-    ensures { result ≡ Succession.taken_successor taken.now.stack.now taken.now.program.now taken.now.rom.now taken.now.row.now taken.now.next taken.now.state.now (record { core = taken.now.core.now; relations = taken.now.relations.now; cell = taken.now.cell.now }) }
+    ensures { result ≡ told_successor taken.now.told taken.now.state.now.core (Succession.taken_successor taken.now.stack.now taken.now.program.now taken.now.rom.now taken.now.row.now taken.now.next taken.now.state.now (record { core = taken.now.core.now; relations = taken.now.relations.now; cell = taken.now.cell.now })) }
 {
     let mut effect = quiet(taken.core);
     successor_by(Rules::Simple, taken, &mut effect)
@@ -248,7 +262,7 @@ fn simple_successor<'a>(taken: &TakenSide<'_, 'a>) -> Successor<'a>
 #[inline(never)]
 fn extended_successor<'a>(taken: &TakenSide<'_, 'a>) -> Successor<'a>
     requires { taken.now.stack.now.setting.rules ≡ Extended }
-    ensures { result ≡ Succession.taken_successor taken.now.stack.now taken.now.program.now taken.now.rom.now taken.now.row.now taken.now.next taken.now.state.now (record { core = taken.now.core.now; relations = taken.now.relations.now; cell = taken.now.cell.now }) }
+    ensures { result ≡ told_successor taken.now.told taken.now.state.now.core (Succession.taken_successor taken.now.stack.now taken.now.program.now taken.now.rom.now taken.now.row.now taken.now.next taken.now.state.now (record { core = taken.now.core.now; relations = taken.now.relations.now; cell = taken.now.cell.now })) }
 {
     let mut effect = quiet(taken.core);
     successor_by(Rules::Extended, taken, &mut effect)
@@ -267,8 +281,9 @@ pub fn taken_successor<'a>(
     core: &Core,
     relations: &Relations,
     cell: &Option<Cell>,
+    told: Option<Told>,
 ) -> Successor<'a>
-    ensures { result ≡ Succession.taken_successor stack.now program.now rom.now row.now next state.now (record { core = core.now; relations = relations.now; cell = cell.now }) }
+    ensures { result ≡ told_successor told state.now.core (Succession.taken_successor stack.now program.now rom.now row.now next state.now (record { core = core.now; relations = relations.now; cell = cell.now })) }
 {
     let taken = TakenSide {
         stack,
@@ -280,6 +295,7 @@ pub fn taken_successor<'a>(
         core,
         relations,
         cell,
+        told,
     };
     match stack.setting.rules {
         Rules::Simple => simple_successor(&taken),
@@ -301,9 +317,10 @@ fn idle_successor<'a>(
     core: Core,
     relations: Relations,
     moved: Option<Moved>,
+    told: Option<Told>,
     state: &'a Abs,
 ) -> Successor<'a>
-    ensures { result ≡ record { read = reads.Nothing; write = Nothing; target = At address; next = address; state = state_behind moved Nothing core relations None state.now } }
+    ensures { result ≡ record { read = reads.Nothing; write = Nothing; target = At address; next = address; state = told_behind told state.now.core (state_behind moved Nothing core relations None state.now) } }
 {
     Successor {
         read: AbsRead::Nothing,
@@ -314,6 +331,7 @@ fn idle_successor<'a>(
         relations,
         moved,
         summary: None,
+        told,
         before: state,
     }
 }
@@ -327,12 +345,14 @@ pub fn untaken_successor<'a>(
     next: u16,
     state: &'a Abs,
     side: &Branch,
+    told: Option<Told>,
 ) -> Successor<'a>
-    ensures { result ≡ Succession.untaken_successor stack row next state.now side.now }
+    ensures { result ≡ told_successor told state.now.core (Succession.untaken_successor stack row next state.now side.now) }
 {
     let core = end(false, row.cycles_not_taken, &side.core);
     let moved = cell_alone(stack, kind, side.cell);
-    idle_successor(next, core, side.relations, moved, state)
+    let told = told_at_target(Target::At(next), told);
+    idle_successor(next, core, side.relations, moved, told, state)
 }
 
 /// The successor where the processor stays on HALT, and interrupts become on.
@@ -353,6 +373,7 @@ pub fn staying_successor(address: u16, state: &Abs) -> Successor<'_>
         address,
         end(false, 1, &woken),
         *state.relations(),
+        None,
         None,
         state,
     )

@@ -5,15 +5,19 @@ ghost use Rattle.gb_domain.specs.declared.relations.Relations.{Relations};
 ghost use Rattle.gb_domain.specs.declared.types.Core.{Core};
 ghost use Rattle.gb_domain.specs.declared.types.Val.{Val};
 ghost use Rattle.gb_product.specs.Sides.{taken_side, not_taken_side};
+ghost use Rattle.gb_domain.specs.Areas.{meets};
+ghost use Rattle.gb_successors.specs.Settled as Settled;
+ghost use Rattle.gb_successors.specs.Settled.{told_successor, held_way};
 ghost use Rattle.gb_successors.specs.Successors as Succession;
 ghost use Rattle.gb_successors.specs.Sound.{AreSoundSuccessors};
 ghost use Rattle.gb_product.specs.Reduced.{product_of};
 
 use crate::stacks::Stack;
-use crate::successor::{Successor, staying_successor, taken_successor, untaken_successor};
-use gb_abs_memory::Rom;
+use crate::successor::{Successor, Told, staying_successor, taken_successor, untaken_successor};
+use gb_abs_memory::{Rom, item_at};
 use gb_domain::relations::Relations;
-use gb_domain::types::{Abs, Core, Rules, Val};
+use gb_domain::types::{Abs, Cell, Core, Rules, Setting, Val};
+use gb_ops::machine::Region;
 use gb_ops::op::{Op, Row};
 use gb_product::parts::{Branch, Product};
 use gb_product::reduced::reduced;
@@ -82,26 +86,101 @@ pub fn has_condition(op: Op) -> bool
     condition_of(op).is_some()
 }
 
+/// The item at the address among the places, by the rules of version 4.
+#[tactic(auto, unfolding(crate::specs::Opened::item_at))]
+fn item_of(setting: Setting, state: &Abs, address: Option<u16>) -> Option<Val>
+    ensures { result ≡ Succession.item_of setting state.now address }
+{
+    match address {
+        Some(address) if setting.is_whole => item_at(setting, state.core(), state, address),
+        _ => None,
+    }
+}
+
 /// What is known of the byte at the address among the places.
-pub fn memory_before(program: &Program<'_>, state: &Abs, core: &Core, relations: &Relations) -> Val
-    ensures { result ≡ Succession.memory_before program.now state.now (product_of core.now relations.now) }
+pub fn memory_before(
+    stack: &Stack,
+    program: &Program<'_>,
+    state: &Abs,
+    core: &Core,
+    relations: &Relations,
+) -> Val
+    ensures { result ≡ Succession.memory_before stack.now program.now state.now (product_of core.now relations.now) }
 {
     let values = Values {
         registers: core.registers,
         pairs: relations.pairs,
     };
     let address = relations.byte.address;
-    memory_of(program, &values, state.cells(), state.summary(), address)
+    match item_of(stack.setting, state, address) {
+        Some(item) => item,
+        None => memory_of(program, &values, state.cells(), state.summary(), address),
+    }
+}
+
+/// Of places in the stack those are left that are items still, by the rules of version 4.
+fn hold<'a>(stack: &Stack, successor: &mut Successor<'a>)
+    ensures { Some successor.new ≡ held_way stack.now.setting.rules stack.now (Some successor.old) }
+{
+    match stack.setting.rules {
+        Rules::Simple => {}
+        Rules::Extended => successor.hold(stack),
+    }
+}
+
+/// A successor is reduced, and of the places in the stack those are left that are items still; whether something is meant by it.
+#[inline(always)]
+pub fn settle_way<'a>(stack: &Stack, successor: &mut Successor<'a>) -> bool
+    ensures { held_way stack.now.setting.rules stack.now (Succession.reduced_successor stack.now.setting.rules successor.old) ≡ Succession.some_if result successor.new }
+{
+    if successor.reduce(stack.setting.rules) {
+        hold(stack, successor);
+        true
+    } else {
+        false
+    }
 }
 
 /// A successor is reduced and put in the place of none, where something is meant by it.
-fn put_reduced<'a>(rules: Rules, successor: Successor<'a>, way: &mut Option<Successor<'a>>)
+fn put_reduced<'a>(stack: &Stack, successor: Successor<'a>, way: &mut Option<Successor<'a>>)
     requires { way.old ≡ None }
-    ensures { way.new ≡ Succession.reduced_successor rules successor.entry }
+    ensures { way.new ≡ held_way stack.now.setting.rules stack.now (Succession.reduced_successor stack.now.setting.rules successor.entry) }
 {
     let mut successor = successor;
-    if successor.reduce(rules) {
+    if settle_way(stack, &mut successor) {
         *way = Some(successor);
+    }
+}
+
+/// Whether a side tells of the stack.
+fn is_inside(region: Region, cell: &Cell) -> bool
+    ensures { result ≡ meets region cell.now.address cell.now.address }
+{
+    cell.address <= region.last && region.first <= cell.address
+}
+
+/// What a side tells of a cell outside the stack region.
+fn cell_outside(region: Region, cell: &Option<Cell>) -> Option<Cell>
+    ensures { result ≡ Settled.cell_outside region cell.now }
+{
+    match cell {
+        Some(cell) if !is_inside(region, cell) => Some(*cell),
+        _ => None,
+    }
+}
+
+/// What a side tells of an item. By the rules of versions 1 and 2 no item is known by its address.
+fn told_by(stack: &Stack, cell: &Option<Cell>) -> Option<Told>
+    ensures { result ≡ Settled.told_by stack.now.setting.rules stack.now cell.now }
+{
+    let cell = cell.as_ref()?;
+    match stack.setting.rules {
+        Rules::Extended if is_inside(stack.region, cell) => Some(Told {
+            setting: stack.setting,
+            region: stack.region,
+            cell: *cell,
+        }),
+        _ => None,
     }
 }
 
@@ -116,15 +195,37 @@ pub fn side_successor<'a>(
     state: &'a Abs,
     side: &Branch,
 ) -> Successor<'a>
-    ensures { result ≡ Succession.taken_successor stack program.now rom.now row next state.now side.now }
+    ensures { result ≡ told_successor (Settled.told_by stack.setting.rules stack side.now.cell) state.now.core (Succession.taken_successor stack program.now rom.now row next state.now (Settled.branch_outside stack.region side.now)) }
 {
     let (core, relations) = (&side.core, &side.relations);
+    let cell = cell_outside(stack.region, &side.cell);
+    let told = told_by(&stack, &side.cell);
     taken_successor(
-        &stack, program, rom, &row, next, state, core, relations, &side.cell,
+        &stack, program, rom, &row, next, state, core, relations, &cell, told,
     )
 }
 
+/// The successor where the instruction isn't taken, from a side of it.
+pub fn other_side_successor<'a>(
+    stack: Stack,
+    rom: &Rom<'_>,
+    row: Row,
+    next: u16,
+    state: &'a Abs,
+    side: &Branch,
+) -> Successor<'a>
+    ensures { result ≡ told_successor (Settled.told_by stack.setting.rules stack side.now.cell) state.now.core (Succession.untaken_successor stack row next state.now (Settled.branch_outside stack.region side.now)) }
+{
+    let told = told_by(&stack, &side.cell);
+    let outside = Branch {
+        cell: cell_outside(stack.region, &side.cell),
+        ..*side
+    };
+    untaken_successor(stack, rom.kind(), row, next, state, &outside, told)
+}
+
 /// Puts the successor of the taken side, reduced, where none was.
+#[tactic(auto, unfolding(crate::specs::Successors::settled_way))]
 #[inline(never)]
 fn put_taken_side<'a>(
     stack: Stack,
@@ -140,10 +241,10 @@ fn put_taken_side<'a>(
     ensures { way.new ≡ Succession.taken_from stack program.now rom.now row next state.now product.now }
 {
     let (core, relations) = (&product.core, &product.relations);
-    let memory = memory_before(program, state, core, relations);
+    let memory = memory_before(&stack, program, state, core, relations);
     if let Some(side) = taken_side(row.op, memory, core, relations) {
         put_reduced(
-            stack.setting.rules,
+            &stack,
             side_successor(stack, program, rom, row, next, state, &side),
             way,
         );
@@ -151,6 +252,7 @@ fn put_taken_side<'a>(
 }
 
 /// Puts the successor of the taken side. Without a condition nothing is cut, so nothing is copied.
+#[tactic(auto, unfolding(crate::specs::Successors::settled_way))]
 fn put_taken_from<'a>(
     stack: Stack,
     program: &Program<'_>,
@@ -169,12 +271,13 @@ fn put_taken_from<'a>(
     } else {
         let (core, relations) = (&product.core, &product.relations);
         let successor = taken_successor(
-            &stack, program, rom, &row, next, state, core, relations, &None,
+            &stack, program, rom, &row, next, state, core, relations, &None, None,
         );
-        put_reduced(stack.setting.rules, successor, way);
+        put_reduced(&stack, successor, way);
     }
 }
 
+#[tactic(auto, unfolding(crate::specs::Successors::settled_way))]
 #[inline(never)]
 fn put_untaken<'a>(
     stack: Stack,
@@ -190,11 +293,11 @@ fn put_untaken<'a>(
     ensures { way.new ≡ Succession.not_taken_from stack program.now row next state.now product.now }
 {
     let (core, relations) = (&product.core, &product.relations);
-    let memory = memory_before(program, state, core, relations);
+    let memory = memory_before(&stack, program, state, core, relations);
     if let Some(side) = not_taken_side(row.op, memory, core, relations) {
         put_reduced(
-            stack.setting.rules,
-            untaken_successor(stack, rom.kind(), row, next, state, &side),
+            &stack,
+            other_side_successor(stack, rom, row, next, state, &side),
             way,
         );
     }

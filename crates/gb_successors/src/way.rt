@@ -1,20 +1,23 @@
 //! One successor of an instruction, and the states behind it.
 
-ghost use Rattle.std.specs.Prelude.{◌≡◌, ◌+◌, ◌≤◌, ◌++◌, IfSome, length};
+ghost use Rattle.std.specs.Prelude.{◌≡◌, ◌+◌, ◌≤◌, ◌++◌, IfSome, Some, length};
 ghost use Rattle.gb_product.specs.Below.gb_abs.Cells.{with_cell};
 ghost use Rattle.gb_product.specs.Below.gb_abs.Operations.{with_core};
 ghost use Rattle.gb_domain.specs.Limits.{cell_room};
 ghost use Rattle.gb_successors.specs.Behind as Behind;
 ghost use Rattle.gb_successors.specs.Behind.{with_relations, with_summary};
 
-use crate::stacks::{Stack, StackMove, move_stack};
+use crate::stacks::{Stack, StackMove, count_behind, move_stack};
 use gb_abs_memory::store::store_in;
+use gb_abs_memory::tell_item;
 use gb_domain::relations::Relations;
 use gb_domain::summary::Summary;
 use gb_domain::types::{Abs, Cell, Core, Rules, Setting, Val};
-use gb_ops::machine::Kind;
+use gb_ops::machine::{Kind, Region};
 use gb_product::reduced::reduce;
-use gb_product::{AbsRead, AbsWrite, Span, Target, with_cell};
+use gb_product::{
+    AbsRead, AbsWrite, Span, Target, held_relations, relations_outside, stack_held, with_cell,
+};
 use std::marker::Model;
 
 /// One way on from an instruction: what it reads and writes besides its own bytes, where it goes on,
@@ -31,7 +34,16 @@ pub struct Successor<'a> {
     pub(crate) relations: Relations,
     pub(crate) moved: Option<Moved>,
     pub(crate) summary: Option<Summary>,
+    pub(crate) told: Option<Told>,
     pub(crate) before: &'a Abs,
+}
+
+/// What a side tells of an item, by its address in the stack.
+#[derive(Clone, Copy)]
+pub struct Told {
+    pub setting: Setting,
+    pub region: Region,
+    pub cell: Cell,
 }
 
 /// What changes items or cells: what a condition tells of a byte of memory, the stack's move, and a write to a cartridge of a
@@ -46,14 +58,15 @@ pub struct Moved {
 
 impl<'a> Model for Successor<'a> {
     ghost use Rattle.gb_successors.specs.Way.{Successor};
-    ghost use Rattle.gb_successors.specs.Behind.{state_behind};
+    ghost use Rattle.gb_successors.specs.Behind.{state_behind, told_behind};
 
     ghost Value = { Successor };
 
-    ghost view = { λ t. record { read = t.read; write = t.write; target = t.target; next = t.next; state = state_behind t.moved t.write t.core t.relations t.summary t.before.now } };
+    ghost view = { λ t. record { read = t.read; write = t.write; target = t.target; next = t.next; state = told_behind t.told t.before.now.core (state_behind t.moved t.write t.core t.relations t.summary t.before.now) } };
 }
 
 impl<'a> Successor<'a> {
+    ghost use Rattle.gb_successors.specs.Settled.{held_successor};
     ghost use Rattle.gb_successors.specs.Successors.{reduced_successor, some_if};
 
     /// The core of the states behind.
@@ -84,9 +97,9 @@ impl<'a> Successor<'a> {
     pub fn unmoved(&self) -> Option<&'a Abs>
         ensures { IfSome result (λ s. self.now.state ≡ with_summary self.now.state.summary (with_relations self.now.state.relations (with_core s.now self.now.state.core))) }
     {
-        match self.moved {
-            None => Some(self.before),
-            Some(_) => None,
+        match (self.moved, self.told) {
+            (None, None) => Some(self.before),
+            _ => None,
         }
     }
 
@@ -97,6 +110,31 @@ impl<'a> Successor<'a> {
         ensures { reduced_successor rules self.old ≡ some_if result self.new }
     {
         reduce(rules, &mut self.core, &mut self.relations)
+    }
+
+    /// How many items the states behind hold.
+    #[tactic(auto, using(crate::proofs::CountLaws::unmoved_count, crate::proofs::CountLaws::count_is))]
+    pub fn item_count(&self) -> u8
+        ensures { result ≡ length self.now.state.items }
+    {
+        let count = self.before.items().len();
+        match &self.moved {
+            None => count as u8,
+            Some(moved) => count_behind(moved.stack.setting.rules, moved.stack_move, count) as u8,
+        }
+    }
+
+    /// Of places in the stack those are left that are items still.
+    pub(crate) fn hold(&mut self, stack: &Stack)
+        ensures { self.new ≡ held_successor stack.now self.old }
+    {
+        self.relations = match self.target {
+            Target::Main(_) => relations_outside(stack.region, &self.relations),
+            _ => {
+                let held = stack_held(stack.setting, stack.region, self.item_count());
+                held_relations(held, &self.relations)
+            }
+        };
     }
 
     /// The states behind, in the place of others.
@@ -114,6 +152,9 @@ impl<'a> Successor<'a> {
         if let Some(summary) = &self.summary {
             after.set_summary(summary.copied());
         }
+        if let Some(told) = self.told {
+            tell(told, self.before.core(), after);
+        }
     }
 
     /// The states behind.
@@ -124,6 +165,19 @@ impl<'a> Successor<'a> {
         self.put_state(&mut after);
         after
     }
+}
+
+/// What a side tells of an item is known: out of line, as it is rare.
+#[inline(never)]
+fn tell(told: Told, core: &Core, state: &mut Abs)
+    ensures { state.new ≡ Behind.told_behind (Some told) core.now state.old }
+{
+    let Told {
+        setting,
+        region,
+        cell,
+    } = told;
+    tell_item(setting, region, core, cell.address, &cell.val, state);
 }
 
 fn append_items(items: &[Val], state: &mut Abs)

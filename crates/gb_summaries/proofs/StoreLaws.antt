@@ -23,6 +23,7 @@ use Rattle.gb_relations.specs.Below.gb_copies.Meaning.{HoldOneByte}
 use Rattle.gb_relations.specs.Below.gb_copies.ShadowMeaning.{IsShadow, AreShadows}
 use Rattle.gb_relations.specs.Below.gb_copies.Shadows.{stored}
 use Rattle.gb_relations.specs.Below.gb_copies.Windows.{is_in_window}
+use Rattle.gb_relations.specs.Places.{is_free}
 use Rattle.gb_relations.proofs.AddressLaws.{IsAt, IsAt-stored_place}
 use Rattle.gb_relations.proofs.Below.gb_copies_laws.ShadowLaws.{copied_to_address_sound, stored_sound}
 use Rattle.gb_relations.proofs.Below.gb_copies_laws.WindowLaws.{other_stores_stay}
@@ -120,7 +121,7 @@ AreShadows-without_stored k which x v s r memory after banks i h =
 
 AreShadows-by :
     (k : Kind) (which : BankWindow) (region : Region) (w : Store) (o : Option Place) (s : Shadows) (p : Processor) (memory after : ℕ → ℕ) (banks : Banks)
-    → (i : IsAfterStore w p memory after) → IsAt region i.store.address o → AreShadows k which s p.registers memory banks
+    → (i : IsAfterStore w p memory after) → IsAt (is_free region) i.store.address o → AreShadows k which s p.registers memory banks
     → AreShadows k which (shadows_by o w.from w.addresses s) p.registers after banks
 AreShadows-by k which region w None s p memory after banks i at h =
     AreShadows-without_stored k which w.addresses w.value s p.registers memory after banks i.store h

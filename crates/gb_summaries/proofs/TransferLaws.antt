@@ -29,7 +29,7 @@ use Rattle.gb_relations.specs.Below.gb_copies.ShadowMeaning.{AreShadows}
 use Rattle.gb_relations.specs.Below.gb_copies.Shadows.{without_register, copied_to_register}
 use Rattle.gb_relations.proofs.Below.gb_copies_laws.ShadowLaws.{without_register_sound, copied_to_register_sound}
 use Rattle.gb_relations.specs.Bytes.{one, at_hl, at_indirect, at_high}
-use Rattle.gb_relations.specs.Places.{behind_echo, loaded_place}
+use Rattle.gb_relations.specs.Places.{is_free, behind_echo, loaded_place}
 use Rattle.gb_relations.specs.Sound.{Reads}
 use Rattle.gb_relations.specs.Written.{counted, written}
 use Rattle.gb_relations.proofs.AddressLaws.{IsAt, IsAt-loaded_place, free-ram}
@@ -62,7 +62,7 @@ AreShadows-written k which rs s x y memory banks e h =
 
 AreShadows-loaded :
     (k : Kind) (which : BankWindow) (region : Region) (to : Register) (a l : ℕ) (o : Option Place) (s : Shadows) (x : Registers ℕ) (memory : ℕ → ℕ) (banks : Banks)
-    → IsAt region (behind_echo a) o → Reads (read.Byte a) memory l → AreShadows k which s x memory banks
+    → IsAt (is_free region) (behind_echo a) o → Reads (read.Byte a) memory l → AreShadows k which s x memory banks
     → AreShadows k which (loaded to o s) (set to l x) memory banks
 AreShadows-loaded k which region to a l None s x memory banks at reads h = (without_register_sound to s _ refl).gives k which x memory banks l h
 AreShadows-loaded k which region to a l (Some from) s x memory banks at reads h =

@@ -36,6 +36,7 @@ pub use gb_ram_bounds::AddressSet;
 pub use gb_ram_bounds::addresses::is_in;
 pub use gb_ram_bounds::cells::has_cell;
 pub use gb_relations::compared::only_of_a;
+pub use gb_relations::items::{held_places, places_outside};
 pub use gb_relations::pointed_bits::{known_bits, pointed_bits};
 pub use gb_relations::pointers::{known_carry, pointer_bounds};
 pub use gb_relations::returned::{Kept, returned};

@@ -14,7 +14,7 @@ use Rattle.gb_rules.specs.Below.gb_domain.declared.rules.Rules.{Rules}
 use Rattle.gb_rules.specs.Below.gb_domain.declared.rules.Rules.TheVariants.{Simple, Extended}
 use Rattle.gb_rules.specs.Below.gb_fields.Rules.{is_any_version}
 use Rattle.gb_rules.specs.Below.gb_states.Rules as older
-use Rattle.gb_rules.specs.Below.gb_states.WholeRules.{IsCertificate}
+use Rattle.gb_rules.specs.Below.gb_states.WholeRules.{form_in, procedure_forms, IsCertificate}
 use Rattle.gb_rules.specs.Below.gb_states.WholeSpelling as whole
 use Rattle.gb_rules.specs.Below.gb_states.WholeReading.{read_certificate}
 use Rattle.gb_rules.specs.Below.gb_states.Spelling as spelled
@@ -88,7 +88,7 @@ procedures_text c = flat_map (spelled.procedure (upgraded_version c.version)) c.
 
 -- all nodes, which an upgrade leaves as they are
 abbrev nodes_text : Certificate → List ℕ
-nodes_text c = flat_map (whole.node_by (c.version == 4) c.version) c.nodes
+nodes_text c = whole.nodes c.version c.region c.procedures c.nodes
 
 -- the rules of versions 1 and 2 aren't those of version 4
 pub not_fourth : (version : ℕ) → rules_of version ≡ Simple → (version == 4) ≡ false
@@ -105,7 +105,7 @@ unfolding spelled.spelling
 certificate_parts c head nodes older e h =
     ap (λ b. b ++ (procedures_text c ++ nodes)) e
     ∙ ap (λ b. spelled.head (upgraded c) ++ (procedures_text c ++ b))
-    (h ∙ (ap (λ (b : Bool). flat_map (whole.node_by b c.version) c.nodes) older ∙ ap (λ rules. flat_map (spelled.node rules) c.nodes) (sym (upgraded_rules c.version))))
+    (h ∙ (ap (λ (b : Bool). flat_map (whole.node_by b c.version c.region (form_in (procedure_forms c.procedures))) c.nodes) older ∙ ap (λ rules. flat_map (spelled.node rules) c.nodes) (sym (upgraded_rules c.version))))
     ∙ sym (spelled_older (upgraded c) (upgraded_not_fourth c.version older))
 
 pub certificate_whole : (c : Certificate) (head nodes : List ℕ) (old first mid new : Option (List ℕ)) → (c.version == 4) ≡ false → head ≡ spelled.head (upgraded c) → nodes ≡ nodes_text c

@@ -180,9 +180,9 @@ same_exit :
 unfolding taken_by ranges_of kept_of
 same_exit program cert version rules procedure back t q None e = refl
 same_exit program cert version rules procedure back t q (Some exit) e =
-    let after : Bool → Option AbsState = λ whole. resumed program rules whole (taken_by cert q) (ranges_of cert q) (kept_of cert q) t exit in
-    ap (λ (z : Setting). is_uncovered_if program rules (other cert version) procedure back (after z.is_whole)) (same_setting cert version procedure e)
-    ∙ same_after program cert version rules procedure back (after (setting_of cert procedure).is_whole) e
+    let after : Setting → Option AbsState = λ z. resumed program (record z { rules = rules }) cert.region (taken_by cert q) (ranges_of cert q) (kept_of cert q) t exit in
+    ap (λ (z : Setting). is_uncovered_if program rules (other cert version) procedure back (after z)) (same_setting cert version procedure e)
+    ∙ same_after program cert version rules procedure back (after (setting_of cert procedure)) e
 
 same_back :
     (program : Program) (cert : Certificate) (version : ℕ) (rules : Rules) (procedure back : ℕ) (t : AbsState) (q : ℕ) → AreRuledAlike cert version

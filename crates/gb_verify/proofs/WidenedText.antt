@@ -20,7 +20,7 @@ use Rattle.gb_rules.specs.Below.gb_states.declared.role.Role.TheVariants as role
 use Rattle.gb_rules.specs.Below.gb_states.Rules.{IsState, IsProcedure, IsNode, IsCertificate, is_after, key, is_core_sayable, is_sayable, is_cell_sayable, is_silent}
 use Rattle.std.proofs.lemmas.Bool.Decides.{nat_tests}
 use Rattle.gb_rules.specs.Below.gb_fields.Limits.{unit}
-use Rattle.gb_rules.specs.Below.gb_states.RelationSpelling.{relations, places, pairs}
+use Rattle.gb_rules.specs.Below.gb_states.RelationSpelling.{relations, places_by, pairs}
 use Rattle.gb_rules.specs.Below.gb_states.Spelling as spelled
 use Rattle.gb_rules.proofs.Below.gb_states_laws.RelationLaws.{is-alone}
 use Rattle.gb_text.specs.Sink.{Gains}
@@ -89,7 +89,7 @@ told_bytes None = 0 ∷ []
 told_bytes (Some n) = 1 ∷ 1 ∷ []
 
 alone_text : (t : Option ℕ) → told_bytes t ≡ relations (test_alone t)
-unfolding relations places pairs
+unfolding relations places_by pairs
 alone_text None = refl
 alone_text (Some n) = refl
 

@@ -6,6 +6,6 @@ use Rattle.gb_cert.proofs.writer.put_procedures.Given as goal
 
 abbrev pub invariant-loop-procedure : goal.invariant-loop-procedure
 invariant-loop-procedure l = record {
-  written : l.out.items ≡ l.initial.out.items ++ flat_map (λ p. by_version.procedure l.version (procedure_of p)) (take l.procedure-index l.procedures);
+  written : l.out.items ≡ l.initial.out.items ++ flat_map (λ p. by_version.procedure l.version l.region (procedure_of p)) (take l.procedure-index l.procedures);
   kept : ProceduresKeepLimits l.version l.nodes (take l.procedure-index l.procedures);
 }

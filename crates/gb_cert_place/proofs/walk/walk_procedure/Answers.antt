@@ -14,7 +14,7 @@ pub returns-in-Err-clause-block : goal.returns-in-Err-clause-block
 returns-in-Err-clause-block c =
     stops_in_front (InProcedure c.args.number (head_in c.args.head) c.args.facts c.args.is_main c.args.bytes.now) (part.Procedure c.args.number) (block.Entry c.args.head.version c.args.head.nodes) c.args.bytes.now c.stopped.result c.stopped.ensures.part c.stopped.ensures.block c.stopped.ensures.before c.stopped.ensures.place AtEntry
 
-pub returns-in_err-kept-in-Ok-clause-block : goal.returns-in_err-kept-in-Ok-clause-block
-returns-in_err-kept-in-Ok-clause-block c =
+pub returns-in_err-form-in-Ok-clause-block : goal.returns-in_err-form-in-Ok-clause-block
+returns-in_err-form-in-Ok-clause-block c =
     let p = err_from_is_err_and c.from_residual.result c.from_residual.ensures.1 in
-    rw (p.1, p.2) (stops_within (InBody c.args.number c.args.head.version c.args.facts c.args.is_main c.args.head.region c.in-Ok.rest.now) (InProcedure c.args.number (head_in c.args.head) c.args.facts c.args.is_main c.args.bytes.now) c.in_err-kept-in-Ok.field-0.0 (λ q b rest a. BehindEntry c.in-Ok.ensures a) c.in_err-kept-in-Ok.ensures.block)
+    rw (p.1, p.2) (stops_within (InBody c.args.number c.args.head.version c.args.facts c.args.is_main c.args.head.region c.in-Ok.rest.now) (InProcedure c.args.number (head_in c.args.head) c.args.facts c.args.is_main c.args.bytes.now) c.in_err-form-in-Ok.field-0.0 (λ q b rest a. BehindEntry c.in-Ok.ensures a) c.in_err-form-in-Ok.ensures.block)

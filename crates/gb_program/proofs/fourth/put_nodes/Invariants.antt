@@ -3,11 +3,11 @@ use Rattle.std.specs.List.{flat_map}
 use Rattle.gb_command_line.specs.Below.gb_verify.Below.gb_states.WholeSpelling as whole
 use Rattle.gb_events.proofs.Below.gb_text_laws.Remaining.{Remains}
 use Rattle.gb_command_line.specs.Below.gb_verify.Widened.{widened}
-use Rattle.gb_program.specs.Fourth.{grouped}
+use Rattle.gb_program.specs.Fourth.{fourth_forms, grouped}
 use Rattle.gb_program.proofs.fourth.put_nodes.Given as goal
 
 abbrev pub invariant-loop-i : goal.invariant-loop-i
 invariant-loop-i g l = record {
   works : g.W.Sink.has_failed l.out ≡ false;
-  remains : Remains (g.W.Sink.contents l.fn.out) (flat_map whole.node (grouped 0 (widened l.cert).nodes l.numbers)) (g.W.Sink.contents l.out) (flat_map whole.node (grouped l.i (widened l.cert).nodes (drop l.i l.numbers)));
+  remains : Remains (g.W.Sink.contents l.fn.out) (flat_map (whole.node l.cert.region (fourth_forms l.cert)) (grouped 0 (widened l.cert).nodes l.numbers)) (g.W.Sink.contents l.out) (flat_map (whole.node l.cert.region (fourth_forms l.cert)) (grouped l.i (widened l.cert).nodes (drop l.i l.numbers)));
 }

@@ -10,5 +10,5 @@ abbrev pub invariant-loop-i : goal.invariant-loop-i
 invariant-loop-i g l = record {
   works : g.W.Sink.has_failed l.out ≡ false;
   few : l.before ≤ l.i * 1048576;
-  remains : Remains (g.W.Sink.contents l.fn.out) (flat_map whole.procedure (placed (widened l.cert) 0 l.numbers)) (g.W.Sink.contents l.out) (flat_map whole.procedure (placed (widened l.cert) l.before (drop l.i l.numbers)));
+  remains : Remains (g.W.Sink.contents l.fn.out) (flat_map (whole.procedure l.cert.region) (placed (widened l.cert) 0 l.numbers)) (g.W.Sink.contents l.out) (flat_map (whole.procedure l.cert.region) (placed (widened l.cert) l.before (drop l.i l.numbers)));
 }

@@ -8,6 +8,7 @@ unfolding untaken_successor
 returns c =
     rw (
       c.idle_successor.ensures,
+      c.told_at_target-told.ensures,
       c.cell_alone-moved.ensures,
       c.end-core.ensures.exact,
       untaken_state c.args.stack c.args.kind c.args.side.now.cell c.args.row.cycles_not_taken c.args.state.now c.args.side.now.core c.args.side.now.relations,

@@ -17,5 +17,5 @@ returns c =
     let some = c.self.invariant.spells.is_certificate.some_node in
     let small : 0 < length c.self.inside.nodes.items = omega arith in
     let place : c.index-place.result.now ≡ get_or c.self.inside.nodes.items 0 0 = c.index-place.ensures ∙ get_or_default_zero c.self.inside.nodes.items 0 c.index-place.result.now small in
-    let all = nodes-lent c.self.inside.bytes.now c.self.inside.version c.self.inside.region c.self.inside.facts.items c.self.inside.counts.items c.self.inside.procedures.items c.self.inside.nodes.items (certificate_in c.self.inside.bytes.now) c.self.invariant in
+    let all = nodes-lent c.self.inside.bytes.now c.self.inside.version c.self.inside.region c.self.inside.facts.items c.self.inside.forms.items c.self.inside.procedures.items c.self.inside.nodes.items (certificate_in c.self.inside.bytes.now) c.self.invariant in
     rw (← c.self.view_is) (c.from_place.ensures ∙ ap (λ (n : ℕ). drop n c.self.inside.bytes.now) place ∙ all)

@@ -24,7 +24,7 @@ unreachable-requires c =
     let small : c.args.i < length c.self.inside.procedures.items = omega arith in
     let place : c.index-start.result.now ≡ get_or c.self.inside.procedures.items c.args.i 0 = c.index-start.ensures ∙ get_or_default_zero c.self.inside.procedures.items c.args.i c.index-start.result.now small in
     let from : c.from_place.result.now ≡ drop (get_or c.self.inside.procedures.items c.args.i 0) c.self.inside.bytes.now = c.from_place.ensures ∙ ap (λ (n : ℕ). drop n c.self.inside.bytes.now) place in
-    procedure-entry c.self.inside.bytes.now c.self.inside.version c.self.inside.region c.self.inside.facts.items c.self.inside.counts.items c.self.inside.procedures.items c.self.inside.nodes.items (certificate_in c.self.inside.bytes.now) c.args.i c.in_default.field-0 c.self.invariant lt (ap (node_number c.self.inside.version) (sym from) ∙ c.in_default.ensures)
+    procedure-entry c.self.inside.bytes.now c.self.inside.version c.self.inside.region c.self.inside.facts.items c.self.inside.forms.items c.self.inside.procedures.items c.self.inside.nodes.items (certificate_in c.self.inside.bytes.now) c.args.i c.in_default.field-0 c.self.invariant lt (ap (node_number c.self.inside.version) (sym from) ∙ c.in_default.ensures)
 
 pub unreachable-requires-in_default-skip_body : goal.unreachable-requires-in_default-skip_body
 unreachable-requires-in_default-skip_body c =
@@ -35,7 +35,7 @@ unreachable-requires-in_default-skip_body c =
     let from : c.from_place.result.now ≡ drop (get_or c.self.inside.procedures.items c.args.i 0) c.self.inside.bytes.now = c.from_place.ensures ∙ ap (λ (n : ℕ). drop n c.self.inside.bytes.now) place in
     let right : node_number c.self.inside.version (drop (get_or c.self.inside.procedures.items c.args.i 0) c.self.inside.bytes.now) ≡ Ok (c.in-Ok._entry, c.in-Ok.body.now) = ap (node_number c.self.inside.version) (sym from) ∙ c.in-Ok.ensures in
     let wrong = subst (λ (r : Rules). skipped (body_at r (c.args.i == 0) c.self.inside.region) c.in-Ok.body.now ≡ Err c.in_default-skip_body.field-0) c.of-rules.ensures c.in_default-skip_body.ensures in
-    body-passed c.self.inside.bytes.now c.self.inside.version c.self.inside.region c.self.inside.facts.items c.self.inside.counts.items c.self.inside.procedures.items c.self.inside.nodes.items (certificate_in c.self.inside.bytes.now) c.args.i c.in-Ok._entry c.in-Ok.body.now c.in_default-skip_body.field-0 c.self.invariant (rw c.self.view_is c.requires.older) lt right wrong
+    body-passed c.self.inside.bytes.now c.self.inside.version c.self.inside.region c.self.inside.facts.items c.self.inside.forms.items c.self.inside.procedures.items c.self.inside.nodes.items (certificate_in c.self.inside.bytes.now) c.args.i c.in-Ok._entry c.in-Ok.body.now c.in_default-skip_body.field-0 c.self.invariant (rw c.self.view_is c.requires.older) lt right wrong
 
 pub taken-requires : goal.taken-requires
 taken-requires c =
@@ -46,7 +46,7 @@ taken-requires c =
     let from : c.from_place.result.now ≡ drop (get_or c.self.inside.procedures.items c.args.i 0) c.self.inside.bytes.now = c.from_place.ensures ∙ ap (λ (n : ℕ). drop n c.self.inside.bytes.now) place in
     let right : node_number c.self.inside.version (drop (get_or c.self.inside.procedures.items c.args.i 0) c.self.inside.bytes.now) ≡ Ok (c.in-Ok._entry, c.in-Ok.body.now) = ap (node_number c.self.inside.version) (sym from) ∙ c.in-Ok.ensures in
     let passed = subst (λ (r : Rules). skipped (body_at r (c.args.i == 0) c.self.inside.region) c.in-Ok.body.now ≡ Ok c.in-Ok-skip_body.behind.now) c.of-rules.ensures c.in-Ok-skip_body.ensures in
-    (body-lent c.self.inside.bytes.now c.self.inside.version c.self.inside.region c.self.inside.facts.items c.self.inside.counts.items c.self.inside.procedures.items c.self.inside.nodes.items (certificate_in c.self.inside.bytes.now) c.args.i c.in-Ok._entry c.in-Ok.body.now c.in-Ok-skip_body.behind.now c.self.invariant (rw c.self.view_is c.requires.older) lt right passed).0
+    (body-lent c.self.inside.bytes.now c.self.inside.version c.self.inside.region c.self.inside.facts.items c.self.inside.forms.items c.self.inside.procedures.items c.self.inside.nodes.items (certificate_in c.self.inside.bytes.now) c.args.i c.in-Ok._entry c.in-Ok.body.now c.in-Ok-skip_body.behind.now c.self.invariant (rw c.self.view_is c.requires.older) lt right passed).0
 
 pub returns : goal.returns
 returns c =
@@ -57,5 +57,5 @@ returns c =
     let from : c.from_place.result.now ≡ drop (get_or c.self.inside.procedures.items c.args.i 0) c.self.inside.bytes.now = c.from_place.ensures ∙ ap (λ (n : ℕ). drop n c.self.inside.bytes.now) place in
     let right : node_number c.self.inside.version (drop (get_or c.self.inside.procedures.items c.args.i 0) c.self.inside.bytes.now) ≡ Ok (c.in-Ok._entry, c.in-Ok.body.now) = ap (node_number c.self.inside.version) (sym from) ∙ c.in-Ok.ensures in
     let passed = subst (λ (r : Rules). skipped (body_at r (c.args.i == 0) c.self.inside.region) c.in-Ok.body.now ≡ Ok c.in-Ok-skip_body.behind.now) c.of-rules.ensures c.in-Ok-skip_body.ensures in
-    let lent = body-lent c.self.inside.bytes.now c.self.inside.version c.self.inside.region c.self.inside.facts.items c.self.inside.counts.items c.self.inside.procedures.items c.self.inside.nodes.items (certificate_in c.self.inside.bytes.now) c.args.i c.in-Ok._entry c.in-Ok.body.now c.in-Ok-skip_body.behind.now c.self.invariant (rw c.self.view_is c.requires.older) lt right passed in
+    let lent = body-lent c.self.inside.bytes.now c.self.inside.version c.self.inside.region c.self.inside.facts.items c.self.inside.forms.items c.self.inside.procedures.items c.self.inside.nodes.items (certificate_in c.self.inside.bytes.now) c.args.i c.in-Ok._entry c.in-Ok.body.now c.in-Ok-skip_body.behind.now c.self.invariant (rw c.self.view_is c.requires.older) lt right passed in
     rw (← c.self.view_is, c.taken.ensures, ← c.self.invariant.version_is) lent.1

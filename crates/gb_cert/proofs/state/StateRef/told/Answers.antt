@@ -1,12 +1,19 @@
-use Rattle.std.proofs.Common.{◌*◌, ℕ, ◌∙◌, sym, ap, drop}
+use Rattle.std.proofs.Common.{◌*◌, ℕ, ◌∙◌, sym, ap, drop, arith}
 use Rattle.gb_cert.specs.Borrowed.{state_in, item_width}
-use Rattle.gb_cert.proofs.StateLending.{core-fits, CountsOff, told-is, told-right}
+use Rattle.gb_cert.proofs.StateLending.{core-fits, CountsOff, items-are, told-is, told-right}
 use Rattle.gb_cert.proofs.state.StateRef.told.Goals as goal
 
 pub told_by-told-requires : goal.told_by-told-requires
 told_by-told-requires c =
     let i = c.self.inside in
     core-fits i.form i.role i.region i.bytes.now (state_in i.form i.role i.region i.bytes.now) c.self.invariant
+
+pub overflow_cast-count : goal.overflow_cast-count
+overflow_cast-count c =
+    let i = c.self.inside in
+    let f : CountsOff (item_width c.self.inside.form) (drop 40 c.self.inside.bytes.now) c.counted.result.0.now c.counted.result.1.now = λ n xs rest e l. c.counted.ensures n xs rest (c.from_place.ensures ∙ e) (l ∙ ap (λ (w : ℕ). w * n) (sym c.item_width.ensures.exact)) in
+    let items = items-are i.form i.role i.region i.bytes.now c.counted.result.0.now c.counted.result.1.now (state_in i.form i.role i.region i.bytes.now) c.self.invariant f in
+    omega (arith, items.long, items.few)
 
 pub unreachable-requires : goal.unreachable-requires
 unreachable-requires c =
