@@ -2,10 +2,11 @@
 //!
 //! Read `sources` (what instructions make registers from), `spots` (what a run knows at an address) and `ways` (a procedure's graph and
 //! its loops); then `plan`, what may be refined, and over them `slices` (where a value comes from), `loops`, `strides` (loops through
-//! arrays), `waiting` (bytes on the stack) and `popped` (return words among them). Nothing here is trusted: a plan that doesn't help costs time alone.
+//! arrays), `waiting` (bytes on the stack), `popped` (return words among them) and `compared` (comparisons of a known number). Nothing here is trusted: a plan that doesn't help costs time alone.
 #![tactic(auto)]
 
 mod carries;
+pub mod compared;
 pub mod loops;
 pub mod plan;
 pub mod popped;

@@ -1,11 +1,12 @@
 //! What refinement changes.
 
 use crate::carries::is_carry_read;
+use crate::sources::register_in;
 use crate::spots::place_of;
 use crate::ways::Ways;
 use gb_fixpoint::code_point::CodePoint;
 use gb_fixpoint::configuration::{Configuration, TargetPlace};
-use gb_fixpoint::gb_ops::op::Register;
+use gb_fixpoint::gb_ops::op::{Operand, Register};
 use gb_fixpoint::register_set::{REGISTERS, RegisterSet};
 use gb_fixpoint::types::{Run, Spot};
 use gb_fixpoint::{EditedPlaces, Rules};
@@ -41,6 +42,8 @@ pub enum Edit {
     Peel(TargetPlace, Register),
     /// The known values of some bytes of the stack become part of the key at a place.
     CountItems(TargetPlace, u64),
+    /// At a comparison of a known number with an operand, the states in which that is greater are told apart.
+    Compare(TargetPlace, Operand),
     /// Calls of a target are followed in their callers.
     Inline(CodePoint),
 }
@@ -167,6 +170,7 @@ impl Plan {
                 | Edit::Count(..)
                 | Edit::CountItems(..)
                 | Edit::Peel(..)
+                | Edit::Compare(..)
                 | Edit::Inline(_) => {}
             }
         }
@@ -191,7 +195,7 @@ impl Plan {
                 Edit::Part(target, _) | Edit::PartBank(target) | Edit::PartCell(target, _) => {
                     edited.targets.insert(*target)?;
                 }
-                Edit::Cell(_) | Edit::Inline(_) => return Ok(false),
+                Edit::Cell(_) | Edit::Compare(..) | Edit::Inline(_) => return Ok(false),
             }
         }
         Ok(true)
@@ -253,6 +257,7 @@ fn parts_of(edit: Edit) -> [u64; 4] {
         Edit::PartBank(target) => return [11, target.number(), 0, 0],
         Edit::PartCell(target, cell) => return [12, target.number(), u64::from(cell), 0],
         Edit::Copied(place) => (13, place, 0),
+        Edit::Compare(place, operand) => (14, place, number_of(&register_in(operand))),
     };
     [kind, place.target.number(), place.point.number(), more]
 }
@@ -307,6 +312,9 @@ fn apply_edit(edit: Edit, configuration: &mut Configuration) -> Result<(), Alloc
         Edit::CountItems(place, items) => {
             let items = configuration.items_at(place) | items;
             configuration.counted_items.insert(place, items)?;
+        }
+        Edit::Compare(place, operand) => {
+            configuration.compared.insert(place, operand)?;
         }
         Edit::Inline(target) => configuration.inline(target)?,
     }

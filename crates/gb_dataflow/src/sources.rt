@@ -162,7 +162,7 @@ fn load_sources(op: Op, at: Indirect, wanted: &RegisterSet) -> RegisterSet {
 }
 
 /// The register of an operand.
-fn register_in(operand: Operand) -> RegisterSet {
+pub fn register_in(operand: Operand) -> RegisterSet {
     match operand {
         Operand::Register(register) => RegisterSet::of(&[register]),
         Operand::AtHl => RegisterSet::empty(),

@@ -157,6 +157,11 @@ impl Ways {
         Ok(seen)
     }
 
+    /// The points from which a point is reached in one step or more.
+    pub fn leading_to(&self, point: CodePoint) -> Result<Loop, AllocError> {
+        self.reached(point, Direction::Back, &None)
+    }
+
     /// The greatest loop around a point, inside of some points if they are given.
     fn loop_around(
         &self,

@@ -98,7 +98,7 @@ fn crowd(alloc: Global, by: Multiplier) -> Result<Finding, AllocError> {
 fn too_many_nodes(rt: HostRuntime) -> Result<(), Fail> {
     let finding = crowd(rt.alloc(), Multiplier::Register(Register::B))?;
     let text =
-        "<pre>The analysis reached its limit of 100 nodes (--nodes), with 7 copies of routines.\n  Most nodes: 12 at draw (00:0250), 3 at far (02:4100)\n  What multiplies the first: b has 12 values there.\n  Most copies: 4 of put (00:0300)\n  What multiplies the first: the mapped bank has 4 values when it is called.</pre>";
+        "<pre>The analysis took more than 100 nodes, with 7 copies of routines.\n  Most nodes: 12 at draw (00:0250), 3 at far (02:4100)\n  What multiplies the first: b has 12 values there.\n  Most copies: 4 of put (00:0300)\n  What multiplies the first: the mapped bank has 4 values when it is called.</pre>";
     assert!(rt; says(rt.alloc(), finding, ASSEMBLY, text) == Some(true));
     let finding = crowd(rt.alloc(), Multiplier::Cell(0xC000))?;
     let text = "\n  What multiplies the first: wState ($C000) has 12 values there.\n";

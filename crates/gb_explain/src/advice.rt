@@ -411,9 +411,9 @@ pub const INTERRUPT_WITHOUT_STACK: Advice = Advice {
 
 pub const TOO_MANY_NODES: Advice = Advice {
     problem: "The analysis keeps a node for each state of each instruction, up to a limit.",
-    remedy: "Raise the limit with --nodes. Else bound what multiplies: end such a loop by `ld a, h` / `cp HIGH(end)`, not by a counter.",
+    remedy: "Bound what multiplies: end such a loop by `ld a, h` / `cp HIGH(end)`, not by a counter. Or allow more with --nodes.",
     remedy_in_c: Some(
-        "Raise the limit with --nodes. Else bound each index right before its use, and count loops down to 0: `for (n = 32; n != 0; n--)`.",
+        "Bound each index right before its use, and count loops down to 0: `for (n = 32; n != 0; n--)`. Or allow more with --nodes.",
     ),
     anchor: "too-large",
 };
@@ -438,32 +438,32 @@ pub const TEXT: Advice = Advice {
 
 /// Too many nodes, and none for the same place.
 pub const TOO_MANY_PLACES: Advice = Advice {
-    remedy: "Raise the limit with --nodes: each place has one state, so the game alone needs more.",
+    remedy: "Allow more with --nodes: each place has one state, so the game alone needs more.",
     remedy_in_c: None,
     ..TOO_MANY_NODES
 };
 
 /// Too many nodes, where a byte of RAM has many values.
 pub const TOO_MANY_VALUES: Advice = Advice {
-    remedy: "Raise the limit with --nodes. Else let this byte have fewer values: mask it (`and 15`) or compare it (`cp 16`) right before its use.",
+    remedy: "Let this byte have fewer values: mask it (`and 15`) or compare it (`cp 16`) right before its use. Or allow more nodes with --nodes.",
     remedy_in_c: Some(
-        "Raise the limit with --nodes. Else let this variable have fewer values: mask it (`i & 15`) or compare it (`if (i < 16)`) right before its use.",
+        "Let this variable have fewer values: mask it (`i & 15`) or compare it (`if (i < 16)`) right before its use. Or allow more nodes with --nodes.",
     ),
     ..TOO_MANY_NODES
 };
 
 /// Too many nodes, where code runs with many banks mapped.
 pub const TOO_MANY_BANKS: Advice = Advice {
-    remedy: "Raise the limit with --nodes. Else keep what runs each frame in one bank, and map others with interrupts off.",
+    remedy: "Keep what runs each frame in one bank, and map others with interrupts off. Or allow more with --nodes.",
     remedy_in_c: None,
     ..TOO_MANY_NODES
 };
 
 /// Too many nodes, where the stack has many contents.
 pub const TOO_MANY_STACKS: Advice = Advice {
-    remedy: "Raise the limit with --nodes. Else keep counters and pointers in registers or variables, not on the stack, and call this routine from fewer places.",
+    remedy: "Keep counters and pointers in registers or variables, not on the stack, and call this routine from fewer places. Or allow more with --nodes.",
     remedy_in_c: Some(
-        "Raise the limit with --nodes. Else make local variables `static`, and bound each index right before its use.",
+        "Make local variables `static`, and bound each index right before its use. Or allow more with --nodes.",
     ),
     ..TOO_MANY_NODES
 };

@@ -83,7 +83,7 @@ impl<'a> Run<'a> {
     ) -> Result<(), RunStop> {
         match self.peeled_register(place, state.core()) {
             Some(register) => self.arrive_in_two(from, procedure, place, register, state),
-            None => self.arrive_at(from, procedure, place, state),
+            None => self.arrive_compared(from, procedure, place, state),
         }
     }
 
@@ -119,7 +119,7 @@ impl<'a> Run<'a> {
     }
 
     /// A state in which a register's values are cut to bounds; none where nothing is meant then.
-    fn with_bounds(&self, register: Register, lo: u8, hi: u8, state: &Abs) -> Option<Abs> {
+    pub(crate) fn with_bounds(&self, register: Register, lo: u8, hi: u8, state: &Abs) -> Option<Abs> {
         let mut core = *state.core();
         let val = core.registers.get(register);
         let interval = cut(interval_of(val), bounds(lo, hi))?;
@@ -223,7 +223,8 @@ impl<'a> Run<'a> {
         }
     }
 
-    fn arrive_at(
+    /// A state arrives, told apart as the configuration says.
+    pub(crate) fn arrive_at(
         &mut self,
         from: usize,
         procedure: usize,
@@ -241,7 +242,7 @@ impl<'a> Run<'a> {
             place.point,
             state,
             self.controller_key(procedure, state),
-            self.key_registers(place, core),
+            self.with_answer(place, state, self.key_registers(place, core)),
             cells,
             words,
         );

@@ -13,6 +13,7 @@ mod ahead;
 mod asking;
 mod basis;
 mod calls;
+mod compared;
 mod contexts;
 mod creeping;
 pub mod entries;

@@ -6,6 +6,7 @@ use crate::register_set::RegisterSet;
 use gb_verify::Rules;
 use gb_verify::gb_domain::summary::Fact;
 use gb_verify::gb_ops::machine::Region;
+use gb_verify::gb_ops::op::Operand;
 use std::alloc::{AllocError, Global};
 use std::collections::{BTreeSet, HashMap, HashSet};
 
@@ -132,6 +133,8 @@ pub struct Configuration {
     /// The registers of which is part of the key whether they are 0, or FF: counters that begin at 0, or that are counted down
     /// before they are looked at, where the first or the last round is told apart.
     pub peeled: HashMap<TargetPlace, RegisterSet>,
+    /// Comparisons of a known number with what is here: the states in which that is greater are told apart up to the branch behind.
+    pub compared: HashMap<TargetPlace, Operand>,
     /// By where procedures begin, the registers by whose known values they are parted.
     pub parted: HashMap<CodePoint, RegisterSet>,
     /// Where procedures begin that are parted by the controller, by the rules of version 3; by those of versions 1 and 2 all are.
@@ -193,6 +196,7 @@ impl Configuration {
             counted_items: HashMap::new(alloc),
             carried: HashSet::new(alloc),
             peeled: HashMap::new(alloc),
+            compared: HashMap::new(alloc),
             parted: HashMap::new(alloc),
             by_controller: HashSet::new(alloc),
             banked: HashSet::new(alloc),

@@ -9,6 +9,7 @@ use crate::losses::{part_all, plan_banked, plan_shown};
 use crate::returns::plan_lost_return;
 use gb_dataflow::Rules;
 use gb_dataflow::cause::{Cause, Failure, StackMisuse};
+use gb_dataflow::compared::compare_before;
 use gb_dataflow::gb_ops::op::Register;
 use gb_dataflow::limits::{
     ALL_VALUES, CALL_KINDS, CALL_VALUES, CALLERS, DEAR_STEPS, FEW_VALUES, VISITS,
@@ -255,6 +256,8 @@ fn slice_to_page(
 /// What is tried nearest to a spot, in this order.
 #[derive(Clone, Copy)]
 enum Near {
+    /// What a known number is compared with before is told apart by how that ends.
+    Compared,
     /// The procedure is parted by what its calls know.
     Calls,
     /// The array in RAM from which a jump's index is loaded.
@@ -285,7 +288,8 @@ enum Near {
     Call,
 }
 
-const NEAR: [Near; 14] = [
+const NEAR: [Near; 15] = [
+    Near::Compared,
     Near::Calls,
     Near::Array,
     Near::Through,
@@ -317,6 +321,7 @@ fn try_near(
         trouble.slice_by()
     };
     match near {
+        Near::Compared => compare_before(alloc, run, ways, spot),
         Near::Calls => {
             let joined = joined_by_calls(alloc, run, spot.procedure)?;
             part(alloc, run, spot.procedure, &joined)

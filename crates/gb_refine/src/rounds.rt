@@ -13,7 +13,8 @@ use gb_prune::limits::{
     TAKEN_BACK_OF_MANY,
 };
 use gb_prune::{
-    Cause, CodePoint, Configuration, Edition, Rom, Rules, Run, StackMisuse, TargetPlace, Wish,
+    Cause, CodePoint, Configuration, Edition, Rom, Rules, Run, RunEnd, StackMisuse, TargetPlace,
+    Wish,
 };
 use std::alloc::{AllocError, Global};
 use std::collections::{BTreeMap, BTreeSet};
@@ -317,7 +318,7 @@ impl<'a> Refinement<'a> {
         self.first_nodes.get_or_insert(self.nodes);
         self.steps = run.steps;
         self.pairs = pairs_of(run);
-        self.spent = self.spent.saturating_add(run.steps);
+        self.spend(run.steps, outcome);
         self.targets = targets_of(self.alloc, run)?;
         if run.rules() == Rules::Extended {
             learn_touched(self.alloc, run, &mut self.configuration)?;
@@ -326,6 +327,15 @@ impl<'a> Refinement<'a> {
         let lesson = self.past_idle(run, outcome, first)?;
         let lesson = self.unless_wild(run, lesson)?;
         self.unless_standing(run, lesson)
+    }
+
+    /// Counts a run's steps. One that finishes has no failure left, and what is learnt of RAM from it soon ends: so its steps don't count
+    /// against a budget.
+    fn spend(&mut self, steps: u64, outcome: RunEnd) {
+        self.spent = self.spent.saturating_add(steps);
+        if matches!(outcome, RunEnd::Finished) {
+            self.budget = self.budget.saturating_add(steps);
+        }
     }
 
     /// Counts a run if it is as the one before: what was learnt in between tells nothing apart.

@@ -325,6 +325,9 @@ pub(crate) fn shrink<P: SearchProgress>(
     };
     shrinking.shrink(refinement, progress)?;
     let Shrinking { best, .. } = shrinking;
+    if !progress.goes_on() {
+        return Ok(best);
+    }
     let less = made_smaller(refinement.alloc(), refinement.rom(), &best)?;
     Ok(less.unwrap_or(best))
 }

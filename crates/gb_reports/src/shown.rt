@@ -202,7 +202,7 @@ fn fmt_limit<W: fmt::Write>(crowd: &Crowd, f: &mut fmt::Formatter<W>) -> fmt::Re
     match limit {
         ReachedLimit::Nodes(most) => write!(
             f,
-            "The analysis reached its limit of {most} nodes (--nodes), with {procedures} copies of routines."
+            "The analysis took more than {most} nodes, with {procedures} copies of routines."
         ),
         ReachedLimit::Procedures => write!(
             f,
