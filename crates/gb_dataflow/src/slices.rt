@@ -77,6 +77,8 @@ struct Walk {
     is_behind_sum: bool,
     /// A number is compared with a wanted register behind, so that each value's way is known there.
     is_compared: bool,
+    /// The sides of a comparison in the procedure are told apart, so that what was compared has few values behind it.
+    has_sides: bool,
     /// The points so far, the last instruction first.
     chain: Vec<CodePoint>,
     /// Whether it went through a loop by which wanted registers are lost, or past a branch by which they are, where that is sought.
@@ -168,7 +170,7 @@ impl Walk {
         let is_wanted = match sought.by {
             SliceBy::Any | SliceBy::Single | SliceBy::First | SliceBy::Bounds => true,
             SliceBy::Loop | SliceBy::Skip | SliceBy::Start => self.is_through,
-            SliceBy::Table => self.is_behind_table,
+            SliceBy::Table => self.is_behind_table || self.has_sides && self.is_behind_sum,
             SliceBy::Index => self.is_behind_table || self.is_behind_sum,
         };
         let may_split = is_wanted && !has_entry(run, spot);
@@ -196,7 +198,8 @@ impl Walk {
             return;
         };
         let a = RegisterSet::of(&[Register::A]);
-        if !open.contains(register) || !open_at(run, spot, &a, true).is_empty() {
+        let has_sides = run.configuration.compared.contains_key(&place_of(run, spot));
+        if has_sides || !open.contains(register) || !open_at(run, spot, &a, true).is_empty() {
             return;
         }
         self.is_compared = true;
@@ -631,6 +634,7 @@ fn walk_back(
         is_behind_table: false,
         is_behind_sum: false,
         is_compared: false,
+        has_sides: has_sides(run, spot),
         is_through: false,
         is_copied: true,
         chain,
@@ -648,6 +652,15 @@ fn walk_back(
         }
     }
     Ok(walk)
+}
+
+/// Whether the sides of a comparison are told apart in the procedure of a spot.
+fn has_sides(run: &Run<'_>, spot: Spot) -> bool {
+    let target = run.target(spot.procedure);
+    run.configuration
+        .compared
+        .keys()
+        .any(|place| place.target == target)
 }
 
 /// A register to be split before a spot, so that the wanted registers are known there.

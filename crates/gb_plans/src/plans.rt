@@ -411,6 +411,9 @@ fn plan_bounded(
         return Ok(None);
     }
     let ways = Ways::of(alloc, run, spot.procedure)?;
+    if let Some(plan) = compare_before(alloc, run, &ways, spot)? {
+        return Ok(Some(plan));
+    }
     let by = if trouble.is_jump {
         SliceBy::Table
     } else {
