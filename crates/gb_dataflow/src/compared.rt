@@ -68,10 +68,10 @@ pub fn compare_before(
         if let Some(operand) = compared_at(run, ways, at)
             && (operand != Operand::AtHl || run.configuration.edition.is_fourth())
             && !run.configuration.compared.contains_key(&place)
-            && run
-                .nodes_at(at)
-                .iter()
-                .any(|number| run.nodes.get(*number).is_some_and(|node| is_open(node, operand)))
+            && run.nodes_at(at).iter().any(|number| run
+                .nodes
+                .get(*number)
+                .is_some_and(|node| is_open(node, operand)))
         {
             plan.add(Edit::Compare(place, operand))?;
         }

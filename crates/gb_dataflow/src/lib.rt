@@ -20,5 +20,5 @@ pub mod ways;
 // What lies below, for the crates above.
 pub use gb_fixpoint::{
     Abs, EditedPlaces, PADDING, Rules, Span, cause, cell_at, code_point, configuration, gb_ops,
-    known_bank, limits, register_set, types,
+    is_ram, known_bank, limits, register_set, types,
 };

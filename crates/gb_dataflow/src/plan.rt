@@ -36,6 +36,8 @@ pub enum Edit {
     PartCell(CodePoint, u16),
     /// A cell becomes part of every key.
     Cell(u16),
+    /// A cell is tracked, if there is room.
+    Track(u16),
     /// A register's known values become part of the key at a place.
     Count(TargetPlace, Register),
     /// Whether a register is 0 becomes part of the key at a place.
@@ -167,6 +169,7 @@ impl Plan {
                 | Edit::PartBank(_)
                 | Edit::PartCell(..)
                 | Edit::Cell(_)
+                | Edit::Track(_)
                 | Edit::Count(..)
                 | Edit::CountItems(..)
                 | Edit::Peel(..)
@@ -195,7 +198,9 @@ impl Plan {
                 Edit::Part(target, _) | Edit::PartBank(target) | Edit::PartCell(target, _) => {
                     edited.targets.insert(*target)?;
                 }
-                Edit::Cell(_) | Edit::Compare(..) | Edit::Inline(_) => return Ok(false),
+                Edit::Cell(_) | Edit::Track(_) | Edit::Compare(..) | Edit::Inline(_) => {
+                    return Ok(false);
+                }
             }
         }
         Ok(true)
@@ -251,6 +256,7 @@ fn parts_of(edit: Edit) -> [u64; 4] {
         Edit::CountItems(place, items) => (5, place, items),
         Edit::Part(target, registers) => return [6, target.number(), number_of(&registers), 0],
         Edit::Cell(cell) => return [7, u64::from(cell), 0, 0],
+        Edit::Track(cell) => return [15, u64::from(cell), 0, 0],
         Edit::Inline(target) => return [8, target.number(), 0, 0],
         Edit::Carry(place) => (9, place, 0),
         Edit::Unpage(place) => (10, place, 0),
@@ -298,6 +304,11 @@ fn apply_edit(edit: Edit, configuration: &mut Configuration) -> Result<(), Alloc
         }
         Edit::Cell(cell) => {
             configuration.key_cells.insert(cell)?;
+        }
+        Edit::Track(cell) => {
+            if configuration.tracked.len() < configuration.edition.rules().cell_room() {
+                configuration.tracked.insert(cell)?;
+            }
         }
         Edit::Count(place, register) => {
             let mut registers = registers_at(&configuration.counted, place);

@@ -198,7 +198,10 @@ impl Walk {
             return;
         };
         let a = RegisterSet::of(&[Register::A]);
-        let has_sides = run.configuration.compared.contains_key(&place_of(run, spot));
+        let has_sides = run
+            .configuration
+            .compared
+            .contains_key(&place_of(run, spot));
         if has_sides || !open.contains(register) || !open_at(run, spot, &a, true).is_empty() {
             return;
         }

@@ -119,7 +119,13 @@ impl<'a> Run<'a> {
     }
 
     /// A state in which a register's values are cut to bounds; none where nothing is meant then.
-    pub(crate) fn with_bounds(&self, register: Register, lo: u8, hi: u8, state: &Abs) -> Option<Abs> {
+    pub(crate) fn with_bounds(
+        &self,
+        register: Register,
+        lo: u8,
+        hi: u8,
+        state: &Abs,
+    ) -> Option<Abs> {
         let mut core = *state.core();
         let val = core.registers.get(register);
         let interval = cut(interval_of(val), bounds(lo, hi))?;

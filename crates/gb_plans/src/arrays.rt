@@ -242,22 +242,19 @@ pub(crate) fn plan_filled(
     plan_loops(alloc, run, &fillers)
 }
 
-/// Whether a node stores to a byte among others, at most as many as are tracked one by one.
-fn copies_to(run: &Run<'_>, node: &RunNode, byte: u16) -> bool {
-    let Some(op) = op_at(run, node.spot()) else {
-        return false;
-    };
+/// The addresses that a node stores to, where a byte is among them and they are at most as many as are tracked one by one.
+pub(crate) fn copied_at(run: &Run<'_>, node: &RunNode, byte: u16) -> Option<Span> {
+    let op = op_at(run, node.spot())?;
     let is_store = match op {
         Op::LoadImmediate(Operand::AtHl, _) => true,
         _ => op.stored().is_some(),
     };
-    match op.pointer() {
-        Some(pointer) if is_store => {
-            let span = span_at(node, pointer);
-            let more = span.last.saturating_sub(span.first);
-            span.first <= byte && byte <= span.last && 0 < more && more < FILLED
-        }
-        _ => false,
+    let span = span_at(node, op.pointer()?);
+    let more = span.last.saturating_sub(span.first);
+    if is_store && span.first <= byte && byte <= span.last && 0 < more && more < FILLED {
+        Some(span)
+    } else {
+        None
     }
 }
 
@@ -290,7 +287,7 @@ pub(crate) fn plan_copied(
 ) -> Result<Option<Plan>, AllocError> {
     let mut copies = BTreeSet::new(alloc);
     for node in &run.nodes {
-        if copies_to(run, node, byte) {
+        if copied_at(run, node, byte).is_some() {
             copies.insert(node.spot())?;
         }
     }

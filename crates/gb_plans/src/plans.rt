@@ -7,9 +7,11 @@ use crate::inlining::{inline_plan, may_be_inlined};
 use crate::kept::{part_exits, plan_kept, plan_stored, plan_written};
 use crate::losses::{part_all, plan_banked, plan_shown};
 use crate::returns::plan_lost_return;
+use crate::texts::plan_text;
 use gb_dataflow::Rules;
 use gb_dataflow::cause::{Cause, Failure, StackMisuse};
 use gb_dataflow::compared::compare_before;
+use gb_dataflow::configuration::TargetPlace;
 use gb_dataflow::gb_ops::op::Register;
 use gb_dataflow::limits::{
     ALL_VALUES, CALL_KINDS, CALL_VALUES, CALLERS, DEAR_STEPS, FEW_VALUES, VISITS,
@@ -262,6 +264,8 @@ enum Near {
     Calls,
     /// The array in RAM from which a jump's index is loaded.
     Array,
+    /// The loop that copied a text to RAM.
+    Text,
     /// A slice through a loop that loses what is known.
     Through,
     /// A slice past a branch that skips a few instructions.
@@ -288,10 +292,11 @@ enum Near {
     Call,
 }
 
-const NEAR: [Near; 15] = [
+const NEAR: [Near; 16] = [
     Near::Compared,
     Near::Calls,
     Near::Array,
+    Near::Text,
     Near::Through,
     Near::Skip,
     Near::Strides,
@@ -333,7 +338,8 @@ fn try_near(
         Near::Array if trouble.is_array_sought => plan_array(alloc, run, spot, &trouble.wanted),
         Near::Filled if trouble.is_array_sought => plan_filled(alloc, run, spot, &trouble.wanted),
         Near::Jump | Near::Array | Near::Filled => Ok(None),
-        Near::Through
+        Near::Text
+        | Near::Through
         | Near::Skip
         | Near::Strides
         | Near::Start
@@ -341,6 +347,7 @@ fn try_near(
         | Near::Page
         | Near::WideSlice
             if trouble.is_jump => Ok(None),
+        Near::Text => plan_text(alloc, run, ways, spot),
         Near::Strides => slice_to_strides(alloc, run, ways, spot, &trouble.wanted),
         Near::Through => slice_through_loop(alloc, run, ways, spot, &trouble.wanted),
         Near::Skip if trouble.is_bound_wanted => {
@@ -729,6 +736,28 @@ fn plan_exact(
         ..few
     };
     slice(alloc, run, &ways, spot, &all)
+}
+
+/// What is tried alone where nothing else would help, since a pointer's byte comes from many: the comparisons on the way to its load
+/// whose sides aren't told apart yet.
+pub fn plan_compared(
+    alloc: Global,
+    run: &Run<'_>,
+    load: TargetPlace,
+) -> Result<Option<Plan>, AllocError> {
+    for procedure in 0..run.procedures.len() {
+        if run.target(procedure) == load.target {
+            let ways = Ways::of(alloc, run, procedure)?;
+            let spot = Spot {
+                procedure,
+                point: load.point,
+            };
+            if let Some(plan) = compare_before(alloc, run, &ways, spot)? {
+                return Ok(Some(plan));
+            }
+        }
+    }
+    Ok(None)
 }
 
 /// What is tried where nothing else helps against a failure: all routines are analysed once for each bank that their calls know.

@@ -6,7 +6,9 @@ use crate::rounds::{
 };
 use crate::written::{is_accepted, written};
 use gb_findings::{Crowd, Finding, InstructionFinding};
-use gb_plans::{Plan, array_behind, inline_plan, last_plan, plan_for, targets_to_follow};
+use gb_plans::{
+    Plan, array_behind, inline_plan, last_plan, plan_compared, plan_for, targets_to_follow,
+};
 use gb_prune::gb_ops::machine::Region;
 use gb_prune::limits::{
     DEAR_STEPS, EDITS, EDITS_AGAIN, EDITS_OF_KEPT, KEPT, OBSTACLES, STEPS_BACK,
@@ -291,11 +293,13 @@ impl<'a> Refinement<'a> {
         place: TargetPlace,
         finding: InstructionFinding,
     ) -> Result<Lesson, AllocError> {
-        if comes_from_many(&finding) {
-            return self.give_up(run, failure, place);
-        }
-        let is_kept = !finding.kept_in.is_empty() || self.is_kept_in_ram(place);
-        match self.plan_or_inline(run, failure, place, is_kept)? {
+        let plan = if comes_from_many(&finding) {
+            plan_compared(self.alloc, run, finding.place)?
+        } else {
+            let is_kept = !finding.kept_in.is_empty() || self.is_kept_in_ram(place);
+            self.plan_or_inline(run, failure, place, is_kept)?
+        };
+        match plan {
             Some(plan) => Ok(Lesson::Change(Change::Mend(Mending {
                 place,
                 reason: failure.cause.reason().number(),
