@@ -206,6 +206,13 @@ impl Plan {
         Ok(true)
     }
 
+    /// Whether bytes of RAM have narrower bounds under it: what facts say of them was learnt without, and is to be learnt anew.
+    pub fn narrows_facts(&self) -> bool {
+        self.edits
+            .iter()
+            .any(|edit| matches!(edit, Edit::Track(_) | Edit::Compare(..)))
+    }
+
     /// Makes the changes.
     pub fn apply(&self, configuration: &mut Configuration) -> Result<(), AllocError> {
         for edit in &self.edits {

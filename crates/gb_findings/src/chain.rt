@@ -1,8 +1,9 @@
 //! The calls on the way to a node: from power-up, or from the interrupt that leads there.
 
-use crate::path::{bank_of, is_handler, node_at};
+use crate::path::{bank_of, entered_from, is_handler, node_at};
 use gb_fixpoint::gb_ops::decode::decode;
 use gb_fixpoint::gb_ops::op::Op;
+use gb_fixpoint::register_set::RegisterSet;
 use gb_fixpoint::types::{Run, RunNode};
 use gb_fixpoint::{interrupt_at, known_bytes};
 use std::alloc::{AllocError, Global};
@@ -207,34 +208,46 @@ impl<'a, 'r> Gathering<'a, 'r> {
         }
     }
 
-    /// Goes back from a node to what its chain begins with.
-    fn gather(&mut self, number: usize) -> Result<Root, AllocError> {
+    /// Goes back from a node to what its chain begins with: out of its own procedure by the call that knows least of some registers.
+    fn gather(&mut self, number: usize, registers: &RegisterSet) -> Result<Root, AllocError> {
         let mut at = Some(number);
+        let mut is_own = true;
         for _ in 0..=self.run.nodes.len() {
             let Some(node) = node_at(self.run, at) else {
                 break;
             };
-            let Some(before) = node_at(self.run, node.via) else {
+            let via = if node.key.is_entry && is_own {
+                is_own = false;
+                entered_from(self.run, node, registers)
+            } else {
+                node.via
+            };
+            let Some(before) = node_at(self.run, via) else {
                 break;
             };
             if let Some(root) = self.go_back(before, node)? {
                 return Ok(root);
             }
-            at = node.via;
+            at = via;
         }
         Ok(Root::PowerUp)
     }
 }
 
 impl CallChain {
-    /// The calls that lead to a node.
-    pub fn to(alloc: Global, run: &Run<'_>, number: usize) -> Result<CallChain, AllocError> {
+    /// The calls that lead to a node at which some registers matter.
+    pub fn to(
+        alloc: Global,
+        run: &Run<'_>,
+        number: usize,
+        registers: &RegisterSet,
+    ) -> Result<CallChain, AllocError> {
         let mut gathering = Gathering {
             run,
             calls: Vec::new(alloc),
             returns: Vec::new(alloc),
         };
-        let root = gathering.gather(number)?;
+        let root = gathering.gather(number, registers)?;
         let Gathering { mut calls, .. } = gathering;
         calls.reverse();
         Ok(CallChain { root, calls })

@@ -263,8 +263,8 @@ pub fn finding_at(
     let is_divided = is_open && is_behind_division(alloc, run, node)?;
     let is_in_loop = is_in_loop(alloc, run, node)?;
     let reads_text = is_open && reads_text(alloc, run, node)?;
-    let path = Path::to(alloc, run, failure.node)?;
-    let chain = CallChain::to(alloc, run, failure.node)?;
+    let path = Path::to(alloc, run, failure.node, &failure.registers)?;
+    let chain = CallChain::to(alloc, run, failure.node, &failure.registers)?;
     let address = node.key.address;
     let Some(place) = run.place_of(failure.node) else {
         return Ok(None);

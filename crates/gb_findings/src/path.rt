@@ -2,6 +2,7 @@
 
 use gb_fixpoint::code_point::CodePoint;
 use gb_fixpoint::known_bank;
+use gb_fixpoint::register_set::{REGISTERS, RegisterSet};
 use gb_fixpoint::types::{Run, RunNode};
 use std::alloc::{AllocError, Global};
 
@@ -59,10 +60,53 @@ pub fn node_at<'a>(run: &'a Run<'_>, number: Option<usize>) -> Option<&'a RunNod
     run.nodes.get(number?)
 }
 
+/// How many values some registers have at a node, beyond one for each.
+fn width_of(node: &RunNode, registers: &RegisterSet) -> u32 {
+    let values = node.state.core().registers;
+    let mut width: u32 = 0;
+    for register in REGISTERS {
+        let val = values.get(register);
+        if registers.contains(register) {
+            width = width.saturating_add(u32::from(val.hi.saturating_sub(val.lo)));
+        }
+    }
+    width
+}
+
+/// From where the procedure of a first node was entered: where it doesn't know some registers, by the call that knows least of them. Else
+/// by the first one, as where each call knows them.
+pub(crate) fn entered_from(
+    run: &Run<'_>,
+    entry: &RunNode,
+    registers: &RegisterSet,
+) -> Option<usize> {
+    let first = entry.via?;
+    let procedure = run.procedures.get(entry.key.procedure)?;
+    if procedure.key.is_handler || width_of(entry, registers) == 0 {
+        return Some(first);
+    }
+    let mut from = first;
+    let mut widest = run
+        .nodes
+        .get(first)
+        .map_or(0, |node| width_of(node, registers));
+    for site in &procedure.sites {
+        let width = run
+            .nodes
+            .get(*site)
+            .map_or(0, |node| width_of(node, registers));
+        if width > widest {
+            from = *site;
+            widest = width;
+        }
+    }
+    Some(from)
+}
+
 /// Where the procedure of a first node was entered from.
-fn start_of(run: &Run<'_>, entry: &RunNode) -> Start {
+fn start_of(run: &Run<'_>, entry: &RunNode, registers: &RegisterSet) -> Start {
     let target = entry.key.point();
-    let Some(from) = node_at(run, entry.via) else {
+    let Some(from) = node_at(run, entered_from(run, entry, registers)) else {
         return Start::PowerUp;
     };
     let from = from.key.point();
@@ -95,13 +139,18 @@ fn add_before(
 }
 
 /// Adds the segments of the path to a node, backwards, and answers where it begins.
-fn gather(run: &Run<'_>, number: usize, segments: &mut Vec<Segment>) -> Result<Start, AllocError> {
+fn gather(
+    run: &Run<'_>,
+    number: usize,
+    registers: &RegisterSet,
+    segments: &mut Vec<Segment>,
+) -> Result<Start, AllocError> {
     let mut at = Some(number);
     for _ in 0..=run.nodes.len() {
         let Some(node) = node_at(run, at) else { break };
         add_before(segments, bank_of(run, node), node.key.address)?;
         if node.key.is_entry {
-            return Ok(start_of(run, node));
+            return Ok(start_of(run, node, registers));
         }
         at = node.via;
     }
@@ -109,10 +158,15 @@ fn gather(run: &Run<'_>, number: usize, segments: &mut Vec<Segment>) -> Result<S
 }
 
 impl Path {
-    /// The path to a node.
-    pub fn to(alloc: Global, run: &Run<'_>, number: usize) -> Result<Path, AllocError> {
+    /// The path to a node at which some registers matter.
+    pub fn to(
+        alloc: Global,
+        run: &Run<'_>,
+        number: usize,
+        registers: &RegisterSet,
+    ) -> Result<Path, AllocError> {
         let mut segments = Vec::new(alloc);
-        let start = gather(run, number, &mut segments)?;
+        let start = gather(run, number, registers, &mut segments)?;
         let is_cut = segments.len() > SEGMENTS;
         segments.truncate(SEGMENTS);
         segments.reverse();

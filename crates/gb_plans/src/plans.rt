@@ -6,12 +6,11 @@ use crate::circles::plan_recursion;
 use crate::inlining::{inline_plan, may_be_inlined};
 use crate::kept::{part_exits, plan_kept, plan_stored, plan_written};
 use crate::losses::{part_all, plan_banked, plan_shown};
-use crate::returns::plan_lost_return;
+use crate::returns::{plan_lost_return, pushed_before};
 use crate::texts::plan_text;
 use gb_dataflow::Rules;
 use gb_dataflow::cause::{Cause, Failure, StackMisuse};
 use gb_dataflow::compared::compare_before;
-use gb_dataflow::configuration::TargetPlace;
 use gb_dataflow::gb_ops::op::Register;
 use gb_dataflow::limits::{
     ALL_VALUES, CALL_KINDS, CALL_VALUES, CALLERS, DEAR_STEPS, FEW_VALUES, VISITS,
@@ -26,7 +25,7 @@ use gb_dataflow::slices::{
 };
 use gb_dataflow::sources::high_registers;
 use gb_dataflow::spots::{is_known, place_of, value_of};
-use gb_dataflow::types::{Run, RunProcedure, Spot};
+use gb_dataflow::types::{Run, RunNode, RunProcedure, Spot};
 use gb_dataflow::ways::Ways;
 use std::alloc::{AllocError, Global};
 use std::collections::BTreeSet;
@@ -627,6 +626,35 @@ fn plan_return_word(
     follow_taker(alloc, run, &ways, spot, wanted)
 }
 
+/// A return whose word isn't known: what took it over before is followed; or where it was pushed right before, as a jump, what its
+/// pair comes from is told apart as before JP HL, and so is the return.
+fn plan_return(alloc: Global, run: &Run<'_>, node: &RunNode) -> Result<Option<Plan>, AllocError> {
+    if let Some(plan) = plan_lost_return(alloc, run, node)? {
+        return Ok(Some(plan));
+    }
+    let spot = node.spot();
+    let ways = Ways::of(alloc, run, spot.procedure)?;
+    let Some((push, wanted)) = pushed_before(run, &ways, spot) else {
+        return Ok(None);
+    };
+    let trouble = FailurePoint {
+        wanted,
+        is_jump: true,
+        is_kept_in_ram: false,
+        is_bound_wanted: false,
+        is_array_sought: true,
+    };
+    let plan = match plan_bounded(alloc, run, push, &trouble)? {
+        Some(plan) => Some(plan),
+        None => plan_at(alloc, run, push, &trouble)?,
+    };
+    let Some(mut plan) = plan else {
+        return Ok(None);
+    };
+    plan.key(run, &ways, spot)?;
+    Ok(unless_taken_back(run, plan))
+}
+
 /// A pointer is too wide, or one that is known ran too far.
 fn plan_pointer(
     alloc: Global,
@@ -740,21 +768,17 @@ fn plan_exact(
 
 /// What is tried alone where nothing else would help, since a pointer's byte comes from many: the comparisons on the way to its load
 /// whose sides aren't told apart yet.
-pub fn plan_compared(
-    alloc: Global,
-    run: &Run<'_>,
-    load: TargetPlace,
-) -> Result<Option<Plan>, AllocError> {
-    for procedure in 0..run.procedures.len() {
-        if run.target(procedure) == load.target {
-            let ways = Ways::of(alloc, run, procedure)?;
-            let spot = Spot {
-                procedure,
-                point: load.point,
-            };
-            if let Some(plan) = compare_before(alloc, run, &ways, spot)? {
-                return Ok(Some(plan));
-            }
+pub fn plan_compared(alloc: Global, run: &Run<'_>, load: u16) -> Result<Option<Plan>, AllocError> {
+    let mut spots = BTreeSet::new(alloc);
+    for node in &run.nodes {
+        if node.key.address == load {
+            spots.insert(node.spot())?;
+        }
+    }
+    for spot in &spots {
+        let ways = Ways::of(alloc, run, spot.procedure)?;
+        if let Some(plan) = compare_before(alloc, run, &ways, *spot)? {
+            return Ok(Some(plan));
         }
     }
     Ok(None)
@@ -806,7 +830,7 @@ pub fn plan_for(
         | Cause::OamTransfer(_)
         | Cause::Stack(StackMisuse::SetByHl)
         | Cause::JumpHl => plan_pointer(alloc, run, spot, failure, is_kept_in_ram),
-        Cause::ReturnToUnknown => plan_lost_return(alloc, run, node),
+        Cause::ReturnToUnknown => plan_return(alloc, run, node),
         Cause::Area
         | Cause::UndefinedOpcode { .. }
         | Cause::Stop

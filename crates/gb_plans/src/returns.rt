@@ -1,10 +1,13 @@
 //! Return words that a call took over, with the arguments above them, and joined with those of its other calls.
 
 use gb_dataflow::Rules;
+use gb_dataflow::gb_ops::op::Op;
 use gb_dataflow::limits::{FEW_VALUES, SLICE};
 use gb_dataflow::plan::Plan;
 use gb_dataflow::register_set::RegisterSet;
 use gb_dataflow::slices::{SliceBy, SliceGoal, slice_to_call};
+use gb_dataflow::sources::stacked;
+use gb_dataflow::spots::op_at;
 use gb_dataflow::types::{Run, RunNode, Spot};
 use gb_dataflow::ways::Ways;
 use std::alloc::{AllocError, Global};
@@ -28,6 +31,19 @@ fn know_word(run: &Run<'_>, spot: Spot, place: usize) -> bool {
         }
     }
     true
+}
+
+/// Where a return takes a word that was pushed right before, as a jump: the push, and the registers of its pair.
+pub(crate) fn pushed_before(run: &Run<'_>, ways: &Ways, spot: Spot) -> Option<(Spot, RegisterSet)> {
+    let point = ways.only_before(spot.point)?;
+    let before = Spot { point, ..spot };
+    match op_at(run, before)? {
+        Op::Push(pair) => {
+            let [high, low] = stacked(pair);
+            Some((before, RegisterSet::of(&[high?, low?])))
+        }
+        _ => None,
+    }
 }
 
 /// A return by a word that isn't known, and was before some call: what is called there is followed. By the rules of version 3.

@@ -7,7 +7,7 @@
 use crate::rounds::{Made, Refinement, SearchLimits, SearchProgress, alone};
 use crate::shrink::shrink;
 use crate::written::is_accepted;
-use gb_findings::Finding;
+use gb_findings::{Finding, Spent};
 use gb_prune::gb_ops::machine::Kind;
 use gb_prune::limits::{FEW_NODES, NODES};
 use gb_prune::{Edition, Rom};
@@ -81,11 +81,9 @@ impl<'a> Attempts<'a> {
                 self.judged(edition, bytes)
             }
             Made::Findings(findings) => {
-                // What stood with fewer nodes was told as it was first met.
-                let is_told = !self.findings.is_empty();
-                if is_told && !progress.goes_on() {
-                    self.add_end(findings)?;
-                } else if !is_told || !refinement.stands_again() {
+                // What stood with fewer nodes was told as it was first met; of an attempt that time ended only that is told.
+                let is_new = progress.goes_on() && !refinement.stands_again();
+                if is_new || self.findings.is_empty() {
                     self.keep(edition, findings);
                 }
                 let is_over = refinement.is_hopeless
@@ -171,18 +169,17 @@ impl<'a> Attempts<'a> {
         }
     }
 
-    /// Of an attempt that time ended only that is told: its other findings are where it stood.
-    fn add_end(&mut self, findings: Vec<Finding>) -> Result<(), AllocError> {
-        let mut findings = findings;
-        let Some(last) = findings.pop() else {
-            return Ok(());
-        };
+    /// Time ended the search: that is told last, since what was found may only be where it stood.
+    fn tell_end(&mut self) -> Result<(), AllocError> {
         let is_told = match self.findings.as_slice().last() {
             Some(told) => is_end(told),
             None => false,
         };
-        if is_end(&last) && !is_told {
-            self.findings.push(last)?;
+        if !is_told {
+            self.findings.push(Finding::OutOfRounds {
+                rounds: 0,
+                spent: Spent::Time,
+            })?;
         }
         Ok(())
     }
@@ -304,6 +301,9 @@ impl<'a> Attempts<'a> {
                 }
                 before = nodes;
             }
+        }
+        if !progress.goes_on() {
+            self.tell_end()?;
         }
         let Attempts { findings, .. } = self;
         Ok(Made::Findings(findings))

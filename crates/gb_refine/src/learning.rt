@@ -294,7 +294,7 @@ impl<'a> Refinement<'a> {
         finding: InstructionFinding,
     ) -> Result<Lesson, AllocError> {
         let plan = if comes_from_many(&finding) {
-            plan_compared(self.alloc, run, finding.place)?
+            plan_compared(self.alloc, run, finding.address)?
         } else {
             let is_kept = !finding.kept_in.is_empty() || self.is_kept_in_ram(place);
             self.plan_or_inline(run, failure, place, is_kept)?

@@ -13,8 +13,8 @@ use gb_prune::limits::{
     TAKEN_BACK_OF_MANY,
 };
 use gb_prune::{
-    Cause, CodePoint, Configuration, Edition, Rom, Rules, Run, RunEnd, StackMisuse, TargetPlace,
-    Wish,
+    Cause, CodePoint, Configuration, Edition, FactTable, Rom, Rules, Run, RunEnd, StackMisuse,
+    TargetPlace, Wish,
 };
 use std::alloc::{AllocError, Global};
 use std::collections::{BTreeMap, BTreeSet};
@@ -400,27 +400,35 @@ impl<'a> Refinement<'a> {
         if !keys.is_empty() {
             self.keyed_loops.push(keys)?;
         }
+        if plan.narrows_facts() {
+            self.cells.facts = FactTable::new(self.alloc);
+        }
         plan.apply(&mut self.configuration)
     }
 
-    /// A failure is kept as it was first met.
+    /// A failure is kept as it was first met, before states were told apart, but for the calls that lead there: the first ones that were
+    /// met may be harmless, and later ones are those that remain.
     fn keep_first(
         &mut self,
         place: TargetPlace,
         finding: InstructionFinding,
     ) -> Result<(), AllocError> {
-        if !self.first.contains_key(&place) {
-            if let Cause::Recursion { .. } = finding.cause {
-                self.circles.push(place)?;
-            }
-            if finding.is_any_address {
-                self.open.insert(place)?;
-            }
-            if walks(&finding) {
-                self.any_address.insert(place)?;
-            }
-            self.first.insert(place, finding)?;
+        if let Some(first) = self.first.get_mut(&place) {
+            let InstructionFinding { path, chain, .. } = finding;
+            first.path.start = path.start;
+            first.chain = chain;
+            return Ok(());
         }
+        if let Cause::Recursion { .. } = finding.cause {
+            self.circles.push(place)?;
+        }
+        if finding.is_any_address {
+            self.open.insert(place)?;
+        }
+        if walks(&finding) {
+            self.any_address.insert(place)?;
+        }
+        self.first.insert(place, finding)?;
         Ok(())
     }
 

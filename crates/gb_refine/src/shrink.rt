@@ -1,5 +1,6 @@
 //! Shrinking: what a certificate doesn't need is taken back while the checker accepts what is left.
 
+use crate::measures::outcome_of;
 use crate::pruning::made_smaller;
 use crate::rounds::{Refinement, SearchProgress};
 use crate::written::{is_accepted, written};
@@ -20,22 +21,24 @@ enum Spare {
     Kept(u16),
 }
 
-/// The certificate of one run, if it is clean and the checker accepts it.
-fn attempt(
+/// The certificate of one run, if it is clean, the checker accepts it, and time doesn't end before.
+fn attempt<P: SearchProgress>(
     alloc: Global,
     rom: &Rom<'_>,
     configuration: &Configuration,
+    progress: &mut P,
 ) -> Result<Option<Vec<u8>>, AllocError> {
     let mut run = Run::new(alloc, rom, configuration)?;
-    accepted(alloc, rom, &mut run)
+    accepted(alloc, rom, &mut run, progress)
 }
 
-fn accepted(
+fn accepted<P: SearchProgress>(
     alloc: Global,
     rom: &Rom<'_>,
     run: &mut Run<'_>,
+    progress: &mut P,
 ) -> Result<Option<Vec<u8>>, AllocError> {
-    if !is_clean(alloc, run)? {
+    if !is_clean(alloc, run, progress)? {
         return Ok(None);
     }
     match written(alloc, run, run.configuration.region)? {
@@ -45,8 +48,14 @@ fn accepted(
 }
 
 /// Whether a run ends with no failure, and its procedures' needs are found.
-fn is_clean(alloc: Global, run: &mut Run<'_>) -> Result<bool, AllocError> {
-    if run.run()? != RunEnd::Finished || !run.failures.is_empty() || run.has_broken_facts() {
+fn is_clean<P: SearchProgress>(
+    alloc: Global,
+    run: &mut Run<'_>,
+    progress: &mut P,
+) -> Result<bool, AllocError> {
+    let outcome = outcome_of(run, u64::MAX, progress)?;
+    let is_finished = matches!(outcome, Some(RunEnd::Finished));
+    if !is_finished || !run.failures.is_empty() || run.has_broken_facts() {
         return Ok(false);
     }
     Ok(find_needs(alloc, run)?.is_none())
@@ -258,7 +267,7 @@ impl Shrinking<'_> {
             return Ok(None);
         }
         self.attempts -= 1;
-        match attempt(self.alloc, self.rom, coarser)? {
+        match attempt(self.alloc, self.rom, coarser, progress)? {
             Some(bytes) if bytes.len() < self.best.len() => Ok(Some(bytes)),
             _ => Ok(None),
         }

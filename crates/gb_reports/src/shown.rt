@@ -413,6 +413,9 @@ fn fmt_other<W: fmt::Write>(
         Finding::Recursion { target } => fmt_recursion(*target, symbols, f),
         Finding::OutOfRounds { rounds, spent } => {
             let (rounds, limit) = (*rounds, spent_text(*spent));
+            if *spent == Spent::Time {
+                return write!(f, "Gave up at {limit}.");
+            }
             write!(
                 f,
                 "Gave up after {rounds} rounds of refinement, at {limit}."
