@@ -36,6 +36,8 @@ static void print(const char *text)
 void main(void)
 {
     uint8_t pressed;
+    cursor = 0;
+    before = 0;
     IE = 1;
     __asm__("ei");
     while (1) {
