@@ -414,9 +414,7 @@ impl<'a> Refinement<'a> {
         finding: InstructionFinding,
     ) -> Result<(), AllocError> {
         if let Some(first) = self.first.get_mut(&place) {
-            let InstructionFinding { path, chain, .. } = finding;
-            first.path.start = path.start;
-            first.chain = chain;
+            lead_as(first, finding);
             return Ok(());
         }
         if let Cause::Recursion { .. } = finding.cause {
@@ -563,6 +561,7 @@ impl<'a> Refinement<'a> {
             Finding::Instruction(last) => match self.first.remove(&last.place) {
                 Some(mut first) if is_told_as_first(&first, &last) => {
                     first.is_too_large = last.is_too_large;
+                    lead_as(&mut first, last);
                     Finding::Instruction(first)
                 }
                 _ => Finding::Instruction(last),
@@ -794,6 +793,13 @@ fn walks(finding: &InstructionFinding) -> bool {
         Cause::Store { .. } | Cause::Stack(StackMisuse::SetByHl)
     );
     is_followed && finding.is_any_address
+}
+
+/// A finding is reached by the calls of another one.
+fn lead_as(finding: &mut InstructionFinding, other: InstructionFinding) {
+    let InstructionFinding { path, chain, .. } = other;
+    finding.path.start = path.start;
+    finding.chain = chain;
 }
 
 /// Whether a finding is told as it was first met.
