@@ -105,10 +105,12 @@ impl<'a> Refinement<'a> {
         }
     }
 
-    /// Whether a place may be refined once more for a reason. Where rounds are dear, this counts in all procedures: code that is
-    /// followed in its callers isn't begun anew in each of them. Where a failure stood with fewer nodes, it may be more seldom.
-    fn may_edit(&self, place: TargetPlace, reason: u8, is_kept: bool) -> bool {
-        let most = if is_kept { EDITS_OF_KEPT } else { EDITS };
+    /// Whether a place may be refined once more for a reason: more often in a routine that is called from many places, each of which may
+    /// need an edit of its own. Where rounds are dear, this counts in all procedures: code that is followed in its callers isn't begun anew
+    /// in each of them. Where a failure stood with fewer nodes, it may be more seldom.
+    fn may_edit(&self, run: &Run<'_>, place: TargetPlace, reason: u8, is_kept: bool) -> bool {
+        let least = if is_kept { EDITS_OF_KEPT } else { EDITS };
+        let most = least.saturating_add(calls_of(run, place.target));
         let has_stood = self.stood.iter().any(|stood| stood.point == place.point);
         let around = self.edits_around(place.point, reason);
         let is_dear = self.steps >= DEAR_STEPS;
@@ -318,7 +320,7 @@ impl<'a> Refinement<'a> {
         place: TargetPlace,
         is_kept: bool,
     ) -> Result<Option<Plan>, AllocError> {
-        if self.may_edit(place, failure.cause.reason().number(), is_kept) {
+        if self.may_edit(run, place, failure.cause.reason().number(), is_kept) {
             plan_for(self.alloc, run, failure, is_kept)
         } else {
             Ok(None)
@@ -569,6 +571,20 @@ impl<'a> Refinement<'a> {
             Ok(Lesson::Change(Change::Track(news)))
         }
     }
+}
+
+/// The most calls of a routine for which its places are refined more often.
+const MANY_CALLS: usize = 24;
+
+/// From how many places a target is called, up to as many as count.
+fn calls_of(run: &Run<'_>, target: CodePoint) -> u32 {
+    let mut calls: usize = 0;
+    for procedure in &run.procedures {
+        if procedure.key.point() == target {
+            calls = calls.saturating_add(procedure.sites.len());
+        }
+    }
+    calls.min(MANY_CALLS) as u32
 }
 
 /// Whether a pointer's byte is loaded from more bytes of RAM than are ever known, as from a queue: no value of it would be refused
