@@ -163,7 +163,7 @@ byte_back s x =
 
 -- nothing is known of the whole program, nor of the controller's kind
 abbrev pub unknown_program : Program
-unknown_program = record { kind = kind.Rom; facts = [] }
+unknown_program = record { is_whole = false; kind = kind.Rom; facts = [] }
 
 -- the caller holds what it held, its cells and a comparison of A as far as they are kept
 unfoldable pub resumed_alone : List Range → AbsState → AbsState → AbsState

@@ -282,8 +282,7 @@ fn said_back(
     };
     let has_room = has_room(ranges, before.cells, last.cells);
     summary_returned(
-        program.kind,
-        program.facts,
+        program,
         ranges,
         &given_by(exit.core()),
         addresses,

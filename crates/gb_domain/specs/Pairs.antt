@@ -30,6 +30,7 @@ is_factor n = nat_le 1 n && nat_le n 127 || nat_le 65408 n && nat_le n 65535
 pub record IsLink (l : Link) : Type 0 where
   pub factor : is_factor l.factor ≡ true
   pub sum : l.sum < 65536
+  pub width : l.width < 65536
 
 pub record IsPairFacts (f : PairFacts) : Type 0 where
   pub last : f.bounds.last < 65536

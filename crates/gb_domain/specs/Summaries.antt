@@ -1,5 +1,5 @@
 -- What contracts see of what a state says that is about the whole program (own format).
-use Rattle.std.specs.Prelude.{ℕ, List, [], Option, None}
+use Rattle.std.specs.Prelude.{Bool, ℕ, List, [], Option, None}
 use Rattle.gb_ops.specs.declared.machine.Kind.{Kind}
 use Rattle.gb_domain.specs.declared.pairs.Bounds.{Bounds}
 use Rattle.gb_domain.specs.declared.summary.Fact.{Fact}
@@ -29,7 +29,8 @@ no_summary = record { level = 0; fills = []; shadows = no_bank_shadows; aside = 
 abbrev pub zero_fill : Fill
 zero_fill = record { first = 0; last = 0; lo = 0; hi = 0; end = None }
 
--- what these are about beside the state: the cartridge's controller, and the facts of the certificate
+-- what these are about beside the state: the cartridge's controller, and the facts of the certificate, which is of version 4 or not
 pub record Program : Type 0 where
+  pub is_whole : Bool
   pub kind : Kind
   pub facts : List Fact

@@ -28,13 +28,15 @@ pub enum Other {
     Pair(WordPair),
 }
 
-/// Of its pair: pair + factor * other = sum, modulo 65,536.
+/// Of its pair: pair + factor * other is one of the words from the sum on, as many more as the width, modulo 65,536.
 #[derive(Clone, Copy)]
 pub struct Link {
     pub other: Other,
     /// -128 to 127, but 0, modulo 65,536.
     pub factor: u16,
     pub sum: u16,
+    /// 0 by the rules of versions 1 to 3.
+    pub width: u16,
 }
 
 /// What is known of a pair.

@@ -5,6 +5,7 @@ use gb_domain::StridedInterval;
 use gb_domain::low_bits::none;
 use gb_domain::pairs::{ANY_BOUNDS, Pairs};
 use gb_domain::places::OneByte;
+use gb_domain::program::Program;
 use gb_domain::summary::{BankShadows, Fact, Fill, FillEnd, Reach, Summary};
 use gb_domain::types::Val;
 use gb_ops::machine::{Kind, Region};
@@ -115,8 +116,11 @@ fn is_left(summary: &Summary, level: u16, left: Left) -> bool {
 fn agrees(step: &SummaryStep) -> bool {
     let (op, l, byte, level, left) = *step;
     let after = summary_after(
-        Kind::Mbc5,
-        FACTS,
+        &Program {
+            is_whole: true,
+            kind: Kind::Mbc5,
+            facts: FACTS,
+        },
         REGION,
         &[],
         op,

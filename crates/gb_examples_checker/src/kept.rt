@@ -48,6 +48,7 @@ fn setting(is_whole: bool) -> Setting {
 
 fn program() -> Program<'static> {
     Program {
+        is_whole: true,
         kind: Kind::Rom,
         facts: FACTS,
     }

@@ -81,6 +81,7 @@ fn behind(setting: Setting, rom: &Rom<'_>, bytes: [u8; 3], state: &Abs) -> Optio
         mark: 0,
     };
     let program = Program {
+        is_whole: true,
         kind: Kind::Rom,
         facts: FACTS,
     };

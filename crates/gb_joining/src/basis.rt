@@ -16,7 +16,11 @@ impl<'a> Basis<'a> {
     /// By these rules, of a cartridge with this controller and a certificate with these facts.
     pub fn of(edition: Edition, kind: Kind, facts: &'a [Fact]) -> Basis<'a> {
         let program = if edition.is_fourth() {
-            Program { kind, facts }
+            Program {
+                is_whole: true,
+                kind,
+                facts,
+            }
         } else {
             Program::unknown()
         };

@@ -20,7 +20,7 @@ use Rattle.gb_domain.specs.Values.{is_strided}
 use Rattle.gb_vals.specs.Logic.{smaller, larger}
 use Rattle.gb_pairs.specs.declared.values.Values.{Values}
 use Rattle.gb_pairs.specs.Bounds.{cut, is_empty, high_of, low_of, box, bounds_of}
-use Rattle.gb_pairs.specs.Reduced.{size, pairs_at, cut_by_other, others_at, left_of, values_within, cut_val, with_register, with_bounds, with_register_if, with_bounds_if, cut_other, cut_other_if, high_bounds, low_bounds, with_bytes_if, settled, reduced_by_link, reduced_within, reduced_pair, reduced_once, reduced, restricted}
+use Rattle.gb_pairs.specs.Reduced.{size, pairs_at, pairs_width, cut_by_other, others_at, left_of, values_within, cut_val, with_register, with_bounds, with_register_if, with_bounds_if, cut_other, cut_other_if, high_bounds, low_bounds, with_bytes_if, settled, reduced_by_link, reduced_within, reduced_pair, reduced_once, reduced, restricted}
 use Rattle.gb_pairs.specs.Sound.{IsCut}
 use Rattle.gb_pairs.proofs.RegisterLaws.{each_set, each_facts}
 use Rattle.gb_pairs.proofs.StrideLaws.{IsLeft, IfSome-left, strided_left}
@@ -48,7 +48,7 @@ IsPart-trans b c d h k =
 
 IsPart-cut_by_other : (l : Link) (o b : Bounds) → IsPart (cut_by_other l o b) b
 unfolding cut_by_other
-IsPart-cut_by_other l o b = choose (nat_lt 65535 (size l * (o.last - o.first)) || is_empty (pairs_at l o))
+IsPart-cut_by_other l o b = choose (nat_lt 65535 (pairs_width l o) || is_empty (pairs_at l o))
   where
     choose : (c : Bool) → IsPart (cond c b (cut b (pairs_at l o))) b
     choose true = record { first = omega arith; last = omega arith }

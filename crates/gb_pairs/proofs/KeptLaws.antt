@@ -65,7 +65,7 @@ without_register_kept r s o e h = subst ArePairs (sym e) (ArePairs-without_regis
 -- ---- steps
 
 IsLink-moved : (a b : ℕ) (l : Link) → IsLink l → IsLink (moved_link a b l)
-IsLink-moved a b l h = record { factor = h.factor; sum = omega arith }
+IsLink-moved a b l h = record { factor = h.factor; sum = omega arith; width = h.width }
 
 link_of_step_kept : (p : WordPair) (a : ℕ) (q : WordPair) (l : Option Link) → IfSome l IsLink → IfSome (link_of_step p a q l) IsLink
 link_of_step_kept p a q None h = tt

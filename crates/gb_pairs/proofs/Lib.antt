@@ -1,3 +1,4 @@
+pub mod ArcLaws
 pub mod BoundsLaws
 pub mod ByteLaws
 pub mod CoveringLaws

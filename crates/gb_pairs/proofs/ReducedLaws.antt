@@ -138,10 +138,10 @@ none_empty b c m n h k = grind (arith, nat_tests)
 
 pub HoldsIn-reduced_by_link :
     (p : WordPair) (l : Link) (o b : Bounds) (v : Values) (x : Registers ℕ)
-    → l.factor < 65536 → b.last < 65536 → AreBytes x → Within o (other_of l.other x) → Within b (word_of p x)
+    → l.factor < 65536 → l.sum < 65536 → b.last < 65536 → AreBytes x → Within o (other_of l.other x) → Within b (word_of p x)
     → IsLinked (Some l) p x → Holds v x → HoldsIn (reduced_by_link p l o b v) x
 unfolding reduced_by_link
-HoldsIn-reduced_by_link p l o b v x factor last bytes j k linked h =
+HoldsIn-reduced_by_link p l o b v x factor sum last bytes j k linked h =
     let c : Bounds = cut_by_other l o b in
     let within : Within c (word_of p x) = Within-cut_by_other l o b _ _ factor (word_below p x bytes) j k linked in
     subst
@@ -149,7 +149,7 @@ HoldsIn-reduced_by_link p l o b v x factor last bytes j k linked h =
     (sym (none_empty o c _ _ j within))
     (HoldsIn-then (settled p c) _ x
     (HoldsIn-cut_other_if l.other _ v x
-    (Within-others_at l o c _ _ factor (cut_by_other-last l o b last) (word_below p x bytes) (other_below l.other x bytes) j within linked)
+    (Within-others_at l o c _ _ factor sum (cut_by_other-last l o b last) (word_below p x bytes) (other_below l.other x bytes) j within linked)
     h)
     (λ w m. HoldsIn-settled p c w x bytes within m))
 
@@ -164,7 +164,7 @@ HoldsIn-reduced_within :
     → HoldsIn (reduced_within p o b v) x
 HoldsIn-reduced_within p None b v x link last bytes k linked h = HoldsIn-settled p b v x bytes k h
 HoldsIn-reduced_within p (Some l) b v x link last bytes k linked h =
-    HoldsIn-reduced_by_link p l _ b v x (factor_below l link) last bytes (Within-bounds_of_other l.other v x h) k linked h
+    HoldsIn-reduced_by_link p l _ b v x (factor_below l link) link.sum last bytes (Within-bounds_of_other l.other v x h) k linked h
 
 HoldsIn-reduced_pair :
     (p : WordPair) (v : Values) (x : Registers ℕ) → ArePairs v.pairs → AreBytes x → Holds v x → HoldsIn (reduced_pair p v) x
@@ -219,10 +219,10 @@ restricted_sound p within v o e =
 
 pub reduced_by_link_sound :
     (p : WordPair) (l : Link) (o b : Bounds) (v : Values) (r : Option Values)
-    → r ≡ reduced_by_link p l o b v → l.factor < 65536 → b.last < 65536 → IsSoundByLink p l o b v r
-reduced_by_link_sound p l o b v r e factor last =
+    → r ≡ reduced_by_link p l o b v → l.factor < 65536 → l.sum < 65536 → b.last < 65536 → IsSoundByLink p l o b v r
+reduced_by_link_sound p l o b v r e factor sum last =
     subst (λ s. IsSoundByLink p l o b v s) (sym e)
-    (record { gives = λ x bytes j k linked h. HoldsIn-reduced_by_link p l o b v x factor last bytes j k linked h })
+    (record { gives = λ x bytes j k linked h. HoldsIn-reduced_by_link p l o b v x factor sum last bytes j k linked h })
 
 -- bounds that are empty leave nothing
 pub empty_sound : (p : WordPair) (v : Values) (b : Bounds) → b ≡ bounds_of p v → b.last < b.first → IsSoundReducing v None

@@ -27,10 +27,10 @@ use Rattle.gb_pairs.proofs.BoundsLaws.{Within-bounds_of, word_below, other_below
 -- ---- on plain numbers
 
 moved_sum :
-    (w o f s a b w' o' : ℕ)
-    → (w + f * o) % 65536 ≡ s → w' ≡ (w + a) % 65536 → o' ≡ (o + b) % 65536
-    → (w' + f * o') % 65536 ≡ (s + a + f * b) % 65536
-moved_sum w o f s a b w' o' h d e =
+    (w o f s more a b w' o' : ℕ)
+    → (w + f * o) % 65536 ≡ (s + more) % 65536 → w' ≡ (w + a) % 65536 → o' ≡ (o + b) % 65536
+    → (w' + f * o') % 65536 ≡ ((s + a + f * b) % 65536 + more) % 65536
+moved_sum w o f s more a b w' o' h d e =
     let r : ℕ = (o + b) / 65536 in
     let is : o + b ≡ o' + 65536 * r = omega arith in
     let times : f * o + f * b ≡ f * o' + 65536 * (f * r) = omega (arith, ap (λ n. f * n) is) in
@@ -48,7 +48,12 @@ pub IsLinked-moved :
     (l : Link) (q : WordPair) (x y : Registers ℕ) (a b : ℕ)
     → word_of q y ≡ (word_of q x + a) % 65536 → other_of l.other y ≡ (other_of l.other x + b) % 65536
     → IsLinked (Some l) q x → IsLinked (Some (moved_link a b l)) q y
-IsLinked-moved l q x y a b d e h = moved_sum (word_of q x) (other_of l.other x) l.factor l.sum a b (word_of q y) (other_of l.other y) h d e
+IsLinked-moved l q x y a b d e h =
+    record {
+      more = h.more;
+      most = h.most;
+      sum = moved_sum (word_of q x) (other_of l.other x) l.factor l.sum h.more a b (word_of q y) (other_of l.other y) h.sum d e;
+    }
 
 -- ---- registers where a pair becomes a word
 

@@ -11,7 +11,7 @@ use Rattle.gb_domain.specs.declared.pairs.Link.{Link}
 use Rattle.gb_domain.specs.declared.pairs.PairFacts.{PairFacts}
 use Rattle.gb_domain.specs.declared.pairs.Pairs.{Pairs}
 use Rattle.gb_domain.specs.Pairs.{nothing_known, facts_of}
-use Rattle.gb_pairs.specs.Meaning.{word_of, other_of, IsLinked, HoldsPair, HoldPairs, AreBytes}
+use Rattle.gb_pairs.specs.Meaning.{word_of, other_of, AreLinked, IsLinked, HoldsPair, HoldPairs, AreBytes}
 use Rattle.gb_pairs.specs.Written.{is_half, reads, link_without, facts_without, without_register}
 use Rattle.gb_pairs.specs.Sound.{IsSoundForgetting}
 use Rattle.gb_pairs.proofs.RegisterLaws.{get_other, word_other, AreBytes-set}
@@ -30,8 +30,7 @@ IsLinked-stays :
 IsLinked-stays None p x y e f h = tt
 IsLinked-stays (Some l) p x y e f h =
     let g : other_of l.other y ≡ other_of l.other x = f l refl in
-    subst (λ w. (w + l.factor * other_of l.other y) % 65536 ≡ l.sum) (sym e)
-    (subst (λ o. (word_of p x + l.factor * o) % 65536 ≡ l.sum) (sym g) h)
+    subst (λ w. AreLinked l w (other_of l.other y)) (sym e) (subst (λ o. AreLinked l (word_of p x) o) (sym g) h)
 
 IsLinked-without :
     (r : Register) (l : Option Link) (p : WordPair) (n : ℕ) (x : Registers ℕ)
@@ -42,8 +41,8 @@ IsLinked-without r (Some l) p n x e h = choose (reads r l.other) refl
     choose : (b : Bool) → reads r l.other ≡ b → IsLinked (cond b None (Some l)) p (set r n x)
     choose true f = tt
     choose false f =
-        subst (λ w. (w + l.factor * other_of l.other (set r n x)) % 65536 ≡ l.sum) (sym (word_other r p n x e))
-        (subst (λ o. (word_of p x + l.factor * o) % 65536 ≡ l.sum) (sym (other_stays r l.other n x f)) h)
+        subst (λ w. AreLinked l w (other_of l.other (set r n x))) (sym (word_other r p n x e))
+        (subst (λ o. AreLinked l (word_of p x) o) (sym (other_stays r l.other n x f)) h)
 
 HoldsPair-without :
     (r : Register) (p : WordPair) (f : PairFacts) (n : ℕ) (x : Registers ℕ)

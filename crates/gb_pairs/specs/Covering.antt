@@ -1,5 +1,7 @@
 -- Covering: what is known of pairs holds of all that values stand for (abstract interpretation: inclusion; own).
-use Rattle.std.specs.Prelude.{◌+◌, ◌*◌, ◌%◌, Bool, true, false, ◌&&◌, ◌||◌, ◌==◌, nat_le, Option, Some, None}
+use Rattle.std.specs.Prelude.{ℕ, ◌+◌, ◌-◌, ◌*◌, ◌%◌, Bool, true, false, ◌&&◌, ◌||◌, ◌==◌, if◌then◌else◌, nat_le, nat_lt, Option, Some, None}
+use Rattle.gb_ops.specs.declared.registers.Registers.{Registers}
+use Rattle.gb_ops.specs.Registers.{get}
 use Rattle.gb_domain.specs.declared.pairs.WordPair.{WordPair}
 use Rattle.gb_domain.specs.declared.pairs.WordPair.TheVariants as pair
 use Rattle.gb_domain.specs.declared.pairs.Bounds.{Bounds}
@@ -10,8 +12,10 @@ use Rattle.gb_domain.specs.declared.pairs.PairFacts.{PairFacts}
 use Rattle.gb_domain.specs.declared.pairs.Pairs.{Pairs}
 use Rattle.gb_domain.specs.Pairs.{facts_of}
 use Rattle.gb_domain.specs.Places.{is_same_register}
+use Rattle.gb_pairs.specs.declared.covering.Arc.{Arc}
 use Rattle.gb_pairs.specs.declared.values.Values.{Values}
 use Rattle.gb_pairs.specs.Bounds.{is_one, bounds_of, bounds_of_other}
+use Rattle.gb_pairs.specs.Reduced.{is_rising, size, pairs_at, pairs_width}
 use Rattle.gb_pairs.specs.Written.{is_same_pair}
 
 abbrev pub is_same_other : Other → Other → Bool
@@ -21,23 +25,95 @@ is_same_other _ _ = false
 
 abbrev pub is_same_link : Option Link → Link → Bool
 is_same_link None t = false
-is_same_link (Some s) t = is_same_other s.other t.other && (s.factor == t.factor) && (s.sum == t.sum)
+is_same_link (Some s) t = is_same_other s.other t.other && (s.factor == t.factor) && (s.sum == t.sum) && (s.width == t.width)
 
 -- the pair and the other are known, and meet the link
 abbrev pub meets_link : Bounds → Bounds → Link → Bool
 meets_link b o l = is_one b && is_one o && ((b.first + l.factor * o.first) % 65536 == l.sum)
 
--- a link is asked for only where there is one
-abbrev pub covers_link : WordPair → Values → Option Link → Bool
-covers_link p s None = true
-covers_link p s (Some l) =
-    is_same_link (facts_of p s.pairs).link l || meets_link (bounds_of p s) (bounds_of_other l.other s) l
+-- ---- words that stand one after another, modulo 65536
+
+abbrev pub arc : ℕ → ℕ → Arc
+arc first width = record { first = first; width = width }
+
+-- not all words
+abbrev pub arc_if : ℕ → ℕ → Option Arc
+arc_if first width = if nat_lt 65535 width then None else Some (arc first width)
+
+-- the inner one lies in the outer one
+abbrev pub is_arc_in : Arc → Arc → Bool
+is_arc_in a b = nat_le ((a.first + (65536 - b.first % 65536)) % 65536 + a.width) b.width
+
+-- of a pair: its bounds
+abbrev pub arc_of_bounds : Bounds → Arc
+arc_of_bounds b = arc b.first (b.last - b.first)
+
+-- of a pair: what its link leaves, where what the link reads is in o
+abbrev pub arc_of_link : Link → Bounds → Option Arc
+arc_of_link l o = arc_if (pairs_at l o).first (pairs_width l o)
+
+-- the sums of a link
+abbrev pub arc_of_sums : Link → Arc
+arc_of_sums l = arc l.sum l.width
+
+-- the sums of a pair that is on an arc, and of the other, which is in o, times the link's factor
+abbrev pub arc_of_both : Link → Bounds → Arc → Option Arc
+arc_of_both l o a =
+    arc_if ((a.first + l.factor * (if is_rising l then o.first else o.last)) % 65536) (a.width + size l * (o.last - o.first))
+
+-- ---- a link
+
+-- both are registers that hold one byte
+abbrev pub are_one_byte : Registers Bool → Other → Other → Bool
+are_one_byte places (other.Register r) (other.Register s) = get r places && get s places
+are_one_byte places o p = false
+
+-- a link follows from another one of the pair
+abbrev pub follows : Registers Bool → Option Link → Link → Bool
+follows places None t = false
+follows places (Some s) t =
+    (is_same_other s.other t.other || are_one_byte places s.other t.other)
+    && (s.factor == t.factor)
+    && is_arc_in (arc_of_sums s) (arc_of_sums t)
+
+abbrev pub has_sums : Link → Option Arc → Bool
+has_sums l None = false
+has_sums l (Some a) = is_arc_in a (arc_of_sums l)
+
+-- or from where the pair is, what the link reads being in o
+abbrev pub follows_on : Bounds → Link → Option Arc → Bool
+follows_on o l None = false
+follows_on o l (Some a) = has_sums l (arc_of_both l o a)
+
+-- which another link of it says
+abbrev pub arc_by_link : Values → Option Link → Option Arc
+arc_by_link s None = None
+arc_by_link s (Some k) = arc_of_link k (bounds_of_other k.other s)
+
+unfoldable pub holds_link : Registers Bool → WordPair → Values → Link → Bool
+holds_link places p s l =
+    follows places (facts_of p s.pairs).link l
+    || follows_on (bounds_of_other l.other s) l (Some (arc_of_bounds (bounds_of p s)))
+    || follows_on (bounds_of_other l.other s) l (arc_by_link s (facts_of p s.pairs).link)
+
+-- by the rules of versions 1 to 3: it is the pair's link, or pair and other are known and meet it
+unfoldable pub holds_link_plainly : WordPair → Values → Link → Bool
+holds_link_plainly p s l = is_same_link (facts_of p s.pairs).link l || meets_link (bounds_of p s) (bounds_of_other l.other s) l
+
+-- ---- pairs
+
+-- a link is asked for only where there is one; by the rules of version 4 what holds one byte counts too
+abbrev pub covers_link : Option (Registers Bool) → WordPair → Values → Option Link → Bool
+covers_link by p s None = true
+covers_link None p s (Some l) = holds_link_plainly p s l
+covers_link (Some places) p s (Some l) = holds_link places p s l
 
 abbrev pub covers_bounds : Bounds → Bounds → Bool
 covers_bounds s t = nat_le t.first s.first && nat_le s.last t.last
 
-abbrev pub covers_pair : WordPair → Values → PairFacts → Bool
-covers_pair p s t = covers_bounds (bounds_of p s) t.bounds && covers_link p s t.link
+abbrev pub covers_pair : Option (Registers Bool) → WordPair → Values → PairFacts → Bool
+covers_pair by p s t = covers_bounds (bounds_of p s) t.bounds && covers_link by p s t.link
 
-unfoldable pub covers_pairs : Values → Pairs → Bool
-covers_pairs s t = covers_pair pair.Bc s t.bc && covers_pair pair.De s t.de && covers_pair pair.Hl s t.hl
+-- by the rules of version 4 where it is told which registers hold one byte
+unfoldable pub covers_pairs : Option (Registers Bool) → Values → Pairs → Bool
+covers_pairs by s t = covers_pair by pair.Bc s t.bc && covers_pair by pair.De s t.de && covers_pair by pair.Hl s t.hl

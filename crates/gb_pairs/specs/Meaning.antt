@@ -26,10 +26,16 @@ abbrev pub other_of : Other → Registers ℕ → ℕ
 other_of (other.Register r) x = get r x
 other_of (other.Pair p) x = word_of p x
 
--- pair + factor * other = sum, modulo 65536
+-- of a word and another: word + factor * other = sum + more, modulo 65536, and more is up to the width
+pub record AreLinked (l : Link) (w n : ℕ) : Type 0 where
+  pub more : ℕ
+  pub most : more ≤ l.width
+  pub sum : (w + l.factor * n) % 65536 ≡ (l.sum + more) % 65536
+
+-- a pair and what its link reads
 abbrev pub IsLinked : Option Link → WordPair → Registers ℕ → Type 0
 IsLinked None p x = Unit {0}
-IsLinked (Some l) p x = (word_of p x + l.factor * other_of l.other x) % 65536 ≡ l.sum
+IsLinked (Some l) p x = AreLinked l (word_of p x) (other_of l.other x)
 
 pub record HoldsPair (f : PairFacts) (p : WordPair) (x : Registers ℕ) : Type 0 where
   pub first : f.bounds.first ≤ word_of p x

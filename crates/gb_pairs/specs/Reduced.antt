@@ -41,34 +41,46 @@ is_rising l = nat_lt l.factor 128
 abbrev pub size : Link → ℕ
 size l = if is_rising l then l.factor else 65536 - l.factor
 
--- the pair where the other is o
+-- the first of the pair's words where the other is o
 abbrev pub pair_at : Link → ℕ → ℕ
 pair_at l o = (l.sum + (65536 - l.factor) * o) % 65536
+
+-- and the last of them
+abbrev pub last_pair_at : Link → ℕ → ℕ
+last_pair_at l o = (pair_at l o + l.width) % 65536
 
 -- the pair from one end of the other to its other end; they stand in order unless they go round
 abbrev pub pairs_at : Link → Bounds → Bounds
 pairs_at l o =
     if is_rising l
-    then record { first = pair_at l o.last; last = pair_at l o.first }
-    else record { first = pair_at l o.first; last = pair_at l o.last }
+    then record { first = pair_at l o.last; last = last_pair_at l o.first }
+    else record { first = pair_at l o.first; last = last_pair_at l o.last }
+
+-- from the first to the last of them
+abbrev pub pairs_width : Link → Bounds → ℕ
+pairs_width l o = size l * (o.last - o.first) + l.width
 
 -- b, cut to what the link leaves where the other is in o
 unfoldable pub cut_by_other : Link → Bounds → Bounds → Bounds
 cut_by_other l o b =
-    if nat_lt 65535 (size l * (o.last - o.first)) || is_empty (pairs_at l o) then b else cut b (pairs_at l o)
+    if nat_lt 65535 (pairs_width l o) || is_empty (pairs_at l o) then b else cut b (pairs_at l o)
 
 -- ---- what a link says of its other
 
--- size times the other where the pair is w
-abbrev pub multiple_at : Link → ℕ → ℕ
-multiple_at l w = if is_rising l then (l.sum + (65536 - w)) % 65536 else (w + (65536 - l.sum)) % 65536
+-- size times the other where the pair is w, and pair and other have this sum
+abbrev pub multiple_at : Link → ℕ → ℕ → ℕ
+multiple_at l sum w = if is_rising l then (sum + (65536 - w)) % 65536 else (w + (65536 - sum)) % 65536
 
--- the same from one end of the pair to its other end
+-- the greatest of the sums
+abbrev pub last_sum : Link → ℕ
+last_sum l = (l.sum + l.width) % 65536
+
+-- size times the other, from one end of the pair to its other end
 abbrev pub multiples_at : Link → Bounds → Bounds
 multiples_at l b =
     if is_rising l
-    then record { first = multiple_at l b.last; last = multiple_at l b.first }
-    else record { first = multiple_at l b.first; last = multiple_at l b.last }
+    then record { first = multiple_at l l.sum b.last; last = multiple_at l (last_sum l) b.first }
+    else record { first = multiple_at l (last_sum l) b.first; last = multiple_at l l.sum b.last }
 
 -- the numbers whose multiples lie in d
 abbrev pub divided : ℕ → Bounds → Bounds
@@ -77,7 +89,7 @@ divided m d = record { first = div_ceil d.first m; last = d.last / m }
 -- what a link leaves of the other, which is in o, where the pair is in b; none where that goes round, or the factor is 0
 unfoldable pub others_at : Link → Bounds → Bounds → Option Bounds
 others_at l o b =
-    if is_empty (multiples_at l b) then None
+    if nat_lt 65535 (l.width + (b.last - b.first)) || is_empty (multiples_at l b) then None
     else if size l == 1 then Some (multiples_at l b)
     else if size l == 0 || nat_lt 65535 (size l * o.last) then None
     else Some (divided (size l) (multiples_at l b))

@@ -1,14 +1,16 @@
 //! Covering: whether what is known of pairs holds of all that values stand for.
 
-ghost use Rattle.std.specs.Prelude.{◌≡◌, true};
-ghost use Rattle.gb_pairs.specs.Covering.{is_same_other, is_same_link, meets_link, covers_link, covers_bounds, covers_pair, covers_pairs};
-ghost use Rattle.gb_pairs.specs.Sound.{ArePartOf};
+ghost use Rattle.std.specs.Prelude.{◌≡◌, ◌+◌, ◌-◌, ◌%◌, true};
+ghost use Rattle.gb_pairs.specs.Covering.{is_same_other, is_same_link, meets_link, holds_link_plainly, arc_if, is_arc_in, arc_of_bounds, arc_of_link, arc_of_sums, arc_of_both, are_one_byte, follows, has_sums, follows_on, arc_by_link, holds_link, covers_link, covers_bounds, covers_pair, covers_pairs};
+ghost use Rattle.gb_pairs.specs.Sound.{HasFactor, HaveFactors, ArePartOf};
 
 use crate::bounds::{bounds_of, bounds_of_other, facts_of, is_one};
+use crate::reduced::{is_rising, pairs_at, pairs_width, product, size};
 use crate::values::Values;
 use crate::written::is_same_pair;
 use gb_domain::pairs::{Bounds, Link, Other, PairFacts, Pairs, WordPair};
 use gb_domain::places::is_same_register;
+use gb_ops::registers::Registers;
 
 fn is_same_other(s: Other, t: Other) -> bool
     ensures { result ≡ is_same_other s t }
@@ -26,7 +28,7 @@ fn is_same_link(s: Option<Link>, t: Link) -> bool
     let Some(s) = s else {
         return false;
     };
-    is_same_other(s.other, t.other) && s.factor == t.factor && s.sum == t.sum
+    is_same_other(s.other, t.other) && s.factor == t.factor && s.sum == t.sum && s.width == t.width
 }
 
 /// Whether a pair and what a link reads beside it are known, and meet the link.
@@ -37,14 +39,163 @@ fn meets_link(pair: Bounds, other: Bounds, link: Link) -> bool
     is_one(pair) && is_one(other) && pair.first.wrapping_add(product) == link.sum
 }
 
-fn covers_link(pair: WordPair, s: &Values, link: Option<Link>) -> bool
-    ensures { result ≡ covers_link pair s.now link }
+/// By the rules of versions 1 to 3: it is the pair's link, or pair and other are known and meet it.
+#[tactic(auto, unfolding(crate::specs::Covering::holds_link_plainly))]
+fn holds_link_plainly(pair: WordPair, s: &Values, link: Link) -> bool
+    ensures { result ≡ holds_link_plainly pair s.now link }
+{
+    is_same_link(facts_of(pair, &s.pairs).link, link)
+        || meets_link(bounds_of(pair, s), bounds_of_other(link.other, s), link)
+}
+
+// ---- words that stand one after another
+
+/// Words that stand one after another, modulo 65,536: the first, and so many after it.
+#[derive(Clone, Copy)]
+pub(crate) struct Arc {
+    pub(crate) first: u16,
+    pub(crate) width: u16,
+}
+
+/// An arc that isn't all words.
+fn arc_if(first: u16, width: u32) -> Option<Arc>
+    ensures { result ≡ arc_if first width }
+{
+    if width > 65_535 {
+        return None;
+    }
+    let width = width as u16;
+    Some(Arc { first, width })
+}
+
+/// How far one word lies behind another.
+#[tactic(auto, using(crate::proofs::ArcLaws::distance_by_wrapping))]
+fn distance(word: u16, from: u16) -> u16
+    ensures { result ≡ (word + (65536 - from % 65536)) % 65536 }
+{
+    word.wrapping_sub(from)
+}
+
+fn is_arc_in(inner: Arc, outer: Arc) -> bool
+    ensures { result ≡ is_arc_in inner outer }
+{
+    u32::from(distance(inner.first, outer.first)) + u32::from(inner.width) <= u32::from(outer.width)
+}
+
+fn arc_of_bounds(bounds: Bounds) -> Arc
+    ensures { result ≡ arc_of_bounds bounds }
+{
+    Arc {
+        first: bounds.first,
+        width: bounds.last.saturating_sub(bounds.first),
+    }
+}
+
+/// What a pair's link leaves of it, where what the link reads lies in bounds.
+fn arc_of_link(link: Link, other: Bounds) -> Option<Arc>
+    ensures { result ≡ arc_of_link link other }
+{
+    arc_if(pairs_at(link, other).first, pairs_width(link, other))
+}
+
+fn arc_of_sums(link: Link) -> Arc
+    ensures { result ≡ arc_of_sums link }
+{
+    Arc {
+        first: link.sum,
+        width: link.width,
+    }
+}
+
+/// The sums of a pair on an arc and what a link reads, which lies in bounds, times the link's factor.
+fn arc_of_both(link: Link, other: Bounds, pair: Arc) -> Option<Arc>
+    ensures { result ≡ arc_of_both link other pair }
+{
+    let end = if is_rising(link) {
+        other.first
+    } else {
+        other.last
+    };
+    let first = pair.first.wrapping_add(link.factor.wrapping_mul(end));
+    let spread = product(size(link), other.last.saturating_sub(other.first));
+    arc_if(first, u32::from(pair.width) + spread)
+}
+
+// ---- a link
+
+/// Whether both are registers that hold one byte.
+fn are_one_byte(places: &Registers<bool>, s: Other, t: Other) -> bool
+    ensures { result ≡ are_one_byte places.now s t }
+{
+    match (s, t) {
+        (Other::Register(s), Other::Register(t)) => places.get(s) && places.get(t),
+        _ => false,
+    }
+}
+
+/// Whether a link follows from another one of the pair.
+fn follows(places: &Registers<bool>, s: Option<Link>, t: Link) -> bool
+    ensures { result ≡ follows places.now s t }
+{
+    let Some(s) = s else {
+        return false;
+    };
+    (is_same_other(s.other, t.other) || are_one_byte(places, s.other, t.other))
+        && s.factor == t.factor
+        && is_arc_in(arc_of_sums(s), arc_of_sums(t))
+}
+
+/// Whether sums are some of a link's.
+fn has_sums(link: Link, sums: Option<Arc>) -> bool
+    ensures { result ≡ has_sums link sums }
+{
+    let Some(sums) = sums else {
+        return false;
+    };
+    is_arc_in(sums, arc_of_sums(link))
+}
+
+/// Whether a link follows from where its pair is, and within which bounds what it reads.
+fn follows_on(other: Bounds, link: Link, pair: Option<Arc>) -> bool
+    ensures { result ≡ follows_on other link pair }
+{
+    let Some(pair) = pair else {
+        return false;
+    };
+    has_sums(link, arc_of_both(link, other, pair))
+}
+
+/// Where a pair is by its link.
+fn arc_by_link(s: &Values, link: Option<Link>) -> Option<Arc>
+    ensures { result ≡ arc_by_link s.now link }
+{
+    let link = link?;
+    arc_of_link(link, bounds_of_other(link.other, s))
+}
+
+#[tactic(auto, unfolding(crate::specs::Covering::holds_link))]
+fn holds_link(places: &Registers<bool>, pair: WordPair, s: &Values, link: Link) -> bool
+    ensures { result ≡ holds_link places.now pair s.now link }
+{
+    let known = facts_of(pair, &s.pairs).link;
+    let other = bounds_of_other(link.other, s);
+    follows(places, known, link)
+        || follows_on(other, link, Some(arc_of_bounds(bounds_of(pair, s))))
+        || follows_on(other, link, arc_by_link(s, known))
+}
+
+// ---- pairs
+
+fn covers_link(by: Option<Registers<bool>>, pair: WordPair, s: &Values, link: Option<Link>) -> bool
+    ensures { result ≡ covers_link by pair s.now link }
 {
     let Some(link) = link else {
         return true;
     };
-    is_same_link(facts_of(pair, &s.pairs).link, link)
-        || meets_link(bounds_of(pair, s), bounds_of_other(link.other, s), link)
+    match by {
+        None => holds_link_plainly(pair, s, link),
+        Some(places) => holds_link(&places, pair, s, link),
+    }
 }
 
 fn covers_bounds(s: Bounds, t: Bounds) -> bool
@@ -53,20 +204,48 @@ fn covers_bounds(s: Bounds, t: Bounds) -> bool
     t.first <= s.first && s.last <= t.last
 }
 
-fn covers_pair(pair: WordPair, s: &Values, t: PairFacts) -> bool
-    ensures { result ≡ covers_pair pair s.now t }
+fn covers_pair(by: Option<Registers<bool>>, pair: WordPair, s: &Values, t: PairFacts) -> bool
+    ensures { result ≡ covers_pair by pair s.now t }
 {
-    covers_bounds(bounds_of(pair, s), t.bounds) && covers_link(pair, s, t.link)
+    covers_bounds(bounds_of(pair, s), t.bounds) && covers_link(by, pair, s, t.link)
+}
+
+/// A link's factor is a word.
+fn has_factor(link: Option<Link>)
+    ensures { HasFactor link }
+{
+    if let Some(link) = link {
+        let Link { factor, .. } = link;
+        let _ = factor;
+    }
+}
+
+/// The factors of links are words.
+pub fn have_factors(pairs: &Pairs)
+    ensures { HaveFactors pairs.now }
+{
+    has_factor(pairs.bc.link);
+    has_factor(pairs.de.link);
+    has_factor(pairs.hl.link);
+}
+
+#[tactic(auto, unfolding(crate::specs::Covering::covers_pairs))]
+fn covers_each(by: Option<Registers<bool>>, values: &Values, pairs: &Pairs) -> bool
+    ensures { result ≡ covers_pairs by values.now pairs.now }
+{
+    covers_pair(by, WordPair::Bc, values, pairs.bc)
+        && covers_pair(by, WordPair::De, values, pairs.de)
+        && covers_pair(by, WordPair::Hl, values, pairs.hl)
 }
 
 /// Whether what is known of pairs holds of all registers that values stand for, decided pair by pair (abstract
-/// interpretation: inclusion).
-#[tactic(auto, using(crate::proofs::CoveringLaws::covers_pairs_sound), unfolding(crate::specs::Covering::covers_pairs))]
-pub fn covers_pairs(values: &Values, pairs: &Pairs) -> bool
-    ensures exact { result ≡ covers_pairs values.now pairs.now }
-    ensures sound { result ≡ true → ArePartOf values.now pairs.now }
+/// interpretation: inclusion): by the rules of version 4 where it is told which registers hold one byte.
+#[tactic(auto, using(crate::proofs::CoveringLaws::covers_pairs_sound))]
+pub fn covers_pairs(by: Option<Registers<bool>>, values: &Values, pairs: &Pairs) -> bool
+    ensures exact { result ≡ covers_pairs by values.now pairs.now }
+    ensures sound { result ≡ true → ArePartOf by values.now pairs.now }
 {
-    covers_pair(WordPair::Bc, values, pairs.bc)
-        && covers_pair(WordPair::De, values, pairs.de)
-        && covers_pair(WordPair::Hl, values, pairs.hl)
+    have_factors(&values.pairs);
+    have_factors(pairs);
+    covers_each(by, values, pairs)
 }

@@ -2,7 +2,7 @@
 
 ghost use Rattle.std.specs.Prelude.{◌≡◌, ◌≤◌, ◌*◌, IfSome};
 ghost use Rattle.gb_domain.specs.Pairs.{ArePairs};
-ghost use Rattle.gb_pairs.specs.Reduced.{values_of, values_if, is_rising, size, pair_at, pairs_at, cut_by_other, multiple_at, multiples_at, others_at, values_within, cut_val, with_facts, with_bounds, with_bounds_if, cut_other, high_bounds, low_bounds, settled, reduced_by_link, reduced_pair, reduced_once, reduced, restricted};
+ghost use Rattle.gb_pairs.specs.Reduced.{values_of, values_if, is_rising, size, pair_at, last_pair_at, pairs_at, pairs_width, cut_by_other, multiple_at, last_sum, multiples_at, others_at, values_within, cut_val, with_facts, with_bounds, with_bounds_if, cut_other, high_bounds, low_bounds, settled, reduced_by_link, reduced_pair, reduced_once, reduced, restricted};
 ghost use Rattle.gb_pairs.specs.Sound.{IsSoundByLink, IsSoundReducing, IsSoundRestriction, IsCut};
 
 use crate::bounds::{bounds_of, bounds_of_other, cut, facts_of, high_of, is_empty, low_of};
@@ -15,14 +15,14 @@ use gb_domain::types::Val;
 use gb_ops::registers::Registers;
 
 /// Whether a link's factor is above 0.
-fn is_rising(link: Link) -> bool
+pub(crate) fn is_rising(link: Link) -> bool
     ensures { result ≡ is_rising link }
 {
     link.factor < 128
 }
 
 /// A link's factor without its sign.
-fn size(link: Link) -> u16
+pub(crate) fn size(link: Link) -> u16
     ensures { result ≡ size link }
 {
     if is_rising(link) {
@@ -32,13 +32,13 @@ fn size(link: Link) -> u16
     }
 }
 
-fn product(x: u16, y: u16) -> u32
+pub(crate) fn product(x: u16, y: u16) -> u32
     ensures { result ≡ x * y }
 {
     u32::from(x) * u32::from(y)
 }
 
-/// The pair where what its link reads is known.
+/// The first of the pair's words where what its link reads is known.
 #[tactic(auto, using(crate::proofs::LinkLaws::pair_by_wrapping))]
 fn pair_at(link: Link, other: u16) -> u16
     ensures { result ≡ pair_at link other }
@@ -46,23 +46,35 @@ fn pair_at(link: Link, other: u16) -> u16
     link.sum.wrapping_sub(link.factor.wrapping_mul(other))
 }
 
+/// The last of them.
+fn last_pair_at(link: Link, other: u16) -> u16
+    ensures { result ≡ last_pair_at link other }
+{
+    pair_at(link, other).wrapping_add(link.width)
+}
+
 /// The pair from one end of what its link reads to the other end; they stand in order unless they go round.
-fn pairs_at(link: Link, other: Bounds) -> Bounds
+pub(crate) fn pairs_at(link: Link, other: Bounds) -> Bounds
     ensures { result ≡ pairs_at link other }
 {
-    let at_first = pair_at(link, other.first);
-    let at_last = pair_at(link, other.last);
     if is_rising(link) {
         Bounds {
-            first: at_last,
-            last: at_first,
+            first: pair_at(link, other.last),
+            last: last_pair_at(link, other.first),
         }
     } else {
         Bounds {
-            first: at_first,
-            last: at_last,
+            first: pair_at(link, other.first),
+            last: last_pair_at(link, other.last),
         }
     }
+}
+
+/// How far it is from the first of these words to the last, where they don't go round.
+pub(crate) fn pairs_width(link: Link, other: Bounds) -> u32
+    ensures { result ≡ pairs_width link other }
+{
+    product(size(link), other.last.saturating_sub(other.first)) + u32::from(link.width)
 }
 
 /// Bounds of a pair, cut to what its link leaves.
@@ -71,40 +83,44 @@ fn cut_by_other(link: Link, other: Bounds, bounds: Bounds) -> Bounds
     ensures { result ≡ cut_by_other link other bounds }
 {
     let pairs = pairs_at(link, other);
-    let width = other.last.saturating_sub(other.first);
-    if product(size(link), width) > 65_535 || is_empty(pairs) {
+    if pairs_width(link, other) > 65_535 || is_empty(pairs) {
         bounds
     } else {
         cut(bounds, pairs)
     }
 }
 
-/// What a link reads, times the size of its factor, where the pair is known.
-fn multiple_at(link: Link, word: u16) -> u16
-    ensures { result ≡ multiple_at link word }
+/// What a link reads, times the size of its factor, where the pair is known, and this is their sum.
+fn multiple_at(link: Link, sum: u16, word: u16) -> u16
+    ensures { result ≡ multiple_at link sum word }
 {
     if is_rising(link) {
-        link.sum.wrapping_sub(word)
+        sum.wrapping_sub(word)
     } else {
-        word.wrapping_sub(link.sum)
+        word.wrapping_sub(sum)
     }
+}
+
+/// The greatest of a link's sums.
+fn last_sum(link: Link) -> u16
+    ensures { result ≡ last_sum link }
+{
+    link.sum.wrapping_add(link.width)
 }
 
 /// What a link reads, times the size of its factor, for all words of the pair between two ends.
 fn multiples_at(link: Link, bounds: Bounds) -> Bounds
     ensures { result ≡ multiples_at link bounds }
 {
-    let at_first = multiple_at(link, bounds.first);
-    let at_last = multiple_at(link, bounds.last);
     if is_rising(link) {
         Bounds {
-            first: at_last,
-            last: at_first,
+            first: multiple_at(link, link.sum, bounds.last),
+            last: multiple_at(link, last_sum(link), bounds.first),
         }
     } else {
         Bounds {
-            first: at_first,
-            last: at_last,
+            first: multiple_at(link, last_sum(link), bounds.first),
+            last: multiple_at(link, link.sum, bounds.last),
         }
     }
 }
@@ -116,7 +132,8 @@ fn others_at(link: Link, other: Bounds, bounds: Bounds) -> Option<Bounds>
 {
     let multiples = multiples_at(link, bounds);
     let size = size(link);
-    if is_empty(multiples) {
+    let width = u32::from(link.width) + u32::from(bounds.last.saturating_sub(bounds.first));
+    if width > 65_535 || is_empty(multiples) {
         None
     } else if size == 1 {
         Some(multiples)

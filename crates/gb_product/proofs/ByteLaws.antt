@@ -1,6 +1,5 @@
 -- What a state knows of a byte in RAM is a value, whatever the facts and fills are.
-use Rattle.std.proofs.Common.{◌≡◌, ℕ, zero, suc, ◌==◌, ◌≤◌, ◌<◌, Bool, true, false, cond, ◌&&◌, ◌||◌, nat_le, nat_lt, List, [], ◌∷◌, take, Option, Some, None, refl, subst, arith}
-use Rattle.std.proofs.lemmas.Bool.Decides.{nat_tests}
+use Rattle.std.proofs.Common.{ℕ, ◌≤◌, ◌<◌, Bool, true, false, cond, List, [], ◌∷◌, take, Option, Some, None, refl, arith}
 use Rattle.std.specs.Prelude.{IfSome}
 use Rattle.gb_domain.specs.declared.interval.StridedInterval.{StridedInterval}
 use Rattle.gb_domain.specs.declared.pairs.Bounds.{Bounds}
@@ -11,9 +10,9 @@ use Rattle.gb_domain.specs.Interval.{any_byte, cut}
 use Rattle.gb_domain.specs.Meaning.{AreIn, Leaves, IsStrided, IsOfBytes}
 use Rattle.gb_domain.specs.Rules.{IsVal}
 use Rattle.gb_domain.specs.Summaries.{SummaryParts, Program}
-use Rattle.gb_domain.specs.Values.{interval_of, have_same, is_strided}
+use Rattle.gb_domain.specs.Values.{interval_of}
 use Rattle.gb_domain.proofs.IntervalLaws.{IsOfBytes-any, cut_leaves, cut_strided}
-use Rattle.gb_domain.proofs.ValueLaws.{IsStrided-val, same-Has}
+use Rattle.gb_domain.proofs.ValueLaws.{IsStrided-val}
 use Rattle.gb_abs_effects.specs.Below.gb_abs.Covering.{cell_at}
 use Rattle.gb_abs_effects.proofs.Below.gb_abs_laws.WideningLaws.{IsVal-of_interval}
 use Rattle.gb_summaries.specs.Below.gb_pairs.declared.values.Values.{Values}

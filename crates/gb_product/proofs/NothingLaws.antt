@@ -20,7 +20,7 @@ use Rattle.gb_summaries.specs.Below.gb_pairs.Covering.{covers_link, covers_bound
 use Rattle.gb_summaries.specs.Below.gb_copies.Covering.{covers_registers, covers_address, covers_test, covers_byte}
 use Rattle.gb_summaries.proofs.Below.gb_pairs_laws.CutLaws.{IsPart-bounds_of}
 use Rattle.gb_summaries.specs.Below.gb_relations.Transfer.{values_of}
-use Rattle.gb_product.specs.Covering.{covers_zero, is_nothing, covers_relations}
+use Rattle.gb_product.specs.Covering.{covers_zero, places_by, is_nothing, covers_relations}
 
 both : (a b : Bool) → a ≡ true → b ≡ true → (a && b) ≡ true
 both true b h k = k
@@ -66,9 +66,9 @@ zero_covered s (Some q) h = cc
 
 -- ---- pairs of which nothing is known
 
-link_covered : (p : WordPair) (v : Values) (l : Option Link) → is_some l ≡ false → covers_link p v l ≡ true
-link_covered p v None h = refl
-link_covered p v (Some l) h = cc
+link_covered : (by : Option (Registers Bool)) (p : WordPair) (v : Values) (l : Option Link) → is_some l ≡ false → covers_link by p v l ≡ true
+link_covered by p v None h = refl
+link_covered by p v (Some l) h = cc
 
 bounds_covered : (s t : Bounds) → (t.first == 0 && t.last == 0xFFFF) ≡ true → s.last < 65536 → covers_bounds s t ≡ true
 bounds_covered s t h k =
@@ -82,18 +82,20 @@ is_true true h = refl
 is_true false h = cc
 
 pair_covered :
-    (p : WordPair) (v : Values) (f : PairFacts) → (facts_of p v.pairs).bounds.last < 65536 → not (is_known f) ≡ true → covers_pair p v f ≡ true
-pair_covered p v f below h =
+    (by : Option (Registers Bool)) (p : WordPair) (v : Values) (f : PairFacts)
+    → (facts_of p v.pairs).bounds.last < 65536 → not (is_known f) ≡ true → covers_pair by p v f ≡ true
+pair_covered by p v f below h =
     let parts = or_parts (is_some f.link) (not (f.bounds.first == 0 && f.bounds.last == 0xFFFF)) (not-true _ h) in
     let most = (IsPart-bounds_of p v).last in
-    both _ _ (bounds_covered (bounds_of p v) f.bounds (is_true _ parts.1) (omega arith)) (link_covered p v f.link parts.0)
+    both _ _ (bounds_covered (bounds_of p v) f.bounds (is_true _ parts.1) (omega arith)) (link_covered by p v f.link parts.0)
 
 pub nothing_covered :
-    (registers : Registers Val) (s t : Relations)
+    (whole : Bool) (registers : Registers Val) (s t : Relations)
     → is_nothing t ≡ true → s.pairs.bc.bounds.last < 65536 → s.pairs.de.bounds.last < 65536 → s.pairs.hl.bounds.last < 65536
-    → covers_relations registers s t ≡ true
+    → covers_relations whole registers s t ≡ true
 unfolding covers_relations covers_pairs
-nothing_covered registers s t h bc de hl =
+nothing_covered whole registers s t h bc de hl =
+    let by = places_by whole s in
     let v = values_of registers s.pairs in
     let pairs = and_parts _ _ h in
     let zero = and_parts _ _ pairs.0 in
@@ -101,4 +103,4 @@ nothing_covered registers s t h bc de hl =
     let first = and_parts _ _ pairs.1 in
     let others = and_parts _ _ first.1 in
     both _ _ (both _ _ (byte_covered s.byte t.byte byte.0 byte.1) (zero_covered s.zero t.zero zero.1))
-    (both _ _ (both _ _ (pair_covered pair.Bc v t.pairs.bc bc first.0) (pair_covered pair.De v t.pairs.de de others.0)) (pair_covered pair.Hl v t.pairs.hl hl others.1))
+    (both _ _ (both _ _ (pair_covered by pair.Bc v t.pairs.bc bc first.0) (pair_covered by pair.De v t.pairs.de de others.0)) (pair_covered by pair.Hl v t.pairs.hl hl others.1))

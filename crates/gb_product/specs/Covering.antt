@@ -34,10 +34,15 @@ covers_zero (Some s) (Some t) = is_same_pair s t
 abbrev pub is_nothing : Relations → Bool
 is_nothing t = not (has_place t.byte) && is_none t.byte.test && is_none t.zero && are_unknown t.pairs
 
+-- by the rules of version 4 covering asks which registers hold one byte
+abbrev pub places_by : Bool → Relations → Option (Registers Bool)
+places_by false s = None
+places_by true s = Some s.byte.registers
+
 -- all that is known together of t is known of s, whose registers these are
-unfoldable pub covers_relations : Registers Val → Relations → Relations → Bool
-covers_relations registers s t =
-    covers_byte s.byte t.byte && covers_zero s.zero t.zero && covers_pairs (values_of registers s.pairs) t.pairs
+unfoldable pub covers_relations : Bool → Registers Val → Relations → Relations → Bool
+covers_relations whole registers s t =
+    covers_byte s.byte t.byte && covers_zero s.zero t.zero && covers_pairs (places_by whole s) (values_of registers s.pairs) t.pairs
 
 -- ---- bytes in RAM
 
@@ -71,5 +76,5 @@ unfoldable pub covers : Program → AbsState → AbsState → Bool
 covers program s t =
     covers_core program.kind s.core t.core && covers_items s.items t.items
     && covers_cells program (values_in s) s.cells s.summary t.cells
-    && covers_relations s.core.registers s.relations t.relations
+    && covers_relations program.is_whole s.core.registers s.relations t.relations
     && covers_summary program (values_in s) s.core.ctl s.cells s.summary t.cells t.summary

@@ -5,10 +5,10 @@ ghost use Rattle.gb_abs_effects.specs.Below.gb_abs.Covering.{covers_items};
 ghost use Rattle.gb_product.specs.Covering as Covering;
 ghost use Rattle.gb_summaries.specs.Below.gb_relations.Transfer.{values_of};
 
-use crate::program::Program;
 use crate::states::States;
 use gb_abs_effects::{cell_at, covers_items, covers_val};
 use gb_domain::StridedInterval;
+use gb_domain::program::Program;
 use gb_domain::summary::Summary;
 use gb_domain::types::{Abs, Cell, Val};
 use gb_summaries::{Values, has_cell, known_byte};

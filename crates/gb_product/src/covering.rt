@@ -4,21 +4,22 @@ ghost use Rattle.std.specs.Prelude.{◌≡◌, ◌<◌, true, not};
 ghost use Rattle.gb_domain.specs.RelationRules.{is_known, are_unknown};
 ghost use Rattle.gb_product.specs.Covering as Covering;
 ghost use Rattle.gb_product.specs.Sound.{IsPartOf};
+ghost use Rattle.gb_summaries.specs.Below.gb_pairs.Sound.{HaveFactors};
 ghost use Rattle.gb_summaries.specs.Below.gb_relations.Transfer.{values_of};
 ghost use Rattle.gb_summaries.specs.Covering.{covers_summary};
 
 use crate::bytes::covers_lists;
 use crate::parts::holds_words;
-use crate::program::Program;
 use crate::states::States;
 use gb_abs_effects::covers_core;
 use gb_domain::pairs::{PairFacts, Pairs, WordPair};
+use gb_domain::program::Program;
 use gb_domain::relations::Relations;
 use gb_domain::summary::Summary;
 use gb_domain::types::{Abs, Cell, Val};
 use gb_ops::registers::Registers;
 use gb_summaries::covering::covers_summary;
-use gb_summaries::{Values, covers_byte, covers_pairs, has_place, is_same_pair};
+use gb_summaries::{Values, covers_byte, covers_pairs, has_place, have_factors, is_same_pair};
 
 fn covers_zero(s: Option<WordPair>, t: Option<WordPair>) -> bool
     ensures { result ≡ Covering.covers_zero s t }
@@ -53,13 +54,25 @@ fn is_nothing(relations: &Relations) -> bool
         && are_unknown(relations.pairs)
 }
 
+/// The registers that hold one byte, where covering asks for them.
+fn places_by(is_whole: bool, relations: &Relations) -> Option<Registers<bool>>
+    ensures { result ≡ Covering.places_by is_whole relations.now }
+{
+    if is_whole {
+        Some(relations.byte.registers)
+    } else {
+        None
+    }
+}
+
 #[tactic(auto, unfolding(crate::specs::Covering::covers_relations))]
-fn covers_each(registers: &Registers<Val>, s: &Relations, t: &Relations) -> bool
-    ensures { result ≡ Covering.covers_relations registers.now s.now t.now }
+fn covers_each(is_whole: bool, registers: &Registers<Val>, s: &Relations, t: &Relations) -> bool
+    ensures { result ≡ Covering.covers_relations is_whole registers.now s.now t.now }
 {
     covers_byte(&s.byte, &t.byte)
         && covers_zero(s.zero, t.zero)
         && covers_pairs(
+            places_by(is_whole, s),
             &Values {
                 registers: *registers,
                 pairs: s.pairs,
@@ -70,11 +83,16 @@ fn covers_each(registers: &Registers<Val>, s: &Relations, t: &Relations) -> bool
 
 /// Whether all that is known together of t is known of s, whose registers these are.
 #[tactic(auto, using(crate::proofs::NothingLaws::nothing_covered))]
-pub fn covers_relations(registers: &Registers<Val>, s: &Relations, t: &Relations) -> bool
-    ensures { result ≡ Covering.covers_relations registers.now s.now t.now }
+pub fn covers_relations(
+    is_whole: bool,
+    registers: &Registers<Val>,
+    s: &Relations,
+    t: &Relations,
+) -> bool
+    ensures { result ≡ Covering.covers_relations is_whole registers.now s.now t.now }
 {
     holds_words(s.pairs);
-    is_nothing(t) || covers_each(registers, s, t)
+    is_nothing(t) || covers_each(is_whole, registers, s, t)
 }
 
 /// Whether what is said of the whole program with these cells holds of states. Where nothing is said, only the stack is asked about.
@@ -92,8 +110,7 @@ pub fn covers_said(
         return summary.aside().is_none();
     }
     covers_summary(
-        program.kind,
-        program.facts,
+        program,
         &states.values(),
         &states.core.ctl,
         states.lists.cells(),
@@ -103,6 +120,13 @@ pub fn covers_said(
     )
 }
 
+/// The factors of a state's links are words.
+fn has_factors(state: &Abs)
+    ensures { HaveFactors state.now.relations.pairs }
+{
+    have_factors(&state.relations().pairs);
+}
+
 #[tactic(auto, unfolding(crate::specs::Covering::covers))]
 fn covers_all(program: &Program<'_>, s: &Abs, t: &Abs) -> bool
     ensures { result ≡ Covering.covers program.now s.now t.now }
@@ -110,7 +134,12 @@ fn covers_all(program: &Program<'_>, s: &Abs, t: &Abs) -> bool
     let states = States::of(s);
     covers_core(program.kind, s.core(), t.core())
         && covers_lists(program, &states, t)
-        && covers_relations(&s.core().registers, s.relations(), t.relations())
+        && covers_relations(
+            program.is_whole,
+            &s.core().registers,
+            s.relations(),
+            t.relations(),
+        )
         && covers_said(program, &states, t.cells(), t.summary())
 }
 
@@ -120,5 +149,7 @@ pub fn covers(program: &Program<'_>, s: &Abs, t: &Abs) -> bool
     ensures exact { result ≡ Covering.covers program.now s.now t.now }
     ensures sound { result ≡ true → IsPartOf program.now s.now t.now }
 {
+    has_factors(s);
+    has_factors(t);
     covers_all(program, s, t)
 }

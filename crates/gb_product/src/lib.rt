@@ -10,7 +10,6 @@ pub mod bytes;
 pub mod covering;
 pub mod held;
 pub mod parts;
-pub mod program;
 pub mod reduced;
 pub mod sides;
 pub mod states;
@@ -18,7 +17,6 @@ pub mod states;
 pub use bytes::{byte_in, byte_of, covers_lists, uncopied};
 pub use held::{held_relations, relations_outside, stack_held};
 pub use parts::{Branch, Branches, Product};
-pub use program::Program;
 pub use states::States;
 
 // What lies below, for the crates above.
@@ -34,6 +32,7 @@ pub use gb_abs_effects::{
     is_own, known, left_of, may_enable, may_have_bit, own, pass, push, resize, settle, single,
     sp_bounds, sp_halves, with_cell, without_origin,
 };
+pub use gb_domain::program::Program;
 pub use gb_summaries::instruction::{InstructionStore, summary_after};
 pub use gb_summaries::returning::{GivenBack, KnownRam, is_byte_kept, summary_returned};
 pub use gb_summaries::{

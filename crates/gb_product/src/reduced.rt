@@ -7,8 +7,8 @@ ghost use Rattle.gb_product.specs.Sound.{IsSoundReducing, IsReduced, IsSoundCont
 ghost use Rattle.gb_summaries.specs.Known.{window_bounds as bounds_of_window};
 
 use crate::parts::Product;
-use crate::program::Program;
 use gb_domain::pairs::Bounds;
+use gb_domain::program::Program;
 use gb_domain::relations::Relations;
 use gb_domain::summary::Summary;
 use gb_domain::types::{Cell, Core, Ctl, Rules};
@@ -142,7 +142,7 @@ fn cut_window(
         return Some(*ctl);
     }
     let kind = program.kind;
-    let left = reduced_window(kind, program.facts, window, values, ctl, cells, summary)?;
+    let left = reduced_window(program, window, values, ctl, cells, summary)?;
     let bounds = cut_bounds(window_bounds(kind, window, ctl), left);
     Some(with_bounds(kind, window, ctl, bounds))
 }

@@ -7,10 +7,10 @@ ghost use Rattle.gb_product.specs.Sound.{IsSoundSide, IsSideOf, AreSoundSides, A
 
 use crate::bytes::byte_in;
 use crate::parts::{Branch, Branches, holds_words};
-use crate::program::Program;
 use gb_abs_effects::any;
 use gb_abs_effects::sides::{condition_of, opposite, side_of};
 use gb_domain::pairs::{Bounds, WordPair};
+use gb_domain::program::Program;
 use gb_domain::relations::Relations;
 use gb_domain::summary::Summary;
 use gb_domain::types::{Cell, Core, Val};

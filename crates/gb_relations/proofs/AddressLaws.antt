@@ -7,7 +7,7 @@ use Rattle.gb_domain.specs.declared.pairs.Bounds.{Bounds}
 use Rattle.gb_domain.specs.declared.places.Place.{Place}
 use Rattle.gb_domain.specs.declared.places.Place.TheVariants as place
 use Rattle.gb_domain.specs.declared.places.StackBytes.{StackBytes}
-use Rattle.gb_domain.specs.Areas.{are_in_ram, meets, is_item, is_place_at}
+use Rattle.gb_domain.specs.Areas.{meets, is_item, is_place_at}
 use Rattle.gb_pairs.specs.Bounds.{is_one}
 use Rattle.gb_relations.specs.Places.{is_ram, is_free, place_if, free_place, stored_place, is_echo, behind_echo, loaded_place, stored_at, place_read, loaded_at}
 

@@ -1,5 +1,5 @@
 -- Where items alone are places in the stack, a byte still holds, and its address may be one.
-use Rattle.std.proofs.Common.{◌≡◌, ℕ, ◌+◌, ◌-◌, ◌<◌, ◌≤◌, Bool, true, false, not, ◌&&◌, ◌||◌, cond, nat_le, nat_lt, Option, Some, None, refl, sym, subst, arith}
+use Rattle.std.proofs.Common.{◌≡◌, ℕ, ◌-◌, Bool, true, false, not, ◌&&◌, ◌||◌, cond, nat_le, Option, Some, None, refl, sym, subst, arith}
 use Rattle.std.proofs.lemmas.Bool.Decides.{nat_tests}
 use Rattle.std.proofs.lemmas.Bool.{and_parts}
 use Rattle.gb_ops.specs.declared.machine.Region.{Region}
@@ -11,7 +11,7 @@ use Rattle.gb_domain.specs.Areas.{are_in_ram, meets, is_item, is_place_at}
 use Rattle.gb_copies.specs.Meaning.{HoldOneByte}
 use Rattle.gb_copies.specs.Places as places
 use Rattle.gb_copies.specs.Sound.{IsPartOf}
-use Rattle.gb_relations.specs.Places.{is_ram, is_free}
+use Rattle.gb_relations.specs.Places.{is_free}
 use Rattle.gb_relations.specs.Sound.{IsByteFree, IsBytePlaced}
 use Rattle.gb_relations.specs.Items.{held_places, places_outside, AreItemsLeft, IsOutside}
 

@@ -1,5 +1,5 @@
 -- What is known together behind a call holds: each part is the caller's, where all that it reads is kept, or the exit's.
-use Rattle.std.proofs.Common.{◌≡◌, ℕ, ◌+◌, ◌*◌, ◌%◌, ◌≤◌, Bool, true, false, cond, ◌&&◌, ◌==◌, Option, Some, None, refl, sym, ◌∙◌, ap, subst}
+use Rattle.std.proofs.Common.{◌≡◌, ℕ, ◌≤◌, Bool, true, false, cond, ◌&&◌, ◌==◌, Option, Some, None, refl, sym, ◌∙◌, ap, subst}
 use Rattle.std.proofs.lemmas.Bool.{and_parts}
 use Rattle.gb_ops.specs.declared.op.Register.{Register}
 use Rattle.gb_ops.specs.declared.op.Register.TheVariants.{A, B, C, D, E, H, L}
@@ -16,7 +16,7 @@ use Rattle.gb_domain.specs.declared.pairs.PairFacts.{PairFacts}
 use Rattle.gb_domain.specs.declared.places.OneByte.{OneByte}
 use Rattle.gb_domain.specs.declared.relations.Relations.{Relations}
 use Rattle.gb_domain.specs.Pairs.{facts_of}
-use Rattle.gb_pairs.specs.Meaning.{word_of, other_of, IsLinked, HoldsPair}
+use Rattle.gb_pairs.specs.Meaning.{word_of, other_of, AreLinked, IsLinked, HoldsPair}
 use Rattle.gb_copies.specs.Meaning.{HoldOneByte}
 use Rattle.gb_copies.specs.Places.{has_place, of_places, without_test}
 use Rattle.gb_relations.specs.declared.returned.Kept.{Kept}
@@ -118,8 +118,8 @@ link_kept p k (Some l) x y kept h = by (is_pair_kept p k && is_other_kept l.othe
     by : (b : Bool) → (is_pair_kept p k && is_other_kept l.other k) ≡ b → IsLinked (cond b (Some l) None) p y
     by true e =
         let parts = and_parts (is_pair_kept p k) (is_other_kept l.other k) e in
-        ap (λ w. (w + l.factor * other_of l.other y) % 65536) (word_kept p k x y kept parts.0)
-        ∙ (ap (λ w. (word_of p x + l.factor * w) % 65536) (other_kept l.other k x y kept parts.1) ∙ h)
+        subst (λ w. AreLinked l w (other_of l.other y)) (sym (word_kept p k x y kept parts.0))
+        (subst (λ n. AreLinked l (word_of p x) n) (sym (other_kept l.other k x y kept parts.1)) h)
     by false e = tt
 
 link_returned-holds :

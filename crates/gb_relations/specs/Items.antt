@@ -1,5 +1,5 @@
 -- Places of the one byte among the bytes of the stack: items alone are (own rules: version 4).
-use Rattle.std.specs.Prelude.{◌≡◌, ℕ, ◌-◌}
+use Rattle.std.specs.Prelude.{ℕ, ◌-◌}
 use Rattle.gb_ops.specs.declared.machine.Region.{Region}
 use Rattle.gb_domain.specs.declared.places.OneByte.{OneByte}
 use Rattle.gb_domain.specs.declared.places.StackBytes.{StackBytes}

@@ -1,6 +1,6 @@
 -- The low bits of the address that an instruction stores at by a pointer (abstract interpretation: congruences; own rules: low bits,
 -- version 4).
-use Rattle.std.specs.Prelude.{◌≡◌, ℕ, Bool, true, Option, Some, None, if◌then◌else◌}
+use Rattle.std.specs.Prelude.{ℕ, Bool, true, Option, Some, None, if◌then◌else◌}
 use Rattle.gb_ops.specs.declared.machine.Write.{Write}
 use Rattle.gb_ops.specs.declared.machine.Write.TheVariants as write
 use Rattle.gb_ops.specs.declared.op.Op.{Op}

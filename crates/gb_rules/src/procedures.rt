@@ -115,6 +115,7 @@ pub fn program_of<'c>(rom: &Rom<'_>, cert: &'c Cert<'_>) -> Program<'c>
     ensures { result ≡ Procedures.program_of rom.now cert.now }
 {
     Program {
+        is_whole: is_fourth(cert),
         kind: if is_fourth(cert) {
             rom.kind()
         } else {

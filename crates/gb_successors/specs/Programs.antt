@@ -11,4 +11,4 @@ is_fourth cert = cert.version == 4
 
 -- the cartridge's controller and the facts, in versions 1 to 3 nothing
 unfoldable pub program_of : List ℕ → Certificate → Program
-program_of rom cert = record { kind = known_kind (is_fourth cert) (kind_of rom); facts = cert.facts }
+program_of rom cert = record { is_whole = is_fourth cert; kind = known_kind (is_fourth cert) (kind_of rom); facts = cert.facts }

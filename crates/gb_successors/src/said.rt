@@ -82,8 +82,7 @@ fn summary_with(
     };
     let aside = state.summary().aside();
     let after = summary_after(
-        program.kind,
-        program.facts,
+        program,
         stack.region,
         cells,
         op,

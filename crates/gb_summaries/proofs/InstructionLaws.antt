@@ -168,7 +168,7 @@ HoldSummary-byte program region o b s before cells p memory after banks r x v a 
     choose false e true k =
         let is : after a ≡ n = i.stored (i.in_ram ∙ k) in
         subst (λ t. HoldSummary program cells (stored_in_ram region program.facts cells (record { addresses = x; through = pointer_of o; from = stored_of o; value = v }) s) p after t) (sym (same_banks program.kind a n banks r i.switches (i.in_controller ∙ e)))
-        ((stored_in_ram_sound program.kind program.facts region cells (record { addresses = x; through = pointer_of o; from = stored_of o; value = v }) s _ refl).gives before p memory after banks m.more
+        ((stored_in_ram_sound program region cells (record { addresses = x; through = pointer_of o; from = stored_of o; value = v }) s _ refl).gives before p memory after banks m.more
         (record {
           store = record { address = a; among = i.among; value = subst (λ t. In v t) (sym is) i.value; others = i.others };
           through = g;
@@ -320,7 +320,7 @@ HoldSummary-instruction :
     → HoldSummary program before s p memory banks
     → HoldSummary program cells (after_registers region o sp v (after_write program region cells o b w s)) (effect_of o p l h).processor after r
 HoldSummary-instruction program region cells o sp v b w s before p memory after banks r l h c g i aside m =
-    (after_registers_sound program.kind program.facts region o sp v (after_write program region cells o b w s) _ refl).gives cells p after r l h
+    (after_registers_sound program region o sp v (after_write program region cells o b w s) _ refl).gives cells p after r l h
     (record {
       values = g.values;
       bytes = g.bytes;

@@ -181,11 +181,11 @@ HoldSummary-stored program region before cells w s p memory after banks c i h =
     }
 
 pub stored_in_ram_sound :
-    (k : Kind) (facts : List Fact) (region : Region) (cells : List Cell) (w : Store) (s o : SummaryParts)
-    → o ≡ stored_in_ram region facts cells w s → IsSoundStore (record { kind = k; facts = facts }) cells w s o
-stored_in_ram_sound k facts region cells w s o e =
-    subst (λ r. IsSoundStore (record { kind = k; facts = facts }) cells w s r) (sym e)
-    (record { gives = λ before p memory after banks. HoldSummary-stored (record { kind = k; facts = facts }) region before cells w s p memory after banks })
+    (program : Program) (region : Region) (cells : List Cell) (w : Store) (s o : SummaryParts)
+    → o ≡ stored_in_ram region program.facts cells w s → IsSoundStore program cells w s o
+stored_in_ram_sound program region cells w s o e =
+    subst (λ r. IsSoundStore program cells w s r) (sym e)
+    (record { gives = λ before p memory after banks. HoldSummary-stored program region before cells w s p memory after banks })
 
 -- ---- a store into the controller
 

@@ -117,11 +117,8 @@ HoldSummary-after program region o sp v s cells p memory banks l h b aside m =
     }
 
 pub after_registers_sound :
-    (k : Kind) (facts : List Fact) (region : Region) (o : Op) (sp : Bounds) (v : Values) (s r : SummaryParts)
-    → r ≡ after_registers region o sp v s → IsSoundTransfer (record { kind = k; facts = facts }) o sp v s r
-after_registers_sound k facts region o sp v s r e =
-    subst (λ t. IsSoundTransfer (record { kind = k; facts = facts }) o sp v s t) (sym e)
-    (record {
-      gives = λ cells p memory banks l h.
-          HoldSummary-after (record { kind = k; facts = facts }) region o sp v s cells p memory banks l h;
-    })
+    (program : Program) (region : Region) (o : Op) (sp : Bounds) (v : Values) (s r : SummaryParts)
+    → r ≡ after_registers region o sp v s → IsSoundTransfer program o sp v s r
+after_registers_sound program region o sp v s r e =
+    subst (λ t. IsSoundTransfer program o sp v s t) (sym e)
+    (record { gives = λ cells p memory banks l h. HoldSummary-after program region o sp v s cells p memory banks l h })

@@ -9,10 +9,10 @@ use crate::known::{behind, first_of, pointer_bounds, window_bounds};
 use gb_domain::StridedInterval;
 use gb_domain::interval::bounds;
 use gb_domain::pairs::Bounds;
+use gb_domain::program::Program;
 use gb_domain::summary::{Fact, Fill, Shadows, Summary};
 use gb_domain::types::{Cell, Ctl, Val};
 use gb_domain::values::interval_of;
-use gb_ops::machine::Kind;
 use gb_ops::registers::Registers;
 use gb_ram_bounds::covering::{byte_at, gives_facts, gives_fills};
 use gb_ram_bounds::facts::keeps_facts;
@@ -115,8 +115,7 @@ fn byte_at_some(
 /// What is known where these shadows are asked for.
 #[tactic(auto, unfolding(crate::specs::Covering::known_of))]
 pub(crate) fn known_of(
-    kind: Kind,
-    facts: &[Fact],
+    program: &Program<'_>,
     window: BankWindow,
     values: &Values,
     ctl: &Ctl,
@@ -124,12 +123,12 @@ pub(crate) fn known_of(
     summary: &Summary,
     wanted: &Shadows,
 ) -> Known
-    ensures { result ≡ Covering.known_of (record { kind = kind; facts = facts.now }) window values.now ctl.now cells.now summary.now wanted.now }
+    ensures { result ≡ Covering.known_of program.now window values.now ctl.now cells.now summary.now wanted.now }
 {
     Known {
         registers: intervals_of(&values.registers),
-        memory: byte_at_some(facts, values, cells, summary, wanted.address),
-        bounds: window_bounds(kind, window, ctl),
+        memory: byte_at_some(program.facts, values, cells, summary, wanted.address),
+        bounds: window_bounds(program.kind, window, ctl),
     }
 }
 
@@ -145,8 +144,7 @@ fn covers_aside(aside: Option<Bounds>, wanted: Option<Bounds>) -> bool
 
 #[tactic(auto, unfolding(crate::specs::Covering::covers_summary))]
 fn covers_parts(
-    kind: Kind,
-    facts: &[Fact],
+    program: &Program<'_>,
     values: &Values,
     ctl: &Ctl,
     cells: &[Cell],
@@ -154,18 +152,17 @@ fn covers_parts(
     kept: &[Cell],
     wanted: &Summary,
 ) -> bool
-    ensures { result ≡ Covering.covers_summary (record { kind = kind; facts = facts.now }) values.now ctl.now cells.now summary.now kept.now wanted.now }
+    ensures { result ≡ Covering.covers_summary program.now values.now ctl.now cells.now summary.now kept.now wanted.now }
 {
     let shadows = summary.shadows();
     let others = wanted.shadows();
-    covers_facts(facts, values, cells, summary, kept, wanted.level())
-        && covers_fills(facts, values, cells, summary, kept, wanted.fills())
+    covers_facts(program.facts, values, cells, summary, kept, wanted.level())
+        && covers_fills(program.facts, values, cells, summary, kept, wanted.fills())
         && covers_shadows(
-            kind,
+            program.kind,
             BankWindow::First,
             &known_of(
-                kind,
-                facts,
+                program,
                 BankWindow::First,
                 values,
                 ctl,
@@ -177,11 +174,10 @@ fn covers_parts(
             &others.first,
         )
         && covers_shadows(
-            kind,
+            program.kind,
             BankWindow::Second,
             &known_of(
-                kind,
-                facts,
+                program,
                 BankWindow::Second,
                 values,
                 ctl,
@@ -200,8 +196,7 @@ fn covers_parts(
 /// place that is to shadow a register of the controller does, or its byte is known and leaves that; and SP stands aside where it did.
 #[tactic(auto, using(crate::proofs::CoveringLaws::covers_summary_sound))]
 pub fn covers_summary(
-    kind: Kind,
-    facts: &[Fact],
+    program: &Program<'_>,
     values: &Values,
     ctl: &Ctl,
     cells: &[Cell],
@@ -209,8 +204,8 @@ pub fn covers_summary(
     kept: &[Cell],
     wanted: &Summary,
 ) -> bool
-    ensures exact { result ≡ Covering.covers_summary (record { kind = kind; facts = facts.now }) values.now ctl.now cells.now summary.now kept.now wanted.now }
-    ensures sound { result ≡ true → IsPartOf (record { kind = kind; facts = facts.now }) values.now ctl.now cells.now summary.now kept.now wanted.now }
+    ensures exact { result ≡ Covering.covers_summary program.now values.now ctl.now cells.now summary.now kept.now wanted.now }
+    ensures sound { result ≡ true → IsPartOf program.now values.now ctl.now cells.now summary.now kept.now wanted.now }
 {
-    covers_parts(kind, facts, values, ctl, cells, summary, kept, wanted)
+    covers_parts(program, values, ctl, cells, summary, kept, wanted)
 }

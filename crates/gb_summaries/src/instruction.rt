@@ -10,9 +10,10 @@ use gb_domain::StridedInterval;
 use gb_domain::low_bits::none;
 use gb_domain::pairs::Bounds;
 use gb_domain::places::OneByte;
-use gb_domain::summary::{Fact, Summary};
+use gb_domain::program::Program;
+use gb_domain::summary::Summary;
 use gb_domain::types::Cell;
-use gb_ops::machine::{Kind, Region};
+use gb_ops::machine::Region;
 use gb_ops::op::Op;
 use gb_ram_bounds::AddressSet;
 use gb_relations::Values;
@@ -42,8 +43,7 @@ fn one(address: u16) -> AddressSet
 
 #[tactic(auto, unfolding(crate::specs::Instruction::byte_stored))]
 fn byte_stored(
-    kind: Kind,
-    facts: &[Fact],
+    program: &Program<'_>,
     region: Region,
     cells: &[Cell],
     op: Op,
@@ -52,10 +52,10 @@ fn byte_stored(
     value: StridedInterval,
     summary: &Summary,
 ) -> Summary
-    ensures { result ≡ Instruction.byte_stored (record { kind = kind; facts = facts.now }) region cells.now op byte.now addresses value summary.now }
+    ensures { result ≡ Instruction.byte_stored program.now region cells.now op byte.now addresses value summary.now }
 {
     if addresses.first < 0x8000 {
-        switched(kind, facts, addresses.first, op.stored(), byte, summary)
+        switched(program, addresses.first, op.stored(), byte, summary)
     } else if is_ram(addresses.first) {
         let store = Store {
             addresses,
@@ -63,15 +63,14 @@ fn byte_stored(
             from: op.stored(),
             value,
         };
-        stored_in_ram(kind, region, facts, cells, &store, summary)
+        stored_in_ram(program, region, cells, &store, summary)
     } else {
         summary.copied()
     }
 }
 
 fn after_write(
-    kind: Kind,
-    facts: &[Fact],
+    program: &Program<'_>,
     region: Region,
     cells: &[Cell],
     op: Op,
@@ -79,29 +78,26 @@ fn after_write(
     stored: InstructionStore,
     summary: &Summary,
 ) -> Summary
-    ensures { result ≡ Instruction.after_write (record { kind = kind; facts = facts.now }) region cells.now op byte.now stored summary.now }
+    ensures { result ≡ Instruction.after_write program.now region cells.now op byte.now stored summary.now }
 {
     match stored {
         InstructionStore::Nothing => summary.copied(),
         InstructionStore::Byte(addresses, value) => byte_stored(
-            kind, facts, region, cells, op, byte, addresses, value, summary,
+            program, region, cells, op, byte, addresses, value, summary,
         ),
         InstructionStore::Word(address, low, high) => {
             let no_byte = OneByte::default();
             let next = one(address.wrapping_add(1));
             let address = one(address);
-            let after = byte_stored(
-                kind, facts, region, cells, op, &no_byte, address, low, summary,
-            );
-            byte_stored(kind, facts, region, cells, op, &no_byte, next, high, &after)
+            let after = byte_stored(program, region, cells, op, &no_byte, address, low, summary);
+            byte_stored(program, region, cells, op, &no_byte, next, high, &after)
         }
     }
 }
 
 #[tactic(auto, unfolding(crate::specs::Instruction::summary_after))]
 fn after_effect(
-    kind: Kind,
-    facts: &[Fact],
+    program: &Program<'_>,
     region: Region,
     cells: &[Cell],
     op: Op,
@@ -111,18 +107,17 @@ fn after_effect(
     stored: InstructionStore,
     summary: &Summary,
 ) -> Summary
-    ensures { result ≡ Instruction.summary_after (record { kind = kind; facts = facts.now }) region cells.now op sp values.now byte.now stored summary.now }
+    ensures { result ≡ Instruction.summary_after program.now region cells.now op sp values.now byte.now stored summary.now }
 {
-    let after = after_write(kind, facts, region, cells, op, byte, stored, summary);
-    after_registers(kind, facts, region, op, sp, values, &after)
+    let after = after_write(program, region, cells, op, byte, stored, summary);
+    after_registers(program, region, op, sp, values, &after)
 }
 
 /// What is said of the whole program behind a taken instruction. The values and the places of one byte are those
 /// before it, SP has these bounds, and the cells are those after it.
 #[tactic(auto, using(crate::proofs::InstructionLaws::summary_after_sound))]
 pub fn summary_after(
-    kind: Kind,
-    facts: &[Fact],
+    program: &Program<'_>,
     region: Region,
     cells: &[Cell],
     op: Op,
@@ -132,10 +127,10 @@ pub fn summary_after(
     stored: InstructionStore,
     summary: &Summary,
 ) -> Summary
-    ensures exact { result ≡ Instruction.summary_after (record { kind = kind; facts = facts.now }) region cells.now op sp values.now byte.now stored summary.now }
-    ensures sound { IsSoundInstruction (record { kind = kind; facts = facts.now }) region cells.now op sp values.now byte.now stored summary.now result }
+    ensures exact { result ≡ Instruction.summary_after program.now region cells.now op sp values.now byte.now stored summary.now }
+    ensures sound { IsSoundInstruction program.now region cells.now op sp values.now byte.now stored summary.now result }
 {
     after_effect(
-        kind, facts, region, cells, op, sp, values, byte, stored, summary,
+        program, region, cells, op, sp, values, byte, stored, summary,
     )
 }

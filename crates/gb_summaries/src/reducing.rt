@@ -10,7 +10,8 @@ use gb_domain::StridedInterval;
 use gb_domain::interval::bounds;
 use gb_domain::pairs::Bounds;
 use gb_domain::places::is_some_register;
-use gb_domain::summary::{Fact, Shadows, Summary};
+use gb_domain::program::Program;
+use gb_domain::summary::{Shadows, Summary};
 use gb_domain::types::{Cell, Ctl};
 use gb_ops::machine::Kind;
 use gb_relations::{BankWindow, Known, Values, fitting, has_windows};
@@ -78,35 +79,33 @@ fn cut_by_shadows(
 
 #[tactic(auto, unfolding(crate::specs::Reducing::reduced_window))]
 fn reduced_by(
-    kind: Kind,
-    facts: &[Fact],
+    program: &Program<'_>,
     window: BankWindow,
     values: &Values,
     ctl: &Ctl,
     cells: &[Cell],
     summary: &Summary,
 ) -> Option<Bounds>
-    ensures { result ≡ Reducing.reduced_window (record { kind = kind; facts = facts.now }) window values.now ctl.now cells.now summary.now }
+    ensures { result ≡ Reducing.reduced_window program.now window values.now ctl.now cells.now summary.now }
 {
     let shadows = shadows_of(window, summary);
-    let known = known_of(kind, facts, window, values, ctl, cells, summary, &shadows);
-    cut_by_shadows(kind, window, &known, &shadows)
+    let known = known_of(program, window, values, ctl, cells, summary, &shadows);
+    cut_by_shadows(program.kind, window, &known, &shadows)
 }
 
 /// The bounds of a window's register, cut to the least and the greatest number that each of its shadows may leave. `None` where no
 /// number is such: then nothing is meant.
 #[tactic(auto, using(crate::proofs::ReducingLaws::reduced_window_sound))]
 pub fn reduced_window(
-    kind: Kind,
-    facts: &[Fact],
+    program: &Program<'_>,
     window: BankWindow,
     values: &Values,
     ctl: &Ctl,
     cells: &[Cell],
     summary: &Summary,
 ) -> Option<Bounds>
-    ensures exact { result ≡ Reducing.reduced_window (record { kind = kind; facts = facts.now }) window values.now ctl.now cells.now summary.now }
-    ensures sound { IsSoundReducing (record { kind = kind; facts = facts.now }) window values.now ctl.now cells.now summary.now result }
+    ensures exact { result ≡ Reducing.reduced_window program.now window values.now ctl.now cells.now summary.now }
+    ensures sound { IsSoundReducing program.now window values.now ctl.now cells.now summary.now result }
 {
-    reduced_by(kind, facts, window, values, ctl, cells, summary)
+    reduced_by(program, window, values, ctl, cells, summary)
 }

@@ -10,6 +10,7 @@ ghost use Rattle.gb_summaries.specs.Returning.{IsSoundReturn};
 use crate::known::pointer_bounds;
 use arrayvec::ArrayVec;
 use gb_domain::pairs::Bounds;
+use gb_domain::program::Program;
 use gb_domain::summary::{BankShadows, Fact, Fill, Shadows, Summary};
 use gb_domain::types::{Cell, KeptBanks, Range};
 use gb_ops::machine::Kind;
@@ -210,8 +211,7 @@ fn level_and_fills(
 /// What is said where there is room for all cells: `level` facts hold, and these fills.
 #[tactic(auto, unfolding(crate::specs::Returning::summary_returned))]
 fn said_with(
-    kind: Kind,
-    facts: &[Fact],
+    program: &Program<'_>,
     ranges: &[Range],
     given: &GivenBack,
     addresses: &[u16],
@@ -221,17 +221,17 @@ fn said_with(
     has_room: bool,
     cells: &[Cell],
 ) -> Summary
-    ensures { result ≡ Returning.summary_returned (record { kind = kind; facts = facts.now }) ranges.now given.now addresses.now values.now caller.now.cells.now caller.now.summary.now exit.now.cells.now exit.now.summary.now has_room cells.now }
+    ensures { result ≡ Returning.summary_returned program.now ranges.now given.now addresses.now values.now caller.now.cells.now caller.now.summary.now exit.now.cells.now exit.now.summary.now has_room cells.now }
 {
     let (level, fills) = if has_room {
-        level_and_fills(facts, ranges, given, values, caller, exit, cells)
+        level_and_fills(program.facts, ranges, given, values, caller, exit, cells)
     } else {
         (0, ArrayVec::new())
     };
     let (before, last) = (caller.summary.shadows(), exit.summary.shadows());
     let shadows = BankShadows {
         first: shadows_returned(
-            kind,
+            program.kind,
             BankWindow::First,
             ranges,
             given,
@@ -240,7 +240,7 @@ fn said_with(
             &last.first,
         ),
         second: shadows_returned(
-            kind,
+            program.kind,
             BankWindow::Second,
             ranges,
             given,
@@ -257,8 +257,7 @@ fn said_with(
 /// that a state holds all of them, else no fact holds for sure, and no fill.
 #[tactic(auto, using(crate::proofs::ReturningLaws::summary_returned_sound))]
 pub fn summary_returned(
-    kind: Kind,
-    facts: &[Fact],
+    program: &Program<'_>,
     ranges: &[Range],
     given: &GivenBack,
     addresses: &[u16],
@@ -268,10 +267,10 @@ pub fn summary_returned(
     has_room: bool,
     cells: &[Cell],
 ) -> Summary
-    ensures exact { result ≡ Returning.summary_returned (record { kind = kind; facts = facts.now }) ranges.now given.now addresses.now values.now caller.now.cells.now caller.now.summary.now exit.now.cells.now exit.now.summary.now has_room cells.now }
-    ensures sound { IsSoundReturn (record { kind = kind; facts = facts.now }) ranges.now given.now addresses.now values.now caller.now.cells.now caller.now.summary.now exit.now.cells.now exit.now.summary.now has_room cells.now result }
+    ensures exact { result ≡ Returning.summary_returned program.now ranges.now given.now addresses.now values.now caller.now.cells.now caller.now.summary.now exit.now.cells.now exit.now.summary.now has_room cells.now }
+    ensures sound { IsSoundReturn program.now ranges.now given.now addresses.now values.now caller.now.cells.now caller.now.summary.now exit.now.cells.now exit.now.summary.now has_room cells.now result }
 {
     said_with(
-        kind, facts, ranges, given, addresses, values, caller, exit, has_room, cells,
+        program, ranges, given, addresses, values, caller, exit, has_room, cells,
     )
 }

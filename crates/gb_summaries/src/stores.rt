@@ -13,6 +13,7 @@ use arrayvec::ArrayVec;
 use gb_domain::StridedInterval;
 use gb_domain::pairs::Bounds;
 use gb_domain::places::{OneByte, Place};
+use gb_domain::program::Program;
 use gb_domain::summary::{BankShadows, Fact, Fill, Shadows, Summary};
 use gb_domain::types::Cell;
 use gb_ops::machine::{Kind, Region};
@@ -111,23 +112,34 @@ fn after_store(
     )
 }
 
+fn after_store_in(
+    program: &Program<'_>,
+    region: Region,
+    cells: &[Cell],
+    store: &Store,
+    summary: &Summary,
+) -> Summary
+    ensures { result ≡ Stores.stored_in_ram region program.now.facts cells.now store.now summary.now }
+{
+    after_store(region, program.facts, cells, store, summary)
+}
+
 /// What is said of the whole program after a store to RAM: the facts before the first that it breaks; fills, of which those that end at
 /// the store's pointer go one address further, and others grow where they may be stored to; and the stored register's address shadows
 /// what the register does, while no other address that may be stored to shadows anything. The cells are those after the store.
 #[tactic(auto, using(crate::proofs::StoreLaws::stored_in_ram_sound, crate::proofs::ElsewhereLaws::stored_in_ram_free))]
 pub fn stored_in_ram(
-    kind: Kind,
+    program: &Program<'_>,
     region: Region,
-    facts: &[Fact],
     cells: &[Cell],
     store: &Store,
     summary: &Summary,
 ) -> Summary
-    ensures exact { result ≡ Stores.stored_in_ram region facts.now cells.now store.now summary.now }
-    ensures sound { IsSoundStore (record { kind = kind; facts = facts.now }) cells.now store.now summary.now result }
+    ensures exact { result ≡ Stores.stored_in_ram region program.now.facts cells.now store.now summary.now }
+    ensures sound { IsSoundStore program.now cells.now store.now summary.now result }
     ensures free { StaysFree region summary.now result }
 {
-    after_store(region, facts, cells, store, summary)
+    after_store_in(program, region, cells, store, summary)
 }
 
 fn fills_copied(summary: &Summary) -> ArrayVec<Fill, 8>
@@ -191,16 +203,15 @@ fn after_switch(
 /// is stored, it and all places that hold its byte shadow the window's register, and nothing else does.
 #[tactic(auto, using(crate::proofs::StoreLaws::switched_sound, crate::proofs::ElsewhereLaws::switched_free))]
 pub fn switched(
-    kind: Kind,
-    facts: &[Fact],
+    program: &Program<'_>,
     address: u16,
     from: Option<Register>,
     byte: &OneByte,
     summary: &Summary,
 ) -> Summary
-    ensures exact { result ≡ Stores.switched kind address from byte.now summary.now }
-    ensures sound { IsSoundSwitch (record { kind = kind; facts = facts.now }) address from byte.now summary.now result }
+    ensures exact { result ≡ Stores.switched program.now.kind address from byte.now summary.now }
+    ensures sound { IsSoundSwitch program.now address from byte.now summary.now result }
     ensures free { (region : Region) → IsByteFree region byte.now.address → StaysFree region summary.now result }
 {
-    after_switch(kind, address, from, byte, summary)
+    after_switch(program.kind, address, from, byte, summary)
 }

@@ -10,8 +10,9 @@ use crate::known::{high, pointer_bounds};
 use crate::moves::{fills_moved, moves_of};
 use gb_domain::pairs::Bounds;
 use gb_domain::places::Place;
-use gb_domain::summary::{BankShadows, Fact, Shadows, Summary};
-use gb_ops::machine::{Kind, Region};
+use gb_domain::program::Program;
+use gb_domain::summary::{BankShadows, Shadows, Summary};
+use gb_ops::machine::Region;
 use gb_ops::op::{Op, Operand, Register};
 use gb_relations::bytes::{at_high, at_hl, at_indirect, one};
 use gb_relations::places::loaded_place;
@@ -107,8 +108,7 @@ fn after_work(region: Region, op: Op, sp: Bounds, values: &Values, summary: &Sum
 /// The values are those before it, and SP has these bounds.
 #[tactic(auto, using(crate::proofs::TransferLaws::after_registers_sound, crate::proofs::ElsewhereLaws::after_registers_free))]
 pub fn after_registers(
-    kind: Kind,
-    facts: &[Fact],
+    program: &Program<'_>,
     region: Region,
     op: Op,
     sp: Bounds,
@@ -116,7 +116,7 @@ pub fn after_registers(
     summary: &Summary,
 ) -> Summary
     ensures exact { result ≡ Transfer.after_registers region op sp values.now summary.now }
-    ensures sound { IsSoundTransfer (record { kind = kind; facts = facts.now }) op sp values.now summary.now result }
+    ensures sound { IsSoundTransfer program.now op sp values.now summary.now result }
     ensures free { StaysFree region summary.now result }
 {
     after_work(region, op, sp, values, summary)

@@ -257,7 +257,7 @@ same_stack cert version procedure e =
 -- what states may speak of is the same where neither version is 4, or both are
 same_program : (rom : List ℕ) (cert : Certificate) (version : ℕ) → (version == 4) ≡ (cert.version == 4) → program_of rom (other cert version) ≡ program_of rom cert
 unfolding program_of
-same_program rom cert version f = ap (λ b. record { kind = known_kind b (kind_of rom); facts = cert.facts }) f
+same_program rom cert version f = ap (λ b. record { is_whole = b; kind = known_kind b (kind_of rom); facts = cert.facts }) f
 
 -- what is asked of two versions
 record AreAlike (rom : List ℕ) (cert : Certificate) (version : ℕ) : Type 0 where
