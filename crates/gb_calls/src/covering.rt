@@ -21,11 +21,12 @@ use gb_product::{Program, States, covers_lists};
 /// decoded only then.
 #[inline(never)]
 fn covers_decoded(program: &Program<'_>, states: &States<'_>, claimed: &StateRef<'_>) -> bool
-    ensures { result ≡ (((covers_items states.now.lists.now.items claimed.now.items && covers_cells program.now (values_of states.now.core.now.registers states.now.relations.now.pairs) states.now.lists.now.cells states.now.summary.now claimed.now.cells) && covers_relations states.now.core.now.registers states.now.relations.now claimed.now.relations) && covers_summary program.now (values_of states.now.core.now.registers states.now.relations.now.pairs) states.now.core.now.ctl states.now.lists.now.cells states.now.summary.now claimed.now.cells claimed.now.summary) }
+    ensures { result ≡ (((covers_items states.now.lists.now.items claimed.now.items && covers_cells program.now (values_of states.now.core.now.registers states.now.relations.now.pairs) states.now.lists.now.cells states.now.summary.now claimed.now.cells) && covers_relations program.now.is_whole states.now.core.now.registers states.now.relations.now claimed.now.relations) && covers_summary program.now (values_of states.now.core.now.registers states.now.relations.now.pairs) states.now.core.now.ctl states.now.lists.now.cells states.now.summary.now claimed.now.cells claimed.now.summary) }
 {
     let claimed = claimed.state();
     covers_lists(program, states, &claimed)
         && covers_relations(
+            program.is_whole,
             &states.core.registers,
             states.relations,
             claimed.relations(),
@@ -43,10 +44,15 @@ fn covers_uncelled(
 ) -> bool
     requires relations { relations.now ≡ claimed.now.relations }
     requires summary { summary.now ≡ claimed.now.summary }
-    ensures { result ≡ ((covers_items states.now.lists.now.items claimed.now.items && covers_relations states.now.core.now.registers states.now.relations.now claimed.now.relations) && covers_summary program.now (values_of states.now.core.now.registers states.now.relations.now.pairs) states.now.core.now.ctl states.now.lists.now.cells states.now.summary.now [] claimed.now.summary) }
+    ensures { result ≡ ((covers_items states.now.lists.now.items claimed.now.items && covers_relations program.now.is_whole states.now.core.now.registers states.now.relations.now claimed.now.relations) && covers_summary program.now (values_of states.now.core.now.registers states.now.relations.now.pairs) states.now.core.now.ctl states.now.lists.now.cells states.now.summary.now [] claimed.now.summary) }
 {
     covers_items_in(states.lists.items(), claimed.items())
-        && covers_relations(&states.core.registers, states.relations, relations)
+        && covers_relations(
+            program.is_whole,
+            &states.core.registers,
+            states.relations,
+            relations,
+        )
         && covers_said(program, states, &[], summary)
 }
 
@@ -60,7 +66,7 @@ fn covers_nothing(states: &States<'_>) -> bool
 /// Whether all of a state but the core stands for that of others, where it may hold some.
 #[tactic(auto, using(crate::proofs::CoveringLaws::covers_uncelled))]
 fn covers_read(program: &Program<'_>, states: &States<'_>, claimed: &StateRef<'_>) -> bool
-    ensures { result ≡ (((covers_items states.now.lists.now.items claimed.now.items && covers_cells program.now (values_of states.now.core.now.registers states.now.relations.now.pairs) states.now.lists.now.cells states.now.summary.now claimed.now.cells) && covers_relations states.now.core.now.registers states.now.relations.now claimed.now.relations) && covers_summary program.now (values_of states.now.core.now.registers states.now.relations.now.pairs) states.now.core.now.ctl states.now.lists.now.cells states.now.summary.now claimed.now.cells claimed.now.summary) }
+    ensures { result ≡ (((covers_items states.now.lists.now.items claimed.now.items && covers_cells program.now (values_of states.now.core.now.registers states.now.relations.now.pairs) states.now.lists.now.cells states.now.summary.now claimed.now.cells) && covers_relations program.now.is_whole states.now.core.now.registers states.now.relations.now claimed.now.relations) && covers_summary program.now (values_of states.now.core.now.registers states.now.relations.now.pairs) states.now.core.now.ctl states.now.lists.now.cells states.now.summary.now claimed.now.cells claimed.now.summary) }
 {
     let told = claimed.told();
     if told.cells.is_empty() {
@@ -80,34 +86,39 @@ fn holds_words(pairs: Pairs)
 /// Whether a test stands for what is known together of states, where nothing else is claimed. Where no test is claimed either
 /// nothing is asked of them.
 #[inline(always)]
-fn covers_test(states: &States<'_>, test: Option<u8>) -> bool
-    ensures { result ≡ covers_relations states.now.core.now.registers states.now.relations.now (test_alone test) }
+fn covers_test(program: &Program<'_>, states: &States<'_>, test: Option<u8>) -> bool
+    ensures { result ≡ covers_relations program.now.is_whole states.now.core.now.registers states.now.relations.now (test_alone test) }
 {
     holds_words(states.relations.pairs);
     match test {
         None => true,
-        Some(_) => covers_relations(&states.core.registers, states.relations, &test_alone(test)),
+        Some(_) => covers_relations(
+            program.is_whole,
+            &states.core.registers,
+            states.relations,
+            &test_alone(test),
+        ),
     }
 }
 
 /// Whether a state without items, cells and what is said of the whole program stands for others, their cores apart.
 #[inline(always)]
-fn covers_bare(states: &States<'_>, test: Option<u8>) -> bool
-    ensures { result ≡ ((covers_items states.now.lists.now.items [] && covers_relations states.now.core.now.registers states.now.relations.now (test_alone test)) && is_none states.now.summary.now.aside) }
+fn covers_bare(program: &Program<'_>, states: &States<'_>, test: Option<u8>) -> bool
+    ensures { result ≡ ((covers_items states.now.lists.now.items [] && covers_relations program.now.is_whole states.now.core.now.registers states.now.relations.now (test_alone test)) && is_none states.now.summary.now.aside) }
 {
-    are_none(states.lists.items()) && covers_test(states, test) && covers_nothing(states)
+    are_none(states.lists.items()) && covers_test(program, states, test) && covers_nothing(states)
 }
 
 /// Whether all of a state but the core stands for that of others.
 #[inline(always)]
 #[tactic(auto, using(crate::proofs::CoveringLaws::covers_bare))]
 fn covers_rest(program: &Program<'_>, states: &States<'_>, claimed: &StateRef<'_>) -> bool
-    ensures { result ≡ (((covers_items states.now.lists.now.items claimed.now.items && covers_cells program.now (values_of states.now.core.now.registers states.now.relations.now.pairs) states.now.lists.now.cells states.now.summary.now claimed.now.cells) && covers_relations states.now.core.now.registers states.now.relations.now claimed.now.relations) && covers_summary program.now (values_of states.now.core.now.registers states.now.relations.now.pairs) states.now.core.now.ctl states.now.lists.now.cells states.now.summary.now claimed.now.cells claimed.now.summary) }
+    ensures { result ≡ (((covers_items states.now.lists.now.items claimed.now.items && covers_cells program.now (values_of states.now.core.now.registers states.now.relations.now.pairs) states.now.lists.now.cells states.now.summary.now claimed.now.cells) && covers_relations program.now.is_whole states.now.core.now.registers states.now.relations.now claimed.now.relations) && covers_summary program.now (values_of states.now.core.now.registers states.now.relations.now.pairs) states.now.core.now.ctl states.now.lists.now.cells states.now.summary.now claimed.now.cells claimed.now.summary) }
 {
     if claimed.has_lists() {
         covers_read(program, states, claimed)
     } else {
-        covers_bare(states, claimed.test())
+        covers_bare(program, states, claimed.test())
     }
 }
 

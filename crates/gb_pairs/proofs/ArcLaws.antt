@@ -1,5 +1,5 @@
 -- Words on arcs: what is known of a pair without asking what its link reads.
-use Rattle.std.proofs.Common.{◌≡◌, ℕ, ◌+◌, ◌-◌, ◌*◌, ◌%◌, ◌<◌, ◌≤◌, Bool, true, false, ◌==◌, cond, nat_lt, nat_le, Option, Some, None, refl, sym, ap, subst, arith}
+use Rattle.std.proofs.Common.{◌≡◌, ℕ, ◌+◌, ◌-◌, ◌*◌, ◌%◌, ◌<◌, ◌≤◌, Bool, true, false, ◌&&◌, cond, nat_lt, nat_le, Option, Some, None, refl, ap, arith}
 use Rattle.std.proofs.lemmas.Bool.{leb-true}
 use Rattle.std.proofs.lemmas.Bool.Decides.{nat_tests}
 use Rattle.std.proofs.Math.Nat.{mul-le-mul_left}
@@ -7,8 +7,8 @@ use Rattle.gb_domain.specs.declared.pairs.Bounds.{Bounds}
 use Rattle.gb_domain.specs.declared.pairs.Link.{Link}
 use Rattle.gb_pairs.specs.declared.covering.Arc.{Arc}
 use Rattle.gb_pairs.specs.Meaning.{AreLinked}
-use Rattle.gb_pairs.specs.Reduced.{is_rising, size, pair_at, last_pair_at, pairs_at, pairs_width}
-use Rattle.gb_pairs.specs.Covering.{arc, arc_if, is_arc_in, arc_of_bounds, arc_of_link, arc_of_sums, arc_of_both, has_sums, follows_on}
+use Rattle.gb_pairs.specs.Reduced.{is_rising, pair_at, last_pair_at}
+use Rattle.gb_pairs.specs.Covering.{arc, arc_by, is_arc_in, arc_of_bounds, arc_of_link, arc_of_sums, arc_of_both, has_sums, follows_on}
 use Rattle.gb_pairs.specs.Sound.{Within}
 
 -- as code computes it
@@ -25,12 +25,18 @@ abbrev pub IsOnIf : Option Arc → ℕ → Type 0
 IsOnIf None n = Unit {0}
 IsOnIf (Some a) n = IsOn a n
 
-IsOn-arc_if : (first width n more : ℕ) → more ≤ width → n % 65536 ≡ (first + more) % 65536 → IsOnIf (arc_if first width) n
-IsOn-arc_if first width n more h e = choose (nat_lt 65535 width)
+-- of a link whose factor is a word
+IsOn-arc_by :
+    (l : Link) (first width n more : ℕ) → more ≤ width → (l.factor < 65536 → n % 65536 ≡ (first + more) % 65536) → IsOnIf (arc_by l first width) n
+IsOn-arc_by l first width n more h e = choose (nat_lt l.factor 65536) (nat_le width 65535) refl
   where
-    choose : (b : Bool) → IsOnIf (cond b None (Some (arc first width))) n
-    choose true = tt
-    choose false = record { more = more; most = h; is = e }
+    choose : (a b : Bool) → nat_lt l.factor 65536 ≡ a → IsOnIf (cond (a && b) (Some (arc first width)) None) n
+    choose true true word = record { more = more; most = h; is = e (grind (arith, nat_tests)) }
+    choose true false word = tt
+    choose false b word = tt
+
+whole : (f : ℕ) → f < 65536 → 65536 - f + f ≡ 65536
+whole f h = omega arith
 
 further : (n a b m w d : ℕ) → n % 65536 ≡ (a + m) % 65536 → d ≡ (a + (65536 - b % 65536)) % 65536 → n % 65536 ≡ (b + (d + m)) % 65536
 further n a b m w d h e = omega arith
@@ -84,12 +90,9 @@ span_most m a b width more h k =
     omega arith
 
 pub IsOn-link :
-    (l : Link) (o : Bounds) (w n : ℕ) → l.factor < 65536 → Within o n → AreLinked l w n → IsOnIf (arc_of_link l o) w
-IsOn-link l o w n factor h linked = choose (is_rising l) refl
+    (l : Link) (o : Bounds) (w n : ℕ) → Within o n → AreLinked l w n → IsOnIf (arc_of_link l o) w
+IsOn-link l o w n h linked = choose (is_rising l)
   where
-    whole : 65536 - l.factor + l.factor ≡ 65536
-    whole = omega arith
-
     up : o.last - n ≤ o.last - o.first
     up = let least = h.least in omega arith
 
@@ -100,14 +103,14 @@ IsOn-link l o w n factor h linked = choose (is_rising l) refl
     at c =
         cond c (record { first = pair_at l o.last; last = last_pair_at l o.first }) (record { first = pair_at l o.first; last = last_pair_at l o.last })
 
-    choose : (c : Bool) → is_rising l ≡ c → IsOnIf (arc_if (at c).first (cond c l.factor (65536 - l.factor) * (o.last - o.first) + l.width)) w
-    choose true e =
-        IsOn-arc_if _ _ w (l.factor * (o.last - n) + linked.more) (span_most l.factor _ _ l.width linked.more up linked.most)
-        (pair_rising l.sum l.factor (65536 - l.factor) w n linked.more o.last whole h.most linked.sum)
-    choose false e =
-        IsOn-arc_if _ _ w ((65536 - l.factor) * (n - o.first) + linked.more)
+    choose : (c : Bool) → IsOnIf (arc_by l (at c).first (cond c l.factor (65536 - l.factor) * (o.last - o.first) + l.width)) w
+    choose true =
+        IsOn-arc_by l _ _ w (l.factor * (o.last - n) + linked.more) (span_most l.factor _ _ l.width linked.more up linked.most)
+        (λ word. pair_rising l.sum l.factor (65536 - l.factor) w n linked.more o.last (whole l.factor word) h.most linked.sum)
+    choose false =
+        IsOn-arc_by l _ _ w ((65536 - l.factor) * (n - o.first) + linked.more)
         (span_most (65536 - l.factor) _ _ l.width linked.more down linked.most)
-        (pair_falling l.sum l.factor (65536 - l.factor) w n linked.more o.first whole h.least linked.sum)
+        (λ word. pair_falling l.sum l.factor (65536 - l.factor) w n linked.more o.first (whole l.factor word) h.least linked.sum)
 
 -- ---- the sums of a pair and its other
 
@@ -133,12 +136,9 @@ sum_falling a f g w n more high whole most h =
 swapped : (m a b : ℕ) → m + a ≤ b → a + m ≤ b
 swapped m a b h = omega arith
 
-IsOn-both : (l : Link) (o : Bounds) (a : Arc) (w n : ℕ) → l.factor < 65536 → Within o n → IsOn a w → IsOnIf (arc_of_both l o a) (w + l.factor * n)
-IsOn-both l o a w n factor h on = choose (is_rising l)
+IsOn-both : (l : Link) (o : Bounds) (a : Arc) (w n : ℕ) → Within o n → IsOn a w → IsOnIf (arc_of_both l o a) (w + l.factor * n)
+IsOn-both l o a w n h on = choose (is_rising l)
   where
-    whole : 65536 - l.factor + l.factor ≡ 65536
-    whole = omega arith
-
     up : n - o.first ≤ o.last - o.first
     up = let most = h.most in omega arith
 
@@ -146,17 +146,18 @@ IsOn-both l o a w n factor h on = choose (is_rising l)
     down = let least = h.least in omega arith
 
     sums : (c : Bool) → Option Arc
-    sums c = arc_if ((a.first + l.factor * cond c o.first o.last) % 65536) (a.width + cond c l.factor (65536 - l.factor) * (o.last - o.first))
+    sums c = arc_by l ((a.first + l.factor * cond c o.first o.last) % 65536) (a.width + cond c l.factor (65536 - l.factor) * (o.last - o.first))
 
     choose : (c : Bool) → IsOnIf (sums c) (w + l.factor * n)
     choose true =
         let most : l.factor * (n - o.first) + on.more ≤ l.factor * (o.last - o.first) + a.width = span_most l.factor _ _ a.width on.more up on.most in
-        IsOn-arc_if _ _ _ (l.factor * (n - o.first) + on.more) (omega arith) (sum_rising a.first l.factor w n on.more o.first h.least on.is)
+        IsOn-arc_by l _ _ _ (l.factor * (n - o.first) + on.more) (omega arith)
+        (λ word. sum_rising a.first l.factor w n on.more o.first h.least on.is)
     choose false =
         let most : (65536 - l.factor) * (o.last - n) + on.more ≤ (65536 - l.factor) * (o.last - o.first) + a.width =
         span_most (65536 - l.factor) _ _ a.width on.more down on.most in
-        IsOn-arc_if _ _ _ ((65536 - l.factor) * (o.last - n) + on.more) (omega arith)
-        (sum_falling a.first l.factor (65536 - l.factor) w n on.more o.last whole h.most on.is)
+        IsOn-arc_by l _ _ _ ((65536 - l.factor) * (o.last - n) + on.more) (omega arith)
+        (λ word. sum_falling a.first l.factor (65536 - l.factor) w n on.more o.last (whole l.factor word) h.most on.is)
 
 IsOn-has_sums : (l : Link) (a : Option Arc) (n : ℕ) → has_sums l a ≡ true → IsOnIf a n → IsOn (arc_of_sums l) n
 IsOn-has_sums l None n h k = cc
@@ -165,7 +166,6 @@ IsOn-has_sums l (Some a) n h k = IsOn-in a (arc_of_sums l) n h k
 -- a link that follows from where its pair is
 pub AreLinked-follows :
     (l : Link) (o : Bounds) (a : Option Arc) (w n : ℕ)
-    → l.factor < 65536 → Within o n → IsOnIf a w → follows_on o l a ≡ true → AreLinked l w n
-AreLinked-follows l o None w n factor h on k = cc
-AreLinked-follows l o (Some a) w n factor h on k =
-    AreLinked-on l w n (IsOn-has_sums l _ _ k (IsOn-both l o a w n factor h on))
+    → Within o n → IsOnIf a w → follows_on o l a ≡ true → AreLinked l w n
+AreLinked-follows l o None w n h on k = cc
+AreLinked-follows l o (Some a) w n h on k = AreLinked-on l w n (IsOn-has_sums l _ _ k (IsOn-both l o a w n h on))

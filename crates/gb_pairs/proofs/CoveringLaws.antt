@@ -1,6 +1,6 @@
 -- What covers pairs holds of all that the values stand for.
 use Rattle.gb_ops.specs.Registers.{get}
-use Rattle.std.proofs.Common.{◌≡◌, ℕ, ◌+◌, ◌*◌, ◌%◌, ◌<◌, ◌≤◌, Bool, true, ◌||◌, Option, Some, None, inl, inr, sym, ◌∙◌, ap, subst, arith}
+use Rattle.std.proofs.Common.{◌≡◌, ℕ, ◌+◌, ◌*◌, ◌%◌, ◌≤◌, Bool, true, ◌||◌, Option, Some, None, inl, inr, sym, ◌∙◌, ap, subst, arith}
 use Rattle.std.proofs.lemmas.Bool.{and_parts, or_cases, eqb-true, leb-true}
 use Rattle.gb_ops.specs.declared.registers.Registers.{Registers}
 use Rattle.gb_domain.specs.declared.pairs.WordPair.{WordPair}
@@ -16,7 +16,7 @@ use Rattle.gb_pairs.specs.declared.values.Values.{Values}
 use Rattle.gb_pairs.specs.Bounds.{is_one, bounds_of, bounds_of_other}
 use Rattle.gb_pairs.specs.Meaning.{word_of, other_of, AreLinked, IsLinked, HoldsPair, HoldPairs, Holds}
 use Rattle.gb_pairs.specs.Covering.{is_same_other, is_same_link, meets_link, holds_link_plainly, arc_of_bounds, arc_of_sums, are_one_byte, follows, arc_by_link, holds_link, covers_link, covers_pair, covers_pairs}
-use Rattle.gb_pairs.specs.Sound.{Within, HasFactor, HaveFactors, AreOneByte, ArePartOf}
+use Rattle.gb_pairs.specs.Sound.{Within, AreOneByte, ArePartOf}
 use Rattle.gb_pairs.proofs.ArcLaws.{IsOn, IsOnIf, IsOn-in, IsOn-bounds, IsOn-link, IsOn-sums, AreLinked-on, AreLinked-follows}
 use Rattle.gb_domain.proofs.RegisterLaws.{same_register}
 use Rattle.gb_pairs.proofs.RegisterLaws.{same_pair}
@@ -118,65 +118,61 @@ linked_follows places (Some k) l p x h one m =
     (subst (λ f. IsOn (arc_of_sums l) (word_of p x + f * other_of l.other x)) factors
     (subst (λ n. IsOn (arc_of_sums l) (word_of p x + k.factor * n)) (alike places k.other l.other x parts.0 one) on))
 
-below : (k : Option Link) (v : Values) (p : WordPair) (x : Registers ℕ) → HasFactor k → Holds v x → IsLinked k p x → IsOnIf (arc_by_link v k) (word_of p x)
-below None v p x pairs h m = tt
-below (Some k) v p x pairs h m =
-    IsOn-link k (bounds_of_other k.other v) _ _ pairs (Within-bounds_of_other k.other v x h) m
+below : (k : Option Link) (v : Values) (p : WordPair) (x : Registers ℕ) → Holds v x → IsLinked k p x → IsOnIf (arc_by_link v k) (word_of p x)
+below None v p x h m = tt
+below (Some k) v p x h m =
+    IsOn-link k (bounds_of_other k.other v) _ _ (Within-bounds_of_other k.other v x h) m
 
 linked :
     (places : Registers Bool) (p : WordPair) (v : Values) (l : Link) (x : Registers ℕ)
-    → HasFactor (facts_of p v.pairs).link → l.factor < 65536
     → holds_link places p v l ≡ true → AreOneByte (Some places) x → Holds v x → IsLinked (Some l) p x
 unfolding holds_link
-linked places p v l x link factor h one m =
+linked places p v l x h one m =
     let other = Within-bounds_of_other l.other v x m in
     elim (or_cases _ _ h) [
       | inl first ↦
           elim (or_cases _ _ first) [
             | inl known ↦ linked_follows places _ l p x known one (m.pairs.each p).link
             | inr bounds ↦
-                AreLinked-follows l _ (Some (arc_of_bounds (bounds_of p v))) _ _ factor other
+                AreLinked-follows l _ (Some (arc_of_bounds (bounds_of p v))) _ _ other
                 (IsOn-bounds (bounds_of p v) _ (Within-bounds_of p v x m)) bounds
           ]
       | inr by_link ↦
-          AreLinked-follows l _ _ _ _ factor other (below (facts_of p v.pairs).link v p x link m (m.pairs.each p).link) by_link
+          AreLinked-follows l _ _ _ _ other (below (facts_of p v.pairs).link v p x m (m.pairs.each p).link) by_link
     ]
 
 covered_link :
     (by : Option (Registers Bool)) (p : WordPair) (v : Values) (l : Option Link) (x : Registers ℕ)
-    → HasFactor (facts_of p v.pairs).link → HasFactor l
     → covers_link by p v l ≡ true → AreOneByte by x → Holds v x → IsLinked l p x
-covered_link by p v None x i j h one m = tt
-covered_link None p v (Some l) x i j h one m = linked_plainly p v l x h m
-covered_link (Some places) p v (Some l) x i j h one m = linked places p v l x i j h one m
+covered_link by p v None x h one m = tt
+covered_link None p v (Some l) x h one m = linked_plainly p v l x h m
+covered_link (Some places) p v (Some l) x h one m = linked places p v l x h one m
 
 -- ---- pairs
 
 covered_pair :
     (by : Option (Registers Bool)) (p : WordPair) (v : Values) (f : PairFacts) (x : Registers ℕ)
-    → HasFactor (facts_of p v.pairs).link → HasFactor f.link
     → covers_pair by p v f ≡ true → AreOneByte by x → Holds v x → HoldsPair f p x
-covered_pair by p v f x i j h one m =
+covered_pair by p v f x h one m =
     let parts = and_parts _ _ h in
     let ends = and_parts _ _ parts.0 in
     let first : f.bounds.first ≤ (bounds_of p v).first = leb-true _ _ ends.0 in
     let last : (bounds_of p v).last ≤ f.bounds.last = leb-true _ _ ends.1 in
     let least = (Within-bounds_of p v x m).least in
     let most = (Within-bounds_of p v x m).most in
-    record { first = omega arith; last = omega arith; link = covered_link by p v f.link x i j parts.1 one m }
+    record { first = omega arith; last = omega arith; link = covered_link by p v f.link x parts.1 one m }
 
 covered :
     (by : Option (Registers Bool)) (v : Values) (s : Pairs) (x : Registers ℕ)
-    → HaveFactors v.pairs → HaveFactors s → covers_pairs by v s ≡ true → AreOneByte by x → Holds v x → HoldPairs s x
+    → covers_pairs by v s ≡ true → AreOneByte by x → Holds v x → HoldPairs s x
 unfolding covers_pairs
-covered by v s x i j h one m = record { each = each }
+covered by v s x h one m = record { each = each }
   where
     each : (p : WordPair) → HoldsPair (facts_of p s) p x
-    each pair.Bc = covered_pair by pair.Bc v s.bc x i.bc j.bc (and_parts _ _ (and_parts _ _ h).0).0 one m
-    each pair.De = covered_pair by pair.De v s.de x i.de j.de (and_parts _ _ (and_parts _ _ h).0).1 one m
-    each pair.Hl = covered_pair by pair.Hl v s.hl x i.hl j.hl (and_parts _ _ h).1 one m
+    each pair.Bc = covered_pair by pair.Bc v s.bc x (and_parts _ _ (and_parts _ _ h).0).0 one m
+    each pair.De = covered_pair by pair.De v s.de x (and_parts _ _ (and_parts _ _ h).0).1 one m
+    each pair.Hl = covered_pair by pair.Hl v s.hl x (and_parts _ _ h).1 one m
 
 pub covers_pairs_sound :
-    (by : Option (Registers Bool)) (v : Values) (s : Pairs) (o : Bool)
-    → o ≡ covers_pairs by v s → HaveFactors v.pairs → HaveFactors s → o ≡ true → ArePartOf by v s
-covers_pairs_sound by v s o e i j h = record { gives = λ x one m. covered by v s x i j (sym e ∙ h) one m }
+    (by : Option (Registers Bool)) (v : Values) (s : Pairs) (o : Bool) → o ≡ covers_pairs by v s → o ≡ true → ArePartOf by v s
+covers_pairs_sound by v s o e h = record { gives = λ x one m. covered by v s x (sym e ∙ h) one m }

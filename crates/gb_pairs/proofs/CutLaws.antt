@@ -1,5 +1,5 @@
 -- Reducing only cuts: values and bounds become smaller, origins and links stay.
-use Rattle.std.proofs.Common.{◌≡◌, ℕ, ◌-◌, ◌*◌, ◌≤◌, Bool, true, false, ◌&&◌, ◌||◌, ◌==◌, cond, nat_lt, Option, Some, None, refl, sym, ◌∙◌, subst, arith}
+use Rattle.std.proofs.Common.{◌≡◌, ℕ, ◌≤◌, Bool, true, false, ◌&&◌, ◌||◌, ◌==◌, cond, nat_lt, Option, Some, None, refl, sym, ◌∙◌, subst, arith}
 use Rattle.std.specs.Prelude.{IfSome, option_map, option_and_then}
 use Rattle.std.proofs.lemmas.Bool.{and_parts, eqb-true}
 use Rattle.std.proofs.lemmas.Bool.Decides.{nat_tests}
@@ -20,7 +20,7 @@ use Rattle.gb_domain.specs.Values.{is_strided}
 use Rattle.gb_vals.specs.Logic.{smaller, larger}
 use Rattle.gb_pairs.specs.declared.values.Values.{Values}
 use Rattle.gb_pairs.specs.Bounds.{cut, is_empty, high_of, low_of, box, bounds_of}
-use Rattle.gb_pairs.specs.Reduced.{size, pairs_at, pairs_width, cut_by_other, others_at, left_of, values_within, cut_val, with_register, with_bounds, with_register_if, with_bounds_if, cut_other, cut_other_if, high_bounds, low_bounds, with_bytes_if, settled, reduced_by_link, reduced_within, reduced_pair, reduced_once, reduced, restricted}
+use Rattle.gb_pairs.specs.Reduced.{pairs_at, pairs_width, cut_by_other, others_at, left_of, values_within, cut_val, with_register, with_bounds, with_register_if, with_bounds_if, cut_other, cut_other_if, high_bounds, low_bounds, with_bytes_if, settled, reduced_by_link, reduced_within, reduced_pair, reduced_once, reduced, restricted}
 use Rattle.gb_pairs.specs.Sound.{IsCut}
 use Rattle.gb_pairs.proofs.RegisterLaws.{each_set, each_facts}
 use Rattle.gb_pairs.proofs.StrideLaws.{IsLeft, IfSome-left, strided_left}

@@ -1,5 +1,5 @@
 -- What is left of a value's low bits where it is cut to bounds.
-use Rattle.std.proofs.Common.{◌≡◌, ℕ, zero, suc, ◌+◌, ◌-◌, ◌%◌, ◌≤◌, ◌<◌, Bool, true, false, ◌&&◌, ◌||◌, ◌==◌, cond, nat_le, nat_lt, Option, Some, None, inl, inr, refl, sym, ◌∙◌, ap, subst, arith}
+use Rattle.std.proofs.Common.{◌≡◌, ℕ, ◌+◌, ◌-◌, ◌%◌, ◌≤◌, Bool, true, false, ◌&&◌, ◌||◌, ◌==◌, cond, nat_le, nat_lt, Option, Some, None, inl, inr, refl, sym, subst, arith}
 use Rattle.std.specs.Prelude.{IfSome, min, option_map}
 use Rattle.std.proofs.lemmas.Bool.{and_parts, or_cases, eqb-true, leb-true}
 use Rattle.std.proofs.lemmas.Bool.Decides.{nat_tests}
@@ -10,7 +10,7 @@ use Rattle.gb_domain.specs.LowBits.{modulus, low_bits}
 use Rattle.gb_domain.specs.Interval.{least, greatest, strided, with_low_bits}
 use Rattle.gb_domain.specs.Meaning as interval
 use Rattle.gb_domain.specs.Meaning.{Has, IsWithin, InSome}
-use Rattle.gb_domain.specs.Values.{have_same, has_low_bits, is_strided}
+use Rattle.gb_domain.specs.Values.{have_same, is_strided}
 use Rattle.gb_domain.proofs.IntervalLaws.{least-has, least-above, Has-zero, with_low_bits_leaves}
 use Rattle.gb_domain.proofs.ModulusLaws.{each_modulus}
 use Rattle.gb_domain.proofs.ValueLaws.{Has-same, same-Has}

@@ -36,9 +36,9 @@ meets_link b o l = is_one b && is_one o && ((b.first + l.factor * o.first) % 655
 abbrev pub arc : ℕ → ℕ → Arc
 arc first width = record { first = first; width = width }
 
--- not all words
-abbrev pub arc_if : ℕ → ℕ → Option Arc
-arc_if first width = if nat_lt 65535 width then None else Some (arc first width)
+-- not all words, where the link's factor is a word
+abbrev pub arc_by : Link → ℕ → ℕ → Option Arc
+arc_by l first width = if nat_lt l.factor 65536 && nat_le width 65535 then Some (arc first width) else None
 
 -- the inner one lies in the outer one
 abbrev pub is_arc_in : Arc → Arc → Bool
@@ -50,7 +50,7 @@ arc_of_bounds b = arc b.first (b.last - b.first)
 
 -- of a pair: what its link leaves, where what the link reads is in o
 abbrev pub arc_of_link : Link → Bounds → Option Arc
-arc_of_link l o = arc_if (pairs_at l o).first (pairs_width l o)
+arc_of_link l o = arc_by l (pairs_at l o).first (pairs_width l o)
 
 -- the sums of a link
 abbrev pub arc_of_sums : Link → Arc
@@ -59,7 +59,7 @@ arc_of_sums l = arc l.sum l.width
 -- the sums of a pair that is on an arc, and of the other, which is in o, times the link's factor
 abbrev pub arc_of_both : Link → Bounds → Arc → Option Arc
 arc_of_both l o a =
-    arc_if ((a.first + l.factor * (if is_rising l then o.first else o.last)) % 65536) (a.width + size l * (o.last - o.first))
+    arc_by l ((a.first + l.factor * (if is_rising l then o.first else o.last)) % 65536) (a.width + size l * (o.last - o.first))
 
 -- ---- a link
 

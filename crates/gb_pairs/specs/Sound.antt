@@ -1,5 +1,5 @@
 -- What operations on pairs promise of the registers (abstract interpretation: soundness; own).
-use Rattle.std.specs.Prelude.{◌≡◌, ℕ, ◌+◌, ◌/◌, ◌%◌, ◌<◌, ◌≤◌, Bool, true, nat_lt, Option, Some, None}
+use Rattle.std.specs.Prelude.{◌≡◌, ℕ, ◌+◌, ◌/◌, ◌%◌, ◌≤◌, Bool, true, nat_lt, Option, Some, None}
 use Rattle.gb_ops.specs.declared.op.Register.{Register}
 use Rattle.gb_ops.specs.declared.registers.Registers.{Registers}
 use Rattle.gb_ops.specs.Registers.{get, set}
@@ -95,16 +95,6 @@ pub record IsSoundSum (y : Bounds) (v : Values) (a : HlSum) : Type 0 where
       → IsCarry a.carry (word_of pair.Hl x + n)
 
 -- ---- covering
-
--- a link's factor is a word
-abbrev pub HasFactor : Option Link → Type 0
-HasFactor None = Unit {0}
-HasFactor (Some l) = l.factor < 65536
-
-pub record HaveFactors (s : Pairs) : Type 0 where
-  pub bc : HasFactor s.bc.link
-  pub de : HasFactor s.de.link
-  pub hl : HasFactor s.hl.link
 
 -- some registers hold one byte, where it is told which
 abbrev pub AreOneByte : Option (Registers Bool) → Registers ℕ → Type 0

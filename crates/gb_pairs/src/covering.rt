@@ -1,8 +1,8 @@
 //! Covering: whether what is known of pairs holds of all that values stand for.
 
 ghost use Rattle.std.specs.Prelude.{◌≡◌, ◌+◌, ◌-◌, ◌%◌, true};
-ghost use Rattle.gb_pairs.specs.Covering.{is_same_other, is_same_link, meets_link, holds_link_plainly, arc_if, is_arc_in, arc_of_bounds, arc_of_link, arc_of_sums, arc_of_both, are_one_byte, follows, has_sums, follows_on, arc_by_link, holds_link, covers_link, covers_bounds, covers_pair, covers_pairs};
-ghost use Rattle.gb_pairs.specs.Sound.{HasFactor, HaveFactors, ArePartOf};
+ghost use Rattle.gb_pairs.specs.Covering.{is_same_other, is_same_link, meets_link, holds_link_plainly, arc_by, is_arc_in, arc_of_bounds, arc_of_link, arc_of_sums, arc_of_both, are_one_byte, follows, has_sums, follows_on, arc_by_link, holds_link, covers_link, covers_bounds, covers_pair, covers_pairs};
+ghost use Rattle.gb_pairs.specs.Sound.{ArePartOf};
 
 use crate::bounds::{bounds_of, bounds_of_other, facts_of, is_one};
 use crate::reduced::{is_rising, pairs_at, pairs_width, product, size};
@@ -57,9 +57,9 @@ pub(crate) struct Arc {
     pub(crate) width: u16,
 }
 
-/// An arc that isn't all words.
-fn arc_if(first: u16, width: u32) -> Option<Arc>
-    ensures { result ≡ arc_if first width }
+/// An arc that isn't all words; it comes of a link, whose factor is a word.
+fn arc_by(link: Link, first: u16, width: u32) -> Option<Arc>
+    ensures { result ≡ arc_by link first width }
 {
     if width > 65_535 {
         return None;
@@ -95,7 +95,7 @@ fn arc_of_bounds(bounds: Bounds) -> Arc
 fn arc_of_link(link: Link, other: Bounds) -> Option<Arc>
     ensures { result ≡ arc_of_link link other }
 {
-    arc_if(pairs_at(link, other).first, pairs_width(link, other))
+    arc_by(link, pairs_at(link, other).first, pairs_width(link, other))
 }
 
 fn arc_of_sums(link: Link) -> Arc
@@ -118,7 +118,7 @@ fn arc_of_both(link: Link, other: Bounds, pair: Arc) -> Option<Arc>
     };
     let first = pair.first.wrapping_add(link.factor.wrapping_mul(end));
     let spread = product(size(link), other.last.saturating_sub(other.first));
-    arc_if(first, u32::from(pair.width) + spread)
+    arc_by(link, first, u32::from(pair.width) + spread)
 }
 
 // ---- a link
@@ -210,42 +210,14 @@ fn covers_pair(by: Option<Registers<bool>>, pair: WordPair, s: &Values, t: PairF
     covers_bounds(bounds_of(pair, s), t.bounds) && covers_link(by, pair, s, t.link)
 }
 
-/// A link's factor is a word.
-fn has_factor(link: Option<Link>)
-    ensures { HasFactor link }
-{
-    if let Some(link) = link {
-        let Link { factor, .. } = link;
-        let _ = factor;
-    }
-}
-
-/// The factors of links are words.
-pub fn have_factors(pairs: &Pairs)
-    ensures { HaveFactors pairs.now }
-{
-    has_factor(pairs.bc.link);
-    has_factor(pairs.de.link);
-    has_factor(pairs.hl.link);
-}
-
-#[tactic(auto, unfolding(crate::specs::Covering::covers_pairs))]
-fn covers_each(by: Option<Registers<bool>>, values: &Values, pairs: &Pairs) -> bool
-    ensures { result ≡ covers_pairs by values.now pairs.now }
-{
-    covers_pair(by, WordPair::Bc, values, pairs.bc)
-        && covers_pair(by, WordPair::De, values, pairs.de)
-        && covers_pair(by, WordPair::Hl, values, pairs.hl)
-}
-
 /// Whether what is known of pairs holds of all registers that values stand for, decided pair by pair (abstract
 /// interpretation: inclusion): by the rules of version 4 where it is told which registers hold one byte.
-#[tactic(auto, using(crate::proofs::CoveringLaws::covers_pairs_sound))]
+#[tactic(auto, using(crate::proofs::CoveringLaws::covers_pairs_sound), unfolding(crate::specs::Covering::covers_pairs))]
 pub fn covers_pairs(by: Option<Registers<bool>>, values: &Values, pairs: &Pairs) -> bool
     ensures exact { result ≡ covers_pairs by values.now pairs.now }
     ensures sound { result ≡ true → ArePartOf by values.now pairs.now }
 {
-    have_factors(&values.pairs);
-    have_factors(pairs);
-    covers_each(by, values, pairs)
+    covers_pair(by, WordPair::Bc, values, pairs.bc)
+        && covers_pair(by, WordPair::De, values, pairs.de)
+        && covers_pair(by, WordPair::Hl, values, pairs.hl)
 }

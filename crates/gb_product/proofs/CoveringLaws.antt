@@ -30,7 +30,7 @@ use Rattle.gb_abs_effects.proofs.Below.gb_abs_laws.CoveringLaws.{Holds-covered, 
 use Rattle.gb_abs_effects.proofs.CoreLaws.{In-from}
 use Rattle.gb_summaries.proofs.Below.gb_pairs_laws.RegisterLaws.{same_pair}
 use Rattle.gb_summaries.specs.Below.gb_copies.Meaning.{HoldOneByte}
-use Rattle.gb_summaries.specs.Below.gb_pairs.Sound.{HaveFactors, AreOneByte}
+use Rattle.gb_summaries.specs.Below.gb_pairs.Sound.{AreOneByte}
 use Rattle.gb_summaries.proofs.Below.gb_pairs_laws.CoveringLaws.{covers_pairs_sound}
 use Rattle.gb_summaries.proofs.Below.gb_copies_laws.CoveringLaws.{covers_byte_sound}
 use Rattle.gb_summaries.proofs.Below.gb_ram_bounds_laws.CoveringLaws.{byte_at_sound}
@@ -65,17 +65,16 @@ one_byte true s x memory f h = λ r q e g. h.registers r e ∙ sym (h.registers 
 
 pub HoldRelations-covered :
     (whole : Bool) (registers : Registers Val) (s t : Relations) (x : Registers ℕ) (memory : ℕ → ℕ) (f : Flags)
-    → HaveFactors s.pairs → HaveFactors t.pairs
     → covers_relations whole registers s t ≡ true → ((r : Register) → In (get r registers) (get r x)) → HoldRelations s x memory f → HoldRelations t x memory f
 unfolding covers_relations
-HoldRelations-covered whole registers s t x memory f i j h in_registers m =
+HoldRelations-covered whole registers s t x memory f h in_registers m =
     let pairs = and_parts _ _ h in
     let zero = and_parts _ _ pairs.0 in
     record {
       byte = (covers_byte_sound s.byte t.byte _ refl zero.0).gives x memory f m.byte;
       zero = zero_covered s.zero t.zero x f zero.1 m.zero;
       pairs =
-          (covers_pairs_sound (places_by whole s) (values_of registers s.pairs) t.pairs _ refl i j pairs.1).gives x
+          (covers_pairs_sound (places_by whole s) (values_of registers s.pairs) t.pairs _ refl pairs.1).gives x
           (one_byte whole s x memory f m.byte) (record { registers = in_registers; pairs = m.pairs });
     }
 
@@ -227,10 +226,9 @@ aside_covered program v c cells s kept t h e = none_aside s.aside t.aside (and_p
 
 pub Means-covered :
     (s t : AbsState) (entry : Activation) (base : ℕ) (x : MState)
-    → HaveFactors s.relations.pairs → HaveFactors t.relations.pairs
     → covers entry.program s t ≡ true → Means s entry base x → Means t entry base x
 unfolding covers_cells
-Means-covered s t entry base x i j h m =
+Means-covered s t entry base x h m =
     let all = AreCovered-all entry.program s t h in
     let known = HoldsKnown-means s entry base x m in
     let state = HoldsState-known entry.program (values_in s) s.core.ctl s.cells s.summary x.processor (peek x.storage) x.storage.banks known in
@@ -247,12 +245,12 @@ Means-covered s t entry base x i j h m =
         items = parts.items;
         cells = AreCells-covered (values_in s) s.cells s.summary t.cells entry x all.cells m.parts.memory m.parts.cells state;
       };
-      related = HoldRelations-covered entry.program.is_whole s.core.registers s.relations t.relations _ _ _ i j all.relations known.values.registers m.related;
+      related = HoldRelations-covered entry.program.is_whole s.core.registers s.relations t.relations _ _ _ all.relations known.values.registers m.related;
       summary = (covers_summary_sound entry.program (values_in s) s.core.ctl s.cells s.summary t.cells t.summary _ refl all.said).gives
           x.processor (peek x.storage) x.storage.banks known;
     }
 
 pub covers_sound : (program : Program) (s t : AbsState) (o : Bool)
-    → o ≡ covers program s t → HaveFactors s.relations.pairs → HaveFactors t.relations.pairs → o ≡ true → IsPartOf program s t
-covers_sound program s t o e i j h =
-    record { gives = λ entry base x is. Means-covered s t entry base x i j (subst (λ p. covers p s t ≡ true) (sym is) (sym e ∙ h)) }
+    → o ≡ covers program s t → o ≡ true → IsPartOf program s t
+covers_sound program s t o e h =
+    record { gives = λ entry base x is. Means-covered s t entry base x (subst (λ p. covers p s t ≡ true) (sym is) (sym e ∙ h)) }

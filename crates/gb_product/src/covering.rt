@@ -4,7 +4,6 @@ ghost use Rattle.std.specs.Prelude.{◌≡◌, ◌<◌, true, not};
 ghost use Rattle.gb_domain.specs.RelationRules.{is_known, are_unknown};
 ghost use Rattle.gb_product.specs.Covering as Covering;
 ghost use Rattle.gb_product.specs.Sound.{IsPartOf};
-ghost use Rattle.gb_summaries.specs.Below.gb_pairs.Sound.{HaveFactors};
 ghost use Rattle.gb_summaries.specs.Below.gb_relations.Transfer.{values_of};
 ghost use Rattle.gb_summaries.specs.Covering.{covers_summary};
 
@@ -19,7 +18,7 @@ use gb_domain::summary::Summary;
 use gb_domain::types::{Abs, Cell, Val};
 use gb_ops::registers::Registers;
 use gb_summaries::covering::covers_summary;
-use gb_summaries::{Values, covers_byte, covers_pairs, has_place, have_factors, is_same_pair};
+use gb_summaries::{Values, covers_byte, covers_pairs, has_place, is_same_pair};
 
 fn covers_zero(s: Option<WordPair>, t: Option<WordPair>) -> bool
     ensures { result ≡ Covering.covers_zero s t }
@@ -120,13 +119,6 @@ pub fn covers_said(
     )
 }
 
-/// The factors of a state's links are words.
-fn has_factors(state: &Abs)
-    ensures { HaveFactors state.now.relations.pairs }
-{
-    have_factors(&state.relations().pairs);
-}
-
 #[tactic(auto, unfolding(crate::specs::Covering::covers))]
 fn covers_all(program: &Program<'_>, s: &Abs, t: &Abs) -> bool
     ensures { result ≡ Covering.covers program.now s.now t.now }
@@ -149,7 +141,5 @@ pub fn covers(program: &Program<'_>, s: &Abs, t: &Abs) -> bool
     ensures exact { result ≡ Covering.covers program.now s.now t.now }
     ensures sound { result ≡ true → IsPartOf program.now s.now t.now }
 {
-    has_factors(s);
-    has_factors(t);
     covers_all(program, s, t)
 }

@@ -33,7 +33,7 @@ pub use gb_copies::windows::{has_windows, is_in_window};
 pub use gb_copies::{BankWindow, Known};
 pub use gb_domain::places::has_place;
 pub use gb_pairs::bounds::bounds_of;
-pub use gb_pairs::covering::{covers_pairs, have_factors};
+pub use gb_pairs::covering::covers_pairs;
 pub use gb_pairs::reduced::{reduce, restricted};
 pub use gb_pairs::values::Values;
 pub use gb_pairs::written::is_same_pair;
