@@ -26,6 +26,7 @@ const POINTER: Link = Link {
     other: Other::Register(Register::E),
     factor: 0xFFFF,
     sum: 0xC000,
+    width: 0,
 };
 
 /// At 0100 a jump to 0150, and there the code.

@@ -39,15 +39,15 @@ pub record Says (version : Version) (s : AbsState) : Type 0 where
   pub half : is_half (rules_in version) s ≡ false
   pub items : has_many_items (rules_in version) s ≡ false
   pub cells : has_many_cells (rules_in version) s ≡ false
-  pub related : is_related (rules_in version) s ≡ false
+  pub related : is_related version s ≡ false
   pub unsayable : has_unsayable version s ≡ false
 
 say : (version : Version) (s : AbsState) → is_unspellable version s ≡ false → Says version s
 say version s h =
-    let a = neither (is_half (rules_in version) s) (has_many_items (rules_in version) s || (has_many_cells (rules_in version) s || (is_related (rules_in version) s || has_unsayable version s))) h in
-    let b = neither (has_many_items (rules_in version) s) (has_many_cells (rules_in version) s || (is_related (rules_in version) s || has_unsayable version s)) a.1 in
-    let c = neither (has_many_cells (rules_in version) s) (is_related (rules_in version) s || has_unsayable version s) b.1 in
-    let d = neither (is_related (rules_in version) s) (has_unsayable version s) c.1 in
+    let a = neither (is_half (rules_in version) s) (has_many_items (rules_in version) s || (has_many_cells (rules_in version) s || (is_related version s || has_unsayable version s))) h in
+    let b = neither (has_many_items (rules_in version) s) (has_many_cells (rules_in version) s || (is_related version s || has_unsayable version s)) a.1 in
+    let c = neither (has_many_cells (rules_in version) s) (is_related version s || has_unsayable version s) b.1 in
+    let d = neither (is_related version s) (has_unsayable version s) c.1 in
     record { half = a.0; items = b.0; cells = c.0; related = d.0; unsayable = d.1 }
 
 pub spellable :
@@ -59,7 +59,7 @@ spellable plan base need exits states =
       words = both_false need (none (is_half (rules_in plan.version)) (λ s h. (say plan.version s h).half));
       items = none (has_many_items (rules_in plan.version)) (λ s h. (say plan.version s h).items);
       cells = none (has_many_cells (rules_in plan.version)) (λ s h. (say plan.version s h).cells);
-      relations = none (is_related (rules_in plan.version)) (λ s h. (say plan.version s h).related);
+      relations = none (is_related plan.version) (λ s h. (say plan.version s h).related);
       values = none (has_unsayable plan.version) (λ s h. (say plan.version s h).unsayable);
       bases = base;
     }

@@ -322,7 +322,7 @@ refused_by plan fault.HalfWord h e =
     not_so (sym (both_false (no_procedures plan (has_half_need (rules_in plan.version)) (λ p f. f.half) all) (no_states plan (is_half (rules_in plan.version)) (λ s f. f.half) all)) ∙ e)
 refused_by plan fault.Items h e = not_so (sym (no_states plan (has_many_items (rules_in plan.version)) (λ s f. f.items) (fits_all plan h)) ∙ e)
 refused_by plan fault.Cells h e = not_so (sym (no_states plan (has_many_cells (rules_in plan.version)) (λ s f. f.cells) (fits_all plan h)) ∙ e)
-refused_by plan fault.Relations h e = not_so (sym (no_states plan (is_related (rules_in plan.version)) (λ s f. f.related) (fits_all plan h)) ∙ e)
+refused_by plan fault.Relations h e = not_so (sym (no_states plan (is_related plan.version) (λ s f. f.related) (fits_all plan h)) ∙ e)
 refused_by plan fault.Values h e = not_so (sym (no_states plan (has_unsayable plan.version) (λ s f. f.unsayable) (fits_all plan h)) ∙ e)
 refused_by plan fault.Base h e = not_so (sym (no_base_said plan.version (length plan.facts.now) plan.region _ plan.procedures.now h.procedures) ∙ e)
 refused_by plan fault.Ranges h e = not_so (sym (no_procedures plan is_wide (λ p f. f.wide) (fits_all plan h)) ∙ e)

@@ -10,6 +10,7 @@ use Rattle.gb_domain.specs.declared.types.Val.{Val}
 use Rattle.gb_domain.specs.declared.types.KeptBanks.{KeptBanks}
 use Rattle.gb_domain.specs.declared.types.Core.{Core}
 use Rattle.gb_domain.specs.declared.types.Cell.{Cell}
+use Rattle.gb_domain.specs.declared.relations.Relations.{Relations}
 use Rattle.gb_domain.specs.Limits.{item_room, cell_room}
 use Rattle.gb_domain.specs.Summaries.{SummaryParts}
 use Rattle.gb_domain.specs.Types.{AbsState, ProcedureParts, Node}
@@ -182,9 +183,17 @@ has_many_items rules s = nat_lt (item_room rules) (length s.items)
 abbrev pub has_many_cells : Rules → AbsState → Bool
 has_many_cells rules s = nat_lt (cell_room rules) (length s.cells)
 
--- more is known of several parts together than a test of A
-abbrev pub is_related : Rules → AbsState → Bool
-is_related rules s = not (may_be_known rules s.relations)
+-- Version 4 has a field for all that is known of several parts together.
+abbrev pub says_relations_by : Bool → Rules → Relations → Bool
+says_relations_by true rules r = true
+says_relations_by false rules r = may_be_known rules r
+
+abbrev pub says_relations : Version → Relations → Bool
+says_relations version r = says_relations_by (is_fourth version) (rules_in version) r
+
+-- more is known of several parts together than a test of A, in versions 1 and 2, or a link has a width, in version 3
+abbrev pub is_related : Version → AbsState → Bool
+is_related version s = not (says_relations version s.relations)
 
 -- a value is a copy of the return word's bytes, in versions 1 and 2, or in versions 1 to 3 of what a procedure declares, or has low bits
 -- that are known; or some of the controller's registers are kept there, and not all; or something is said there of the whole program
@@ -193,14 +202,14 @@ has_unsayable version s = not (says_state version s)
 
 -- one of them
 abbrev pub is_unspellable : Version → AbsState → Bool
-is_unspellable version s = is_half (rules_in version) s || (has_many_items (rules_in version) s || (has_many_cells (rules_in version) s || (is_related (rules_in version) s || has_unsayable version s)))
+is_unspellable version s = is_half (rules_in version) s || (has_many_items (rules_in version) s || (has_many_cells (rules_in version) s || (is_related version s || has_unsayable version s)))
 
 -- The state can't be said for the reason with this name.
 abbrev pub state_has : Version → WriteFault → AbsState → Bool
 state_has version fault.HalfWord s = is_half (rules_in version) s
 state_has version fault.Items s = has_many_items (rules_in version) s
 state_has version fault.Cells s = has_many_cells (rules_in version) s
-state_has version fault.Relations s = is_related (rules_in version) s
+state_has version fault.Relations s = is_related version s
 state_has version fault.Values s = has_unsayable version s
 state_has version _ s = false
 
@@ -263,13 +272,13 @@ IsNodeFault procedures nodes _ = ⊥
 
 -- A version can say these parts: bytes of stack are whole words in versions 1 and 2, where states also have no more than 16 words and
 -- 32 cells, know nothing of several parts together but a test of A, and have no copy of the return word, and where bases are the usual
--- ones. In versions 1 to 3 no low bits of values are known, nothing is said of the whole program, and of the controller all is kept or
--- nothing.
+-- ones. In versions 1 to 3 links have no width, no low bits of values are known, nothing is said of the whole program, and of the
+-- controller all is kept or nothing.
 pub record AreSpellable (plan : CertificatePlan) : Type 0 where
   pub words : have_half_words (rules_in plan.version) plan.procedures.now plan.nodes.now ≡ false
   pub items : have_states (has_many_items (rules_in plan.version)) plan.procedures.now plan.nodes.now ≡ false
   pub cells : have_states (has_many_cells (rules_in plan.version)) plan.procedures.now plan.nodes.now ≡ false
-  pub relations : have_states (is_related (rules_in plan.version)) plan.procedures.now plan.nodes.now ≡ false
+  pub relations : have_states (is_related plan.version) plan.procedures.now plan.nodes.now ≡ false
   pub values : have_states (has_unsayable plan.version) plan.procedures.now plan.nodes.now ≡ false
   pub bases : say_base (rules_in plan.version) plan.region plan.procedures.now ≡ false
 
@@ -292,7 +301,7 @@ IsWriteFault plan fault.Nodes = node_limit (number_of plan.version) < length pla
 IsWriteFault plan fault.HalfWord = have_half_words (rules_in plan.version) plan.procedures.now plan.nodes.now ≡ true
 IsWriteFault plan fault.Items = have_states (has_many_items (rules_in plan.version)) plan.procedures.now plan.nodes.now ≡ true
 IsWriteFault plan fault.Cells = have_states (has_many_cells (rules_in plan.version)) plan.procedures.now plan.nodes.now ≡ true
-IsWriteFault plan fault.Relations = have_states (is_related (rules_in plan.version)) plan.procedures.now plan.nodes.now ≡ true
+IsWriteFault plan fault.Relations = have_states (is_related plan.version) plan.procedures.now plan.nodes.now ≡ true
 IsWriteFault plan fault.Values = have_states (has_unsayable plan.version) plan.procedures.now plan.nodes.now ≡ true
 IsWriteFault plan fault.Base = say_base (rules_in plan.version) plan.region plan.procedures.now ≡ true
 IsWriteFault plan fault.Ranges = list_any is_wide plan.procedures.now ≡ true

@@ -5,13 +5,13 @@ ghost use Rattle.std.specs.List.{list_any, list_all};
 ghost use Rattle.gb_domain.specs.RelationRules.{is_a_alone, is_test_byte, is_known, are_unknown, is_test_alone};
 ghost use Rattle.gb_states.specs.Below.gb_fields.Rules.{usual_base, is_whole};
 ghost use Rattle.gb_states.specs.Below.gb_fields.Limits.{kept_limit};
-ghost use Rattle.gb_states.specs.Rules.{is_declared_origin, may_be_of, is_sayable, is_all_or_none, may_be_known};
+ghost use Rattle.gb_states.specs.Rules.{is_declared_origin, may_be_of, is_sayable, is_all_or_none, is_exact, are_exact, may_be_known};
 ghost use Rattle.gb_states.specs.WholeRules.{is_origin_in};
-ghost use Rattle.gb_cert.specs.Written.{exit_of, is_odd, is_half, has_many_items, has_many_cells, is_related, has_unsayable, is_unspellable, state_has, exit_has, returns_with, stands_with, has_half_need, says_base, say_base, rules_in, is_fourth, is_tagged, says, says_registers, says_kept_by, says_core, says_cell, says_summary_by, says_state, AreSpellable, IsWriteFault};
+ghost use Rattle.gb_cert.specs.Written.{exit_of, is_odd, is_half, has_many_items, has_many_cells, says_relations, is_related, has_unsayable, is_unspellable, state_has, exit_has, returns_with, stands_with, has_half_need, says_base, say_base, rules_in, is_fourth, is_tagged, says, says_registers, says_kept_by, says_core, says_cell, says_summary_by, says_state, AreSpellable, IsWriteFault};
 
 use crate::told::is_known;
 use crate::writer::{CertificatePlan, NodePlan, ProcedurePlan, Version, WriteFault};
-use gb_domain::pairs::Pairs;
+use gb_domain::pairs::{Link, Pairs};
 use gb_domain::places::{OneByte, Test, has_place};
 use gb_domain::relations::Relations;
 use gb_domain::summary::Summary;
@@ -58,13 +58,35 @@ fn is_test_alone(relations: &Relations) -> bool
     is_test_byte(&relations.byte) && relations.zero.is_none() && are_unknown(&relations.pairs)
 }
 
+/// Whether a link, if there is one, has no width.
+fn is_exact(link: Option<Link>) -> bool
+    ensures { result ≡ is_exact link }
+{
+    match link {
+        None => true,
+        Some(link) => link.width == 0,
+    }
+}
+
+fn are_exact(pairs: &Pairs) -> bool
+    ensures { result ≡ are_exact pairs.now }
+{
+    is_exact(pairs.bc.link) && is_exact(pairs.de.link) && is_exact(pairs.hl.link)
+}
+
 fn may_be_known(rules: Rules, relations: &Relations) -> bool
     ensures { result ≡ may_be_known rules relations.now }
 {
     match rules {
         Rules::Simple => is_test_alone(relations),
-        Rules::Extended => true,
+        Rules::Extended => are_exact(&relations.pairs),
     }
+}
+
+fn says_relations(version: Version, relations: &Relations) -> bool
+    ensures { result ≡ says_relations version relations.now }
+{
+    version.is_fourth() || may_be_known(version.rules(), relations)
 }
 
 // ---- values
@@ -224,7 +246,7 @@ fn check_state(version: Version, state: &Abs) -> Result<(), WriteFault>
     if state.cells().len() > rules.cell_room() {
         return Err(WriteFault::Cells);
     }
-    if !may_be_known(rules, state.relations()) {
+    if !says_relations(version, state.relations()) {
         return Err(WriteFault::Relations);
     }
     if !says_state(version, state) {

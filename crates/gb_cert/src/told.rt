@@ -163,16 +163,36 @@ fn other_number(other: Other) -> u8
     }
 }
 
-/// Adds what a link reads, its factor and its sum; 0 where there is none.
+/// Adds a width, where it is one.
+fn put_width(width: u16, out: &mut Vec<u8>) -> Result<(), AllocError>
+    ensures { OnOk result (out.new.items ≡ out.old.items ++ told.width width) }
+{
+    if width == 0 {
+        Ok(())
+    } else {
+        put(&word(width), out)
+    }
+}
+
+/// A link's form: what else it reads, and 128 more where it has a width.
+fn form_number(other: Other, width: u16) -> u8
+    ensures { result ≡ told.form_number other width }
+{
+    let number = 1 + other_number(other);
+    if width == 0 { number } else { 128 + number }
+}
+
+/// Adds a link's form, its factor, its sum and its width; 0 where there is none.
 fn put_link(link: Option<Link>, out: &mut Vec<u8>) -> Result<(), AllocError>
     ensures { OnOk result (out.new.items ≡ out.old.items ++ told.link link) }
 {
     match link {
         None => put(&[0], out),
         Some(link) => {
-            let other = 1 + other_number(link.other);
-            put(&[other, (link.factor % 256) as u8], out)?;
-            put(&word(link.sum), out)
+            let form = form_number(link.other, link.width);
+            put(&[form, (link.factor % 256) as u8], out)?;
+            put(&word(link.sum), out)?;
+            put_width(link.width, out)
         }
     }
 }

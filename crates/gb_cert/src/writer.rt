@@ -90,7 +90,8 @@ pub enum WriteFault {
     Items,
     /// A state has more than 32 cells, in version 1 or 2.
     Cells,
-    /// A state knows more of several parts together than a test of A, in version 1 or 2.
+    /// A state knows more of several parts together than the version can say: than a test of A, in version 1 or 2, or a link with a
+    /// width, in version 3.
     Relations,
     /// A state says what the version can't: in version 1 or 2 that a value is a copy of the return word's high or low byte; in versions
     /// 1 to 3 that it is a copy of what its procedure declares, low bits of a value, that some of the controller's registers are kept

@@ -20,7 +20,7 @@ use Rattle.gb_fields.specs.Rules.{usual_base}
 use Rattle.gb_fields.specs.Format.{Read, byte}
 use Rattle.gb_states.specs.Rules.{role_of}
 use Rattle.gb_fields.specs.Reading.{word, quad, node_number_by, node_number, byte_between, word_between, count_within, yes_no, returns_at, entry_at, nothing, base_at, times, need_at, key_at, magic_at, region_at, node_count_at}
-use Rattle.gb_states.specs.RelationReading.{defaulted, present_at, registers_at, address_at, item_at, is_somewhere, place_by, memory_at, no_items, byte_at, pair_at, bounds_at, other_at, factor_at, link_of, link_at, facts_at, pairs_at, relations_at, relations_by}
+use Rattle.gb_states.specs.RelationReading.{defaulted, present_at, registers_at, address_at, item_at, is_somewhere, place_by, memory_at, no_items, byte_at, pair_at, bounds_at, form_at, factor_at, width_at, link_of, link_at, facts_at, pairs_at, relations_at, relations_by}
 use Rattle.gb_states.specs.Reading.{origin_at, val_at, may_at, ime_at, test_at, flg_at, ctl_at, vals_at, core_at, item_count_at, items_at, cell_at, cells_at, state_at, range_at, ranges_at, exit_at, needed_at, body_at, procedure_at, node_at}
 use Rattle.gb_states.proofs.Formats.{same_pair}
 use Rattle.gb_cert_place.proofs.Locality.{IsLocal, IsLocal-byte, IsLocal-both, IsLocal-followed, IsLocal-mapped, IsLocal-checked, IsLocal-optional, IsLocal-several, IsLocal-counted}
@@ -143,35 +143,39 @@ pub IsLocal-bounds : IsLocal bounds_at
 unfolding bounds_at
 IsLocal-bounds = IsLocal-mapped _ _ (IsLocal-checked _ _ _ (IsLocal-both _ _ IsLocal-word IsLocal-word))
 
-IsLocal-other : IsLocal other_at
-unfolding other_at
-IsLocal-other = IsLocal-mapped _ _ (IsLocal-byte_between 0 10)
+IsLocal-form : (wide : Bool) → IsLocal (form_at wide)
+unfolding form_at
+IsLocal-form wide = IsLocal-mapped _ _ (IsLocal-checked _ _ _ IsLocal-byte)
 
-IsLocal-link_of : (o : Option Other) → IsLocal (link_of o)
+IsLocal-width : (there : Bool) → IsLocal (defaulted 0 there width_at)
+unfolding width_at
+IsLocal-width there = IsLocal-defaulted 0 there _ (IsLocal-word_between 1 65535)
+
+IsLocal-link_of : (o : Option Other) (there : Bool) → IsLocal (link_of o there)
 unfolding factor_at
-IsLocal-link_of None = IsLocal-nothing None
-IsLocal-link_of (Some o) = IsLocal-mapped _ _ (IsLocal-both _ _ (IsLocal-mapped _ _ (IsLocal-byte_between 1 255)) IsLocal-word)
+IsLocal-link_of None there = IsLocal-nothing None
+IsLocal-link_of (Some o) there = IsLocal-mapped _ _ (IsLocal-both _ _ (IsLocal-mapped _ _ (IsLocal-byte_between 1 255)) (IsLocal-both _ _ IsLocal-word (IsLocal-width there)))
 
-IsLocal-link : IsLocal link_at
+IsLocal-link : (wide : Bool) → IsLocal (link_at wide)
 unfolding link_at
-IsLocal-link = IsLocal-mapped _ _ (IsLocal-followed _ _ IsLocal-other IsLocal-link_of)
+IsLocal-link wide = IsLocal-mapped _ _ (IsLocal-followed _ _ (IsLocal-form wide) (λ f. IsLocal-link_of f.0 f.1))
 
-IsLocal-facts : IsLocal facts_at
+IsLocal-facts : (wide : Bool) → IsLocal (facts_at wide)
 unfolding facts_at
-IsLocal-facts = IsLocal-checked _ _ _ (IsLocal-mapped _ _ (IsLocal-both _ _ IsLocal-bounds IsLocal-link))
+IsLocal-facts wide = IsLocal-checked _ _ _ (IsLocal-mapped _ _ (IsLocal-both _ _ IsLocal-bounds (IsLocal-link wide)))
 
-pub IsLocal-known : (there : Bool) → IsLocal (defaulted nothing_known there facts_at)
-IsLocal-known there = IsLocal-defaulted nothing_known there facts_at IsLocal-facts
+pub IsLocal-known : (wide there : Bool) → IsLocal (defaulted nothing_known there (facts_at wide))
+IsLocal-known wide there = IsLocal-defaulted nothing_known there (facts_at wide) (IsLocal-facts wide)
 
-pub IsLocal-pairs : (p : Present) → IsLocal (pairs_at p)
+pub IsLocal-pairs : (wide : Bool) (p : Present) → IsLocal (pairs_at wide p)
 unfolding pairs_at
-IsLocal-pairs p = IsLocal-mapped _ _ (IsLocal-both _ _ (IsLocal-known p.bc) (IsLocal-both _ _ (IsLocal-known p.de) (IsLocal-known p.hl)))
+IsLocal-pairs wide p = IsLocal-mapped _ _ (IsLocal-both _ _ (IsLocal-known wide p.bc) (IsLocal-both _ _ (IsLocal-known wide p.de) (IsLocal-known wide p.hl)))
 
 pub IsLocal-relations : (region : Region) (test : Option ℕ) → IsLocal (relations_at region test)
 unfolding relations_at
 IsLocal-relations region test =
     IsLocal-mapped _ _ (IsLocal-followed _ _ (IsLocal-present test)
-    (λ p. IsLocal-both _ _ (IsLocal-defaulted no_byte p.byte _ (IsLocal-one_byte (no_items region) test (place_by false p.address) p.bits)) (IsLocal-both _ _ (IsLocal-optional p.zero _ IsLocal-pair) (IsLocal-pairs p))))
+    (λ p. IsLocal-both _ _ (IsLocal-defaulted no_byte p.byte _ (IsLocal-one_byte (no_items region) test (place_by false p.address) p.bits)) (IsLocal-both _ _ (IsLocal-optional p.zero _ IsLocal-pair) (IsLocal-pairs false p))))
 
 pub IsLocal-relations_by : (rules : Rules) (region : Region) (test : Option ℕ) → IsLocal (relations_by rules region test)
 IsLocal-relations_by Simple region test = IsLocal-nothing (test_alone test)

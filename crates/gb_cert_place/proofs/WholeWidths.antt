@@ -25,7 +25,7 @@ use Rattle.gb_states.proofs.Formats.{went_on, same_pair}
 use Rattle.gb_cert_place.specs.Forms.{core_by}
 use Rattle.gb_cert_place.specs.Layout.{procedure_width, procedure_width_by}
 use Rattle.gb_cert_place.proofs.Locality.{failed, same_fault, passed}
-use Rattle.gb_cert_place.proofs.Widths.{IsWithin, IsWithin-more, cut_then, IsWithin-byte, IsWithin-followed, IsWithin-both, IsWithin-mapped, IsWithin-checked, IsWithin-word, IsWithin-byte_between, IsWithin-word_between, IsWithin-count_within, IsWithin-yes_no, IsWithin-val, IsWithin-may, IsWithin-ime, IsWithin-test, IsWithin-flg, IsWithin-nothing, IsWithin-defaulted, IsWithin-optional, IsWithin-present, IsWithin-one_byte, IsWithin-known, IsWithin-core, IsWithin-cell}
+use Rattle.gb_cert_place.proofs.Widths.{IsWithin, IsWithin-more, cut_then, IsWithin-byte, IsWithin-followed, IsWithin-both, IsWithin-mapped, IsWithin-checked, IsWithin-word, IsWithin-byte_between, IsWithin-word_between, IsWithin-count_within, IsWithin-yes_no, IsWithin-val, IsWithin-may, IsWithin-ime, IsWithin-test, IsWithin-flg, IsWithin-nothing, IsWithin-defaulted, IsWithin-optional, IsWithin-present, IsWithin-one_byte, IsWithin-parts, IsWithin-core, IsWithin-cell}
 
 -- ---- so many, at most
 
@@ -189,18 +189,11 @@ IsWithin-summary facts region d =
     (IsWithin-both _ _ 75 4 (IsWithin-defaulted no_levels d.levels _ 75 (IsWithin-levels facts region))
     (IsWithin-optional d.aside _ 4 (IsWithin-mapped _ _ 4 (IsWithin-checked _ _ _ 4 (λ h. cc) (IsWithin-both _ _ 2 2 IsWithin-word IsWithin-word))))))
 
-IsWithin-relation_parts : (k : StackBytes) (test : Option ℕ) (place : InMemory) (p : Present) → IsWithin (parts_at k test place p) 29
-unfolding pair_at pairs_at
-IsWithin-relation_parts k test place p =
-    IsWithin-both _ _ 4 25 (IsWithin-defaulted no_byte p.byte _ 4 (IsWithin-one_byte k test place p.bits))
-    (IsWithin-both _ _ 1 24 (IsWithin-optional p.zero _ 1 (IsWithin-mapped _ _ 1 (IsWithin-byte_between 0 2)))
-    (IsWithin-mapped _ _ 24 (IsWithin-both _ _ 8 16 (IsWithin-known p.bc) (IsWithin-both _ _ 8 8 (IsWithin-known p.de) (IsWithin-known p.hl)))))
-
-pub IsWithin-told : (facts : ℕ) (k : StackBytes) (may_be_aside : Bool) (test : Option ℕ) → IsWithin (told_at facts k may_be_aside test) 116
+pub IsWithin-told : (facts : ℕ) (k : StackBytes) (may_be_aside : Bool) (test : Option ℕ) → IsWithin (told_at facts k may_be_aside test) 122
 unfolding told_at
 IsWithin-told facts k may_be_aside test =
-    IsWithin-mapped _ _ 116 (IsWithin-followed _ _ 2 114 (IsWithin-followed _ _ 1 1 (IsWithin-present test) (λ p. IsWithin-declared may_be_aside (may_be_item k p)))
-    (λ d. IsWithin-both _ _ 29 85 (IsWithin-relation_parts k test (place_of d) d.0) (IsWithin-summary facts k.region d.1)))
+    IsWithin-mapped _ _ 122 (IsWithin-followed _ _ 2 120 (IsWithin-followed _ _ 1 1 (IsWithin-present test) (λ p. IsWithin-declared may_be_aside (may_be_item k p)))
+    (λ d. IsWithin-both _ _ 35 85 (IsWithin-parts true k test (place_of d) d.0) (IsWithin-summary facts k.region d.1)))
 
 -- ---- blocks
 

@@ -1,9 +1,11 @@
 -- How many bytes a reader takes and needs at most.
-use Rattle.std.proofs.Common.{◌≡◌, ℕ, ◌+◌, ◌≤◌, ◌==◌, Bool, true, false, List, [], ◌∷◌, length, slice_index_or, Option, Some, None, Result, Ok, Err, refl, ◌∙◌, ap, arith}
+use Rattle.std.proofs.Common.{◌≡◌, ℕ, ◌+◌, ◌≤◌, ◌==◌, nat_le, Bool, true, false, List, [], ◌∷◌, length, slice_index_or, Option, Some, None, Result, Ok, Err, refl, sym, ◌∙◌, ap, subst, arith}
+use Rattle.std.proofs.lemmas.Bool.Decides.{nat_tests}
 use Rattle.gb_ops.specs.declared.machine.Region.{Region}
 use Rattle.gb_fields.specs.declared.fault.CertFault.{CertFault}
 use Rattle.gb_fields.specs.declared.fault.CertFault.TheVariants as fault
 use Rattle.gb_states.specs.declared.relations.InMemory.TheVariants.{Nowhere, Address, Item}
+use Rattle.gb_states.specs.declared.relations.Present.{Present}
 use Rattle.gb_states.specs.declared.relations.InMemory.{InMemory}
 use Rattle.gb_states.specs.declared.role.Role.{Role}
 use Rattle.gb_domain.specs.declared.places.StackBytes.{StackBytes}
@@ -17,7 +19,7 @@ use Rattle.gb_fields.specs.Rules.{is_any_version_of, any_rules_of}
 use Rattle.gb_fields.specs.Format.{Read, go_on, followed, both, mapped, if_passes, checked, optional, byte}
 use Rattle.gb_fields.specs.Reading.{word, quad, node_number_by, node_number, byte_between, word_between, count_within, yes_no, returns_at, entry_at, nothing, base_at, need_at, region_at, node_count_at, Letters, is_magic, kind_of, magic_at, any_version_at, procedure_count_by, procedure_count_at, to_head, any_head_at}
 use Rattle.gb_states.specs.Reading.{origin_at, val_at, may_at, ime_at, test_at, flg_at, ctl_at, vals_at, core_at, item_count_at, cell_at, range_at}
-use Rattle.gb_states.specs.RelationReading.{defaulted, present_at, registers_at, address_at, item_at, place_by, memory_at, no_items, byte_at, pair_at, bounds_at, other_at, factor_at, link_of, link_at, facts_at, pairs_at, relations_at}
+use Rattle.gb_states.specs.RelationReading.{defaulted, present_at, registers_at, address_at, item_at, place_by, memory_at, no_items, byte_at, pair_at, bounds_at, is_form, to_form, form_at, factor_at, width_at, link_of, link_at, facts_at, pairs_at, parts_at, relations_at}
 use Rattle.gb_states.proofs.Formats.{went_on, same_pair}
 use Rattle.gb_cert_place.specs.Layout.{number_width, number_width_by, procedure_width, procedure_width_by}
 use Rattle.gb_cert_place.proofs.Locality.{failed, same_fault}
@@ -63,17 +65,22 @@ cut_then {X} {Y} r t n m a bytes b le h = first (r bytes) refl h
         let few : n ≤ length bytes = omega arith in
         a.decides bytes few (g ∙ ap (λ f. failed {A = X × List ℕ} f) s)
 
-pub IsWithin-followed : {X Y : Type 0} (r : Read X) (t : X → Read Y) (n m : ℕ) → IsWithin r n → ((x : X) → IsWithin (t x) m) → IsWithin (followed r t) (n + m)
-IsWithin-followed {X} {Y} r t n m a b = record {
+-- A second field's length may depend on what the first one can be.
+pub IsWithin-followed_where : {X Y : Type 0} (r : Read X) (t : X → Read Y) (n m : ℕ) (good : X → Type 0) → ((bytes : List ℕ) (x : X) (rest : List ℕ) → r bytes ≡ Ok (x, rest) → good x)
+    → IsWithin r n → ((x : X) → good x → IsWithin (t x) m) → IsWithin (followed r t) (n + m)
+IsWithin-followed_where {X} {Y} r t n m good is_good a b = record {
   takes = λ bytes p rest e.
       let c = went_on (r bytes) (λ x rest. go_on (t x rest) (λ y end. Ok ((x, y), end))) (p, rest) e in
       let d = went_on (t c.0 c.1) (λ y end. Ok ((c.0, y), end)) (p, rest) c.3 in
       let l : length bytes ≤ n + length c.1 = a.takes bytes c.0 c.1 c.2 in
-      let k : length c.1 ≤ m + length d.1 = (b c.0).takes c.1 d.0 d.1 d.2 in
+      let k : length c.1 ≤ m + length d.1 = (b c.0 (is_good bytes c.0 c.1 c.2)).takes c.1 d.0 d.1 d.2 in
       let s : length d.1 ≡ length rest = ap length (same_pair (c.0, d.0) p d.1 rest d.3).1 in
       omega arith;
-  decides = λ bytes le h. cut_then r t n m a bytes (λ x rest g few k. (b x).decides rest few k) le h;
+  decides = λ bytes le h. cut_then r t n m a bytes (λ x rest g few k. (b x (is_good bytes x rest g)).decides rest few k) le h;
 }
+
+pub IsWithin-followed : {X Y : Type 0} (r : Read X) (t : X → Read Y) (n m : ℕ) → IsWithin r n → ((x : X) → IsWithin (t x) m) → IsWithin (followed r t) (n + m)
+IsWithin-followed r t n m a b = IsWithin-followed_where r t n m (λ x. Unit {0}) (λ bytes x rest e. tt) a (λ x h. b x)
 
 pub IsWithin-both : {X Y : Type 0} (r : Read X) (t : Read Y) (n m : ℕ) → IsWithin r n → IsWithin t m → IsWithin (both r t) (n + m)
 IsWithin-both r t n m a b = IsWithin-followed r (λ x. t) n m a (λ x. b)
@@ -227,27 +234,89 @@ IsWithin-one_byte k test place bits =
     IsWithin-mapped _ _ 4 (IsWithin-both _ _ 1 3 (IsWithin-checked _ _ _ 1 (λ h. cc) (IsWithin-mapped _ _ 1 (IsWithin-byte_between 0 127)))
     (IsWithin-both _ _ 2 1 (IsWithin-memory k place) (IsWithin-optional bits _ 1 IsWithin-byte)))
 
-IsWithin-link_of : (o : Option Other) → IsWithin (link_of o) 3
+-- the most bytes of a width behind a form that has one or not
+abbrev width_room : Bool → ℕ
+width_room true = 2
+width_room false = 0
+
+IsWithin-width : (there : Bool) → IsWithin (defaulted 0 there width_at) (width_room there)
+unfolding width_at
+IsWithin-width true = IsWithin-word_between 1 65535
+IsWithin-width false = IsWithin-nothing 0 0
+
+IsWithin-link_of : (o : Option Other) (there : Bool) → IsWithin (link_of o there) (1 + (2 + width_room there))
 unfolding factor_at
-IsWithin-link_of None = IsWithin-nothing None 3
-IsWithin-link_of (Some o) = IsWithin-mapped _ _ 3 (IsWithin-both _ _ 1 2 (IsWithin-mapped _ _ 1 (IsWithin-byte_between 1 255)) IsWithin-word)
+IsWithin-link_of None there = IsWithin-nothing None (1 + (2 + width_room there))
+IsWithin-link_of (Some o) there =
+    IsWithin-mapped _ _ (1 + (2 + width_room there)) (IsWithin-both _ _ 1 (2 + width_room there) (IsWithin-mapped _ _ 1 (IsWithin-byte_between 1 255)) (IsWithin-both _ _ 2 (width_room there) IsWithin-word (IsWithin-width there)))
 
-pub IsWithin-facts : IsWithin facts_at 8
-unfolding facts_at bounds_at link_at other_at
-IsWithin-facts =
-    IsWithin-checked _ _ _ 8 (λ h. cc) (IsWithin-mapped _ _ 8 (IsWithin-both _ _ 4 4 (IsWithin-mapped _ _ 4 (IsWithin-checked _ _ _ 4 (λ h. cc) (IsWithin-both _ _ 2 2 IsWithin-word IsWithin-word)))
-    (IsWithin-mapped _ _ 4 (IsWithin-followed _ _ 1 3 (IsWithin-mapped _ _ 1 (IsWithin-byte_between 0 10)) IsWithin-link_of))))
+IsWithin-form : (wide : Bool) → IsWithin (form_at wide) 1
+unfolding form_at
+IsWithin-form wide = IsWithin-mapped _ _ 1 (IsWithin-checked _ _ byte 1 (λ h. cc) IsWithin-byte)
 
-pub IsWithin-known : (there : Bool) → IsWithin (defaulted nothing_known there facts_at) 8
-IsWithin-known there = IsWithin-defaulted nothing_known there facts_at 8 IsWithin-facts
+-- Where links have no width, no form has one.
+no_width : (bytes : List ℕ) (f : Option Other × Bool) (rest : List ℕ) → form_at false bytes ≡ Ok (f, rest) → f.1 ≡ false
+unfolding form_at
+no_width bytes f rest e =
+    let c = went_on (checked fault.Field (is_form false) byte bytes) (λ n end. Ok (to_form n, end)) (f, rest) e in
+    let d = went_on (byte bytes) (λ n end. if_passes fault.Field (is_form false n) n end) (c.0, c.1) c.2 in
+    let n : d.0 ≡ c.0 = (passes fault.Field (is_form false d.0) d.0 c.0 d.1 c.1 d.3).0 in
+    sym (ap (λ (g : Option Other × Bool). g.1) (same_pair (to_form c.0) f c.1 rest c.3).0) ∙ low c.0 (subst (λ k. is_form false k ≡ true) n (passed (is_form false d.0) d.0 c.0 d.1 c.1 d.3))
+  where
+    passed : (b : Bool) (x y : ℕ) (rest end : List ℕ) → if_passes fault.Field b x rest ≡ Ok (y, end) → b ≡ true
+    passed true x y rest end h = refl
+    passed false x y rest end h = cc
+
+    low : (n : ℕ) → is_form false n ≡ true → nat_le 128 n ≡ false
+    low n h = grind (arith, nat_tests)
+
+-- by whether links may have a width: the most bytes of a link, of what is known of a pair, and of all that is known together
+abbrev link_room : Bool → ℕ
+link_room true = 6
+link_room false = 4
+
+abbrev facts_room : Bool → ℕ
+facts_room true = 10
+facts_room false = 8
+
+abbrev pub parts_room : Bool → ℕ
+parts_room true = 35
+parts_room false = 29
+
+IsWithin-link : (wide : Bool) → IsWithin (link_at wide) (link_room wide)
+unfolding link_at
+IsWithin-link true = IsWithin-mapped _ _ 6 (IsWithin-followed _ _ 1 5 (IsWithin-form true) (λ f. by f.0 f.1))
+  where
+    by : (o : Option Other) (there : Bool) → IsWithin (link_of o there) 5
+    by o true = IsWithin-link_of o true
+    by o false = IsWithin-more _ 3 5 (omega arith) (IsWithin-link_of o false)
+IsWithin-link false =
+    IsWithin-mapped _ _ 4 (IsWithin-followed_where _ _ 1 3 (λ f. f.1 ≡ false) no_width (IsWithin-form false) (λ f h. subst (λ there. IsWithin (link_of f.0 there) 3) (sym h) (IsWithin-link_of f.0 false)))
+
+facts_by : (wide : Bool) (n : ℕ) → IsWithin (link_at wide) n → IsWithin (facts_at wide) (4 + n)
+unfolding facts_at bounds_at
+facts_by wide n a =
+    IsWithin-checked _ _ _ (4 + n) (λ h. cc) (IsWithin-mapped _ _ (4 + n) (IsWithin-both _ _ 4 n (IsWithin-mapped _ _ 4 (IsWithin-checked _ _ _ 4 (λ h. cc) (IsWithin-both _ _ 2 2 IsWithin-word IsWithin-word))) a))
+
+pub IsWithin-facts : (wide : Bool) → IsWithin (facts_at wide) (facts_room wide)
+IsWithin-facts true = facts_by true 6 (IsWithin-link true)
+IsWithin-facts false = facts_by false 4 (IsWithin-link false)
+
+parts_by : (wide : Bool) (k : StackBytes) (test : Option ℕ) (place : InMemory) (p : Present) (n : ℕ) → IsWithin (facts_at wide) n → IsWithin (parts_at wide k test place p) (4 + (1 + (n + (n + n))))
+unfolding pairs_at pair_at
+parts_by wide k test place p n a =
+    let known : (there : Bool) → IsWithin (defaulted nothing_known there (facts_at wide)) n = λ there. IsWithin-defaulted nothing_known there (facts_at wide) n a in
+    IsWithin-both _ _ 4 (1 + (n + (n + n))) (IsWithin-defaulted no_byte p.byte _ 4 (IsWithin-one_byte k test place p.bits))
+    (IsWithin-both _ _ 1 (n + (n + n)) (IsWithin-optional p.zero _ 1 (IsWithin-mapped _ _ 1 (IsWithin-byte_between 0 2)))
+    (IsWithin-mapped _ _ (n + (n + n)) (IsWithin-both _ _ n (n + n) (known p.bc) (IsWithin-both _ _ n n (known p.de) (known p.hl)))))
+
+pub IsWithin-parts : (wide : Bool) (k : StackBytes) (test : Option ℕ) (place : InMemory) (p : Present) → IsWithin (parts_at wide k test place p) (parts_room wide)
+IsWithin-parts true k test place p = parts_by true k test place p 10 (IsWithin-facts true)
+IsWithin-parts false k test place p = parts_by false k test place p 8 (IsWithin-facts false)
 
 pub IsWithin-relations : (region : Region) (test : Option ℕ) → IsWithin (relations_at region test) 30
-unfolding relations_at pairs_at pair_at
-IsWithin-relations region test =
-    IsWithin-mapped _ _ 30 (IsWithin-followed _ _ 1 29 (IsWithin-present test)
-    (λ p. IsWithin-both _ _ 4 25 (IsWithin-defaulted no_byte p.byte _ 4 (IsWithin-one_byte (no_items region) test (place_by false p.address) p.bits))
-    (IsWithin-both _ _ 1 24 (IsWithin-optional p.zero _ 1 (IsWithin-mapped _ _ 1 (IsWithin-byte_between 0 2)))
-    (IsWithin-mapped _ _ 24 (IsWithin-both _ _ 8 16 (IsWithin-known p.bc) (IsWithin-both _ _ 8 8 (IsWithin-known p.de) (IsWithin-known p.hl)))))))
+unfolding relations_at
+IsWithin-relations region test = IsWithin-mapped _ _ 30 (IsWithin-followed _ _ 1 29 (IsWithin-present test) (λ p. IsWithin-parts false (no_items region) test (place_by false p.address) p))
 
 -- ---- blocks
 

@@ -264,6 +264,7 @@ fn known_first() -> Relations {
                     other: Other::Register(Register::C),
                     factor: 0xFFFE,
                     sum: 0x1234,
+                    width: 0,
                 }),
             },
             ..Pairs::default()
@@ -290,6 +291,7 @@ fn known_second() -> Relations {
                     other: Other::Pair(WordPair::Hl),
                     factor: 1,
                     sum: 0xFFFF,
+                    width: 0,
                 }),
             },
             hl: PairFacts {

@@ -33,6 +33,8 @@ pub enum StateFact {
     Word(WordPair, u16, u16),
     /// A pair, and this factor times the other, are this sum.
     Link(WordPair, u16, Other, u16),
+    /// They are one of the words from this one on, as many more as the last number.
+    Wide(WordPair, u16, Other, u16, u16),
 }
 
 /// What some facts say.
@@ -98,7 +100,15 @@ impl KnownFact {
                 facts_of(pair, &mut relations.pairs).bounds = Bounds { first, last };
             }
             StateFact::Link(pair, factor, other, sum) => {
-                facts_of(pair, &mut relations.pairs).link = Some(Link { other, factor, sum });
+                self.learn(StateFact::Wide(pair, factor, other, sum, 0));
+            }
+            StateFact::Wide(pair, factor, other, sum, width) => {
+                facts_of(pair, &mut relations.pairs).link = Some(Link {
+                    other,
+                    factor,
+                    sum,
+                    width,
+                });
             }
         }
     }

@@ -119,9 +119,19 @@ fn fmt_test<W: fmt::Write>(test: Option<Test>, f: &mut fmt::Formatter<W>) -> fmt
 }
 
 fn fmt_link<W: fmt::Write>(pair: &str, link: Link, f: &mut fmt::Formatter<W>) -> fmt::Result {
-    let Link { other, factor, sum } = link;
+    let Link {
+        other,
+        factor,
+        sum,
+        width,
+    } = link;
     let other = other_name(other);
-    write!(f, "{pair} + ${factor:04X} * {other} = ${sum:04X}")
+    write!(f, "{pair} + ${factor:04X} * {other} = ${sum:04X}")?;
+    if width != 0 {
+        let last = sum.wrapping_add(width);
+        write!(f, " to ${last:04X}")?;
+    }
+    Ok(())
 }
 
 fn fmt_bounds<W: fmt::Write>(bounds: Bounds, f: &mut fmt::Formatter<W>) -> fmt::Result {

@@ -15,13 +15,14 @@ fn word_of(pair: WordPair, registers: &Registers<u8>) -> u16 {
     })
 }
 
-/// Whether a pair with this word and what its link reads have the link's sum.
+/// Whether a pair with this word and what its link reads have one of the link's sums.
 fn is_linked(word: u16, link: &Link, registers: &Registers<u8>) -> bool {
     let other = match link.other {
         Other::Register(register) => u16::from(registers.get(register)),
         Other::Pair(pair) => word_of(pair, registers),
     };
-    word.wrapping_add(link.factor.wrapping_mul(other)) == link.sum
+    let sum = word.wrapping_add(link.factor.wrapping_mul(other));
+    sum.wrapping_sub(link.sum) <= link.width
 }
 
 fn keeps_pair(pair: WordPair, facts: &PairFacts, registers: &Registers<u8>) -> bool {

@@ -15,7 +15,7 @@ pub fn are_same_links(a: &Link, b: &Link) -> bool {
         (Other::Pair(x), Other::Pair(y)) => are_same_pairs(x, y),
         _ => false,
     };
-    are_same_others && a.factor == b.factor && a.sum == b.sum
+    are_same_others && a.factor == b.factor && a.sum == b.sum && a.width == b.width
 }
 
 /// The value of a pair that has one alone.
@@ -89,6 +89,7 @@ fn link_by(
         other,
         factor,
         sum: sum_of(pair_before, factor, other_before),
+        width: 0,
     })
 }
 

@@ -14,11 +14,11 @@ use gb_ops::op::Register;
 use gb_ops::registers::Registers;
 
 /// The bytes of a node or a procedure.
-pub type Text = ArrayVec<u8, 1202>;
+pub type Text = ArrayVec<u8, 1208>;
 
 /// Adds bytes, for which there is room.
 pub fn push(bytes: &[u8], out: &mut Text)
-    requires { array_vec_len out.old + length bytes.now ≤ 1202 }
+    requires { array_vec_len out.old + length bytes.now ≤ 1208 }
     ensures text { out.new.items ≡ out.old.items ++ bytes.now }
     ensures long { array_vec_len out.new ≡ array_vec_len out.old + length bytes.now }
 {
@@ -88,7 +88,7 @@ fn registers_number(registers: &Registers<bool>) -> u8
 
 /// Adds an address, where there is one.
 fn push_address(address: Option<u16>, out: &mut Text)
-    requires { array_vec_len out.old ≤ 1200 }
+    requires { array_vec_len out.old ≤ 1206 }
     ensures text { out.new.items ≡ out.old.items ++ told.optional number.word address }
     ensures room { array_vec_len out.new ≤ array_vec_len out.old + 2 }
 {
@@ -99,7 +99,7 @@ fn push_address(address: Option<u16>, out: &mut Text)
 
 /// Adds bits, where there are some.
 fn push_bits(bits: Option<u8>, out: &mut Text)
-    requires { array_vec_len out.old ≤ 1201 }
+    requires { array_vec_len out.old ≤ 1207 }
     ensures text { out.new.items ≡ out.old.items ++ told.optional told.byte bits }
     ensures room { array_vec_len out.new ≤ array_vec_len out.old + 1 }
 {
@@ -111,7 +111,7 @@ fn push_bits(bits: Option<u8>, out: &mut Text)
 /// Adds the places that hold one byte.
 #[tactic(auto, unfolding(crate::specs::Opened::places_by))]
 fn push_places(byte: &OneByte, out: &mut Text)
-    requires { array_vec_len out.old ≤ 1198 }
+    requires { array_vec_len out.old ≤ 1204 }
     ensures text { out.new.items ≡ out.old.items ++ told.places_by (told.optional number.word byte.now.address) byte.now }
     ensures room { array_vec_len out.new ≤ array_vec_len out.old + 4 }
 {
@@ -122,7 +122,7 @@ fn push_places(byte: &OneByte, out: &mut Text)
 
 /// Adds them where there are some.
 fn push_byte(byte: &OneByte, out: &mut Text)
-    requires { array_vec_len out.old ≤ 1198 }
+    requires { array_vec_len out.old ≤ 1204 }
     ensures text { out.new.items ≡ out.old.items ++ told.where_there (has_place byte.now) (told.places_by (told.optional number.word byte.now.address) byte.now) }
     ensures room { array_vec_len out.new ≤ array_vec_len out.old + 4 }
 {
@@ -146,7 +146,7 @@ fn pair_number(pair: WordPair) -> u8
 
 /// Adds the pair that is 0 where Z is set, where there is one.
 fn push_zero(pair: Option<WordPair>, out: &mut Text)
-    requires { array_vec_len out.old ≤ 1201 }
+    requires { array_vec_len out.old ≤ 1207 }
     ensures text { out.new.items ≡ out.old.items ++ told.optional told.pair pair }
     ensures room { array_vec_len out.new ≤ array_vec_len out.old + 1 }
 {
@@ -171,27 +171,47 @@ fn other_number(other: Other) -> u8
     }
 }
 
-/// Adds what a link reads, its factor and its sum; 0 where there is none.
+/// Adds a width, where it is one.
+fn push_width(width: u16, out: &mut Text)
+    requires { array_vec_len out.old ≤ 1206 }
+    ensures text { out.new.items ≡ out.old.items ++ told.width width }
+    ensures room { array_vec_len out.new ≤ array_vec_len out.old + 2 }
+{
+    if width != 0 {
+        push(&word(width), out);
+    }
+}
+
+/// A link's form: what else it reads, and 128 more where it has a width.
+fn form_number(other: Other, width: u16) -> u8
+    ensures { result ≡ told.form_number other width }
+{
+    let number = 1 + other_number(other);
+    if width == 0 { number } else { 128 + number }
+}
+
+/// Adds a link's form, its factor, its sum and its width; 0 where there is none.
 fn push_link(link: Option<Link>, out: &mut Text)
-    requires { array_vec_len out.old ≤ 1198 }
+    requires { array_vec_len out.old ≤ 1202 }
     ensures text { out.new.items ≡ out.old.items ++ told.link link }
-    ensures room { array_vec_len out.new ≤ array_vec_len out.old + 4 }
+    ensures room { array_vec_len out.new ≤ array_vec_len out.old + 6 }
 {
     match link {
         None => push(&[0], out),
         Some(link) => {
             let sum = word(link.sum);
-            let other = 1 + other_number(link.other);
-            push(&[other, (link.factor % 256) as u8, sum[0], sum[1]], out);
+            let form = form_number(link.other, link.width);
+            push(&[form, (link.factor % 256) as u8, sum[0], sum[1]], out);
+            push_width(link.width, out);
         }
     }
 }
 
 #[tactic(auto, unfolding(crate::specs::Opened::facts))]
 fn push_facts(facts: &PairFacts, out: &mut Text)
-    requires { array_vec_len out.old ≤ 1194 }
+    requires { array_vec_len out.old ≤ 1198 }
     ensures text { out.new.items ≡ out.old.items ++ told.facts facts.now }
-    ensures room { array_vec_len out.new ≤ array_vec_len out.old + 8 }
+    ensures room { array_vec_len out.new ≤ array_vec_len out.old + 10 }
 {
     push(&word(facts.bounds.first), out);
     push(&word(facts.bounds.last), out);
@@ -200,9 +220,9 @@ fn push_facts(facts: &PairFacts, out: &mut Text)
 
 /// Adds what is known of a pair, where it is something.
 fn push_known(facts: &PairFacts, out: &mut Text)
-    requires { array_vec_len out.old ≤ 1194 }
+    requires { array_vec_len out.old ≤ 1198 }
     ensures text { out.new.items ≡ out.old.items ++ told.known_facts facts.now }
-    ensures room { array_vec_len out.new ≤ array_vec_len out.old + 8 }
+    ensures room { array_vec_len out.new ≤ array_vec_len out.old + 10 }
 {
     if is_known(facts) {
         push_facts(facts, out);
@@ -213,7 +233,7 @@ fn push_known(facts: &PairFacts, out: &mut Text)
 fn push_pairs(pairs: &Pairs, out: &mut Text)
     requires { array_vec_len out.old ≤ 1178 }
     ensures text { out.new.items ≡ out.old.items ++ told.pairs pairs.now }
-    ensures room { array_vec_len out.new ≤ array_vec_len out.old + 24 }
+    ensures room { array_vec_len out.new ≤ array_vec_len out.old + 30 }
 {
     push_known(&pairs.bc, out);
     push_known(&pairs.de, out);
@@ -226,7 +246,7 @@ fn push_pairs(pairs: &Pairs, out: &mut Text)
 fn push_parts(relations: &Relations, out: &mut Text)
     requires { array_vec_len out.old ≤ 1173 }
     ensures text { out.new.items ≡ out.old.items ++ told.parts relations.now }
-    ensures room { array_vec_len out.new ≤ array_vec_len out.old + 29 }
+    ensures room { array_vec_len out.new ≤ array_vec_len out.old + 35 }
 {
     push_byte(&relations.byte, out);
     push_zero(relations.zero, out);
@@ -237,7 +257,7 @@ fn push_parts(relations: &Relations, out: &mut Text)
 pub fn push_told(relations: &Relations, out: &mut Text)
     requires { array_vec_len out.old ≤ 1171 }
     ensures text { out.new.items ≡ out.old.items ++ told.present_number (told.present_in relations.now) ∷ 0 ∷ told.parts relations.now }
-    ensures room { array_vec_len out.new ≤ array_vec_len out.old + 31 }
+    ensures room { array_vec_len out.new ≤ array_vec_len out.old + 37 }
 {
     push(&[present_number(relations), 0], out);
     push_parts(relations, out);

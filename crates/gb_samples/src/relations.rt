@@ -61,7 +61,10 @@ fn is_read_same(one: Other, other: Other) -> bool {
 fn is_link_same(one: Option<Link>, other: Option<Link>) -> bool {
     match (one, other) {
         (Some(l), Some(m)) => {
-            is_read_same(l.other, m.other) && l.factor == m.factor && l.sum == m.sum
+            is_read_same(l.other, m.other)
+                && l.factor == m.factor
+                && l.sum == m.sum
+                && l.width == m.width
         }
         (None, None) => true,
         _ => false,

@@ -25,18 +25,18 @@ use Rattle.gb_domain.specs.Areas.{is_free_byte}
 use Rattle.gb_domain.specs.Pairs.{nothing_known, no_pairs, facts_of, is_factor, IsLink, IsPairFacts}
 use Rattle.gb_domain.specs.Places.{no_byte}
 use Rattle.gb_fields.specs.Format.{Read, both, followed, optional, byte}
-use Rattle.gb_fields.specs.Reading.{is_between, is_ordered, word, byte_between, nothing}
+use Rattle.gb_fields.specs.Reading.{is_between, is_ordered, word, byte_between, word_between, nothing}
 use Rattle.gb_states.specs.declared.relations.Present.{Present}
 use Rattle.gb_states.specs.declared.relations.InMemory.{InMemory}
 use Rattle.gb_states.specs.declared.relations.InMemory.TheVariants.{Nowhere, Address, Item}
 use Rattle.gb_domain.specs.RelationRules.{is_some_register, has_place, operand, compared, bits_of, IsOneByte, is_known, IsRelations, test_byte, test_alone, is_a_alone, is_test_byte, are_unknown, is_test_alone}
-use Rattle.gb_states.specs.Rules.{may_be_known}
-use Rattle.gb_states.specs.RelationReading.{defaulted, to_present, is_present, present_at, to_registers, have_place, registers_at, is_somewhere, place_by, memory_at, test_of, to_byte, byte_at, pair_of, pair_at, to_bounds, bounds_at, other_of, other_at, to_factor, factor_at, to_link, link_of, link_at, to_facts, facts_at, to_pairs, pairs_at, to_relations, parts_at, no_items, relations_at, relations_by}
+use Rattle.gb_states.specs.Rules.{is_exact, are_exact, may_be_known}
+use Rattle.gb_states.specs.RelationReading.{defaulted, to_present, is_present, present_at, to_registers, have_place, registers_at, is_somewhere, place_by, memory_at, test_of, to_byte, byte_at, pair_of, pair_at, to_bounds, bounds_at, other_of, is_form, to_form, form_at, to_factor, factor_at, width_at, to_link, link_of, link_at, to_facts, facts_at, to_pairs, pairs_at, to_relations, parts_at, no_items, relations_at, relations_by}
 use Rattle.gb_states.specs.Spelling as spelled
 use Rattle.gb_states.specs.RelationSpelling as told
 use Rattle.gb_states.specs.WholeSpelling.{is_address, memory}
 use Rattle.gb_states.proofs.Formats.{IsFormat, IsFormat-byte, IsFormat-nothing, IsFormat-both, IsFormat-followed, IsFormat-checked, IsFormat-onto, IsFormat-mapped, IsFormat-as, IsFormat-spelled}
-use Rattle.gb_states.proofs.FieldLaws.{le_is, is_le, and_both, is_within, all_below, below, same, flag_small, one-flag, spelled_byte, IsFormat-word, IsFormat-byte_between}
+use Rattle.gb_states.proofs.FieldLaws.{le_is, is_le, and_both, both_and, is_within, all_below, below, same, flag_small, one-flag, spelled_byte, IsFormat-word, IsFormat-byte_between, IsFormat-word_between}
 use Rattle.gb_states.proofs.PlaceLaws.{IsFormat-option, may_be_in, LiesIn, IsFormat-memory, memory-plain, somewhere, free-there, there-free}
 
 -- ---- what may be there
@@ -348,37 +348,106 @@ other-number (Some (Pair Bc)) = refl
 other-number (Some (Pair De)) = refl
 other-number (Some (Pair Hl)) = refl
 
-abbrev IsOtherNumber : ℕ → Type 0
-IsOtherNumber n = (n < 256) × (is_between 0 10 n ≡ true)
+option-few : (o : Option Other) → option_number o ≤ 10
+option-few None = omega arith
+option-few (Some (Of A)) = omega arith
+option-few (Some (Of B)) = omega arith
+option-few (Some (Of C)) = omega arith
+option-few (Some (Of D)) = omega arith
+option-few (Some (Of E)) = omega arith
+option-few (Some (Of H)) = omega arith
+option-few (Some (Of L)) = omega arith
+option-few (Some (Pair Bc)) = omega arith
+option-few (Some (Pair De)) = omega arith
+option-few (Some (Pair Hl)) = omega arith
 
-number-other : (n : ℕ) → IsOtherNumber n → option_number (other_of n) ≡ n
+number-other : (n : ℕ) → n ≤ 10 → option_number (other_of n) ≡ n
 unfolding all_below
-number-other n h = same _ _ (below 11 (λ c. option_number (other_of c) == c) refl n (high n h.1))
+number-other n h = same _ _ (below 11 (λ c. option_number (other_of c) == c) refl n (omega (arith, h)))
+
+-- a number below 128, and 128 more or not
+pub split : (n : ℕ) (b : Bool) → n < 256 → nat_le 128 n ≡ b → 128 * spelled.flag b + n % 128 ≡ n
+split n true h e = let high : 128 ≤ n = le_is 128 n e in omega (arith, high)
+split n false h e = let low : n < 128 = grind (arith, nat_tests, e) in omega (arith, low)
+
+pub split-parts : (b : Bool) (r : ℕ) → r ≤ 127 → ((128 * spelled.flag b + r) % 128 ≡ r) × (nat_le 128 (128 * spelled.flag b + r) ≡ b)
+split-parts true r h = (omega arith, is_le 128 (128 + r) (omega arith))
+split-parts false r h = (omega arith, less (128 * spelled.flag false + r) (omega (arith, h)))
   where
-    high : (n : ℕ) → is_between 0 10 n ≡ true → n < 11
-    high n h = grind (arith, nat_tests)
+    less : (n : ℕ) → n ≤ 127 → nat_le 128 n ≡ false
+    less n h = grind (arith, nat_tests)
 
-other_fits : (o : Option Other) → IsOtherNumber (option_number o)
-other_fits None = (omega arith, refl)
-other_fits (Some (Of A)) = (omega arith, refl)
-other_fits (Some (Of B)) = (omega arith, refl)
-other_fits (Some (Of C)) = (omega arith, refl)
-other_fits (Some (Of D)) = (omega arith, refl)
-other_fits (Some (Of E)) = (omega arith, refl)
-other_fits (Some (Of H)) = (omega arith, refl)
-other_fits (Some (Of L)) = (omega arith, refl)
-other_fits (Some (Pair Bc)) = (omega arith, refl)
-other_fits (Some (Pair De)) = (omega arith, refl)
-other_fits (Some (Pair Hl)) = (omega arith, refl)
+-- ---- forms of links
 
-abbrev spelled_other : Option Other → List ℕ
-spelled_other o = told.byte (option_number o)
+abbrev Form : Type 0
+Form = Option Other × Bool
 
-IsFormat-other : IsFormat other_at spelled_other (λ o. Unit {0})
-unfolding other_at
-IsFormat-other =
-    IsFormat-as other_at spelled_other (λ o. IsOtherNumber (option_number o)) (λ o. Unit {0}) (λ o h. tt) (λ o h. other_fits o)
-    (IsFormat-mapped other_of option_number (byte_between 0 10) spelled_byte _ number-other (λ o h. other-number o) (IsFormat-byte_between 0 10))
+abbrev number_of_form : Form → ℕ
+number_of_form f = 128 * spelled.flag f.1 + option_number f.0
+
+abbrev IsForm : Bool → Form → Type 0
+IsForm wide f = is_form wide (number_of_form f) ≡ true
+
+form-below : (wide : Bool) (n : ℕ) → is_form wide n ≡ true → (n < 256) × (n % 128 ≤ 10)
+form-below wide n h = (small wide h, few wide h)
+  where
+    small : (wide : Bool) → is_form wide n ≡ true → n < 256
+    small true h = grind (arith, nat_tests)
+    small false h = grind (arith, nat_tests)
+
+    few : (wide : Bool) → is_form wide n ≡ true → n % 128 ≤ 10
+    few true h = grind (arith, nat_tests)
+    few false h = grind (arith, nat_tests)
+
+form-there : (wide : Bool) (n : ℕ) → (n < 256) × (is_form wide n ≡ true) → (number_of_form (to_form n) ≡ n) × IsForm wide (to_form n)
+form-there wide n h =
+    let e = ap (λ k. 128 * spelled.flag (nat_le 128 n) + k) (number-other (n % 128) (form-below wide n h.1).1) ∙ split n (nat_le 128 n) h.0 refl in
+    (e, ap (is_form wide) e ∙ h.1)
+
+form-same : (o p : Option Other) (b c : Bool) → o ≡ p → b ≡ c → (let f : Form = (o, b) in f) ≡ (p, c)
+form-same o p b c e g = rw (e, g) refl
+
+form-again : (wide : Bool) (f : Form) → IsForm wide f → ((number_of_form f < 256) × IsForm wide f) × (to_form (number_of_form f) ≡ f)
+form-again wide f h =
+    let few : option_number f.0 ≤ 10 = option-few f.0 in
+    let k = split-parts f.1 (option_number f.0) (omega (arith, few)) in
+    (((form-below wide (number_of_form f) h).0, h), form-same _ f.0 _ f.1 (ap other_of k.0 ∙ other-number f.0) k.1)
+
+abbrev spelled_form : Form → List ℕ
+spelled_form f = told.byte (number_of_form f)
+
+IsFormat-form : (wide : Bool) → IsFormat (form_at wide) spelled_form (IsForm wide)
+unfolding form_at
+IsFormat-form wide =
+    IsFormat-onto to_form number_of_form _ spelled_byte (λ n. (n < 256) × (is_form wide n ≡ true)) (IsForm wide) (form-there wide) (form-again wide)
+    (IsFormat-checked fault.Field (is_form wide) byte spelled_byte (λ n. n < 256) IsFormat-byte)
+
+-- A link may have a width, or it has one sum.
+abbrev pub MayBeWide : Bool → Option Link → Type 0
+MayBeWide wide l = (wide || is_exact l) ≡ true
+
+abbrev form_in : Option Link → Form
+form_in None = (None, false)
+form_in (Some l) = (Some l.other, told.has_width l.width)
+
+form-fits : (wide : Bool) (l : Option Link) → MayBeWide wide l → IsForm wide (form_in l)
+form-fits wide None h = refl
+form-fits wide (Some l) h = by wide (l.width == 0) (option_number (Some l.other)) (omega arith) (option-few (Some l.other)) h
+  where
+    by : (wide one : Bool) (n : ℕ) → 1 ≤ n → n ≤ 10 → (wide || one) ≡ true → is_form wide (128 * spelled.flag (not one) + n) ≡ true
+    by true true n some few h = grind (arith, nat_tests)
+    by true false n some few h = grind (arith, nat_tests)
+    by false true n some few h = grind (arith, nat_tests)
+    by false false n some few h = cc
+
+form-wide : (wide : Bool) (l : Option Link) → IsForm wide (form_in l) → MayBeWide wide l
+form-wide true l h = refl
+form-wide false None h = refl
+form-wide false (Some l) h = by (l.width == 0) (option_number (Some l.other)) h
+  where
+    by : (one : Bool) (n : ℕ) → is_form false (128 * spelled.flag (not one) + n) ≡ true → one ≡ true
+    by true n h = refl
+    by false n h = grind (arith, nat_tests)
 
 abbrev low_byte : ℕ → ℕ
 low_byte n = n % 256
@@ -408,26 +477,52 @@ IsFormat-factor : IsFormat factor_at spelled_factor (λ n. is_factor n ≡ true)
 unfolding factor_at
 IsFormat-factor = IsFormat-onto to_factor low_byte (byte_between 1 255) spelled_byte (λ n. (n < 256) × (is_between 1 255 n ≡ true)) (λ n. is_factor n ≡ true) factor-there factor-again (IsFormat-byte_between 1 255)
 
--- a link's factor and sum, and what else it reads
-abbrev from_link : Option Link → ℕ × ℕ
-from_link None = (0, 0)
-from_link (Some l) = (l.factor, l.sum)
+not-false : (b : Bool) → not b ≡ false → b ≡ true
+not-false true h = refl
+not-false false h = cc
 
-abbrev other_in : Option Link → Option Other
-other_in None = None
-other_in (Some l) = Some l.other
+-- a width that is spelled
+abbrev IsWidth : ℕ → Type 0
+IsWidth n = (n < 65536) × (is_between 1 65535 n ≡ true)
+
+width-shown : (n : ℕ) → IsWidth n → told.has_width n ≡ true
+width-shown n h = by n h.1
+  where
+    by : (n : ℕ) → is_between 1 65535 n ≡ true → told.has_width n ≡ true
+    by n h = grind (arith, nat_tests)
+
+IsFormat-width : (there : Bool) → IsFormat (defaulted 0 there width_at) told.width (IsWhere 0 IsWidth there)
+unfolding width_at
+IsFormat-width there = IsFormat-defaulted 0 told.has_width there (word_between 1 65535) spelled.word IsWidth refl width-shown (IsFormat-word_between 1 65535)
+
+-- a width is a word, and there as this says
+width-is : (there : Bool) (n : ℕ) → IsWhere 0 IsWidth there n → (told.has_width n ≡ there) × (n < 65536)
+width-is true n h = (width-shown n h, h.0)
+width-is false n h = (ap told.has_width h, omega (arith, h))
+
+is-width : (there : Bool) (n : ℕ) → told.has_width n ≡ there → n < 65536 → IsWhere 0 IsWidth there n
+is-width true n h small = (small, by n h small)
+  where
+    by : (n : ℕ) → told.has_width n ≡ true → n < 65536 → is_between 1 65535 n ≡ true
+    by n h small = grind (arith, nat_tests)
+is-width false n h small = same n 0 (not-false (n == 0) h)
+
+-- a link's factor, its sum and its width
+abbrev from_link : Option Link → ℕ × (ℕ × ℕ)
+from_link None = (0, (0, 0))
+from_link (Some l) = (l.factor, (l.sum, l.width))
 
 abbrev told_sum : Option Link → List ℕ
 told_sum None = []
-told_sum (Some l) = low_byte l.factor ∷ spelled.word l.sum
+told_sum (Some l) = low_byte l.factor ∷ (spelled.word l.sum ++ told.width l.width)
 
--- a link with this other, or none
-abbrev IsLinkOf : Option Other → Option Link → Type 0
-IsLinkOf o l = (other_in l ≡ o) × IfSome l IsLink
+-- a link of this form, or none
+abbrev IsLinkOf : Form → Option Link → Type 0
+IsLinkOf f l = (form_in l ≡ f) × IfSome l IsLink
 
-no-link : (l : Option Link) → IsLinkOf None l → l ≡ None
-no-link None h = refl
-no-link (Some l) h = absurd (apart l.other h.0)
+no-link : (b : Bool) (l : Option Link) → IsLinkOf (None, b) l → l ≡ None
+no-link b None h = refl
+no-link b (Some l) h = absurd (apart l.other (ap (λ (f : Form). f.0) h.0))
   where
     apart : (o : Other) → Some o ≡ None → ⊥
     apart o e = cc
@@ -435,60 +530,78 @@ no-link (Some l) h = absurd (apart l.other h.0)
 some-is : (x y : Other) → Some x ≡ Some y → x ≡ y
 some-is x y e = cc
 
-abbrev AreFactorSum : ℕ × ℕ → Type 0
-AreFactorSum p = (is_factor p.0 ≡ true) × (p.1 < 65536)
+abbrev AreFactorSum : Bool → ℕ × (ℕ × ℕ) → Type 0
+AreFactorSum there p = (is_factor p.0 ≡ true) × ((p.1.0 < 65536) × IsWhere 0 IsWidth there p.1.1)
 
-link-there : (other : Other) (p : ℕ × ℕ) → AreFactorSum p → (from_link (to_link other p) ≡ p) × IsLinkOf (Some other) (to_link other p)
-link-there other p h = (refl, (refl, record { factor = h.0; sum = h.1 }))
+link-there : (other : Other) (there : Bool) (p : ℕ × (ℕ × ℕ)) → AreFactorSum there p → (from_link (to_link other p) ≡ p) × IsLinkOf (Some other, there) (to_link other p)
+link-there other there p h =
+    let w = width-is there p.1.1 h.1.1 in
+    (refl, (form-same (Some other) (Some other) (told.has_width p.1.1) there refl w.0, record { factor = h.0; sum = h.1.0; width = w.1 }))
 
-link-again : (other : Other) (l : Option Link) → IsLinkOf (Some other) l → AreFactorSum (from_link l) × (to_link other (from_link l) ≡ l)
-link-again other None h = absurd cc
-link-again other (Some l) h = ((h.1.factor, h.1.sum), ap (λ o. to_link o (l.factor, l.sum)) (sym (some-is l.other other h.0)))
+link-again : (other : Other) (there : Bool) (l : Option Link) → IsLinkOf (Some other, there) l → AreFactorSum there (from_link l) × (to_link other (from_link l) ≡ l)
+link-again other there None h = absurd (apart other (ap (λ (f : Form). f.0) h.0))
+  where
+    apart : (o : Other) → None ≡ Some o → ⊥
+    apart o e = cc
+link-again other there (Some l) h = (
+  (h.1.factor, (h.1.sum, is-width there l.width (ap (λ (f : Form). f.1) h.0) h.1.width)),
+  ap (λ o. to_link o (l.factor, (l.sum, l.width))) (sym (some-is l.other other (ap (λ (f : Form). f.0) h.0))),
+)
 
-sum-told : (other : Other) (l : Option Link) → IsLinkOf (Some other) l → spelled_factor (from_link l).0 ++ spelled.word (from_link l).1 ≡ told_sum l
-sum-told other None h = absurd cc
-sum-told other (Some l) h = refl
+abbrev spelled_sum : ℕ × (ℕ × ℕ) → List ℕ
+spelled_sum p = spelled_factor p.0 ++ (spelled.word p.1.0 ++ told.width p.1.1)
 
-IsFormat-link_of : (o : Option Other) → IsFormat (link_of o) told_sum (IsLinkOf o)
-IsFormat-link_of None = IsFormat-as (nothing None) told_sum (λ l. l ≡ None) (IsLinkOf None) (λ l e. subst (IsLinkOf None) (sym e) (refl, tt)) no-link (IsFormat-nothing None told_sum refl)
-IsFormat-link_of (Some other) =
-    IsFormat-spelled (link_of (Some other)) (λ l. spelled_factor (from_link l).0 ++ spelled.word (from_link l).1) told_sum (IsLinkOf (Some other)) (sum-told other)
-    (IsFormat-onto (to_link other) from_link (both factor_at word) (λ p. spelled_factor p.0 ++ spelled.word p.1) AreFactorSum (IsLinkOf (Some other)) (link-there other) (link-again other)
-    (IsFormat-both factor_at word spelled_factor spelled.word (λ n. is_factor n ≡ true) (λ n. n < 65536) IsFormat-factor IsFormat-word))
+sum-told : (other : Other) (there : Bool) (l : Option Link) → IsLinkOf (Some other, there) l → spelled_sum (from_link l) ≡ told_sum l
+sum-told other there None h = absurd (apart other (ap (λ (f : Form). f.0) h.0))
+  where
+    apart : (o : Other) → None ≡ Some o → ⊥
+    apart o e = cc
+sum-told other there (Some l) h = refl
 
-link-told : (l : Option Link) → spelled_other (other_in l) ++ told_sum l ≡ told.link l
+IsFormat-link_of : (wide : Bool) (o : Option Other) (there : Bool) → IsForm wide (o, there) → IsFormat (link_of o there) told_sum (IsLinkOf (o, there))
+IsFormat-link_of wide None false h = IsFormat-as (nothing None) told_sum (λ l. l ≡ None) (IsLinkOf (None, false)) (λ l e. subst (IsLinkOf (None, false)) (sym e) (refl, tt)) (no-link false) (IsFormat-nothing None told_sum refl)
+IsFormat-link_of true None true h = absurd cc
+IsFormat-link_of false None true h = absurd cc
+IsFormat-link_of wide (Some other) there h =
+    IsFormat-spelled (link_of (Some other) there) (λ l. spelled_sum (from_link l)) told_sum (IsLinkOf (Some other, there)) (sum-told other there)
+    (IsFormat-onto (to_link other) from_link (both factor_at (both word (defaulted 0 there width_at))) spelled_sum (AreFactorSum there) (IsLinkOf (Some other, there)) (link-there other there) (link-again other there)
+    (IsFormat-both factor_at (both word (defaulted 0 there width_at)) spelled_factor (λ p. spelled.word p.0 ++ told.width p.1) (λ n. is_factor n ≡ true) (λ p. (p.0 < 65536) × IsWhere 0 IsWidth there p.1) IsFormat-factor
+    (IsFormat-both word (defaulted 0 there width_at) spelled.word told.width (λ n. n < 65536) (IsWhere 0 IsWidth there) IsFormat-word (IsFormat-width there))))
+
+link-told : (l : Option Link) → spelled_form (form_in l) ++ told_sum l ≡ told.link l
 link-told None = refl
 link-told (Some l) = refl
 
-IsFormat-link : IsFormat link_at told.link (λ l. IfSome l IsLink)
+-- a link that may be, where links may have a width or may not
+abbrev pub IsLinkIn : Bool → Option Link → Type 0
+IsLinkIn wide l = IfSome l IsLink × MayBeWide wide l
+
+IsFormat-link : (wide : Bool) → IsFormat (link_at wide) told.link (IsLinkIn wide)
 unfolding link_at
-IsFormat-link =
-    IsFormat-spelled link_at (λ l. spelled_other (other_in l) ++ told_sum l) told.link (λ l. IfSome l IsLink) (λ l h. link-told l)
-    (IsFormat-onto (λ (p : Option Other × Option Link). p.1) (λ l. (other_in l, l)) (followed other_at link_of) (λ p. spelled_other p.0 ++ told_sum p.1) (λ p. Unit {0} × IsLinkOf p.0 p.1) (λ l. IfSome l IsLink)
-    (λ p h. (ap (λ (o : Option Other). (let q : Option Other × Option Link = (o, p.1) in q)) h.1.0, h.1.1)) (λ l h. ((tt, (refl, h)), refl))
-    (IsFormat-followed other_at link_of spelled_other (λ o. told_sum) (λ o. Unit {0}) IsLinkOf IsFormat-other (λ o h. IsFormat-link_of o)))
+IsFormat-link wide =
+    IsFormat-spelled (link_at wide) (λ l. spelled_form (form_in l) ++ told_sum l) told.link (IsLinkIn wide) (λ l h. link-told l)
+    (IsFormat-onto (λ (p : Form × Option Link). p.1) (λ l. (form_in l, l)) (followed (form_at wide) (λ f. link_of f.0 f.1)) (λ p. spelled_form p.0 ++ told_sum p.1) (λ p. IsForm wide p.0 × IsLinkOf p.0 p.1) (IsLinkIn wide)
+    (λ p h. (ap (λ (f : Form). (let q : Form × Option Link = (f, p.1) in q)) h.1.0, (h.1.1, form-wide wide p.1 (ap (λ (f : Form). is_form wide (number_of_form f)) h.1.0 ∙ h.0))))
+    (λ l h. ((form-fits wide l h.1, (refl, h.0)), refl))
+    (IsFormat-followed (form_at wide) (λ f. link_of f.0 f.1) spelled_form (λ f. told_sum) (IsForm wide) IsLinkOf (IsFormat-form wide) (λ f h. IsFormat-link_of wide f.0 f.1 h)))
 
 from_facts : PairFacts → Bounds × Option Link
 from_facts f = (f.bounds, f.link)
 
 -- bounds in order, and a link that may be
-abbrev pub AreFacts : PairFacts → Type 0
-AreFacts f = AreBounds f.bounds × IfSome f.link IsLink
+abbrev pub AreFacts : Bool → PairFacts → Type 0
+AreFacts wide f = AreBounds f.bounds × IsLinkIn wide f.link
 
-IsFormat-facts : IsFormat facts_at told.facts (λ f. AreFacts f × (is_known f ≡ true))
+IsFormat-facts : (wide : Bool) → IsFormat (facts_at wide) told.facts (λ f. AreFacts wide f × (is_known f ≡ true))
 unfolding facts_at from_facts told.facts
-IsFormat-facts =
-    IsFormat-checked fault.Field is_known _ told.facts AreFacts
-    (IsFormat-mapped to_facts from_facts _ (λ p. told.bounds p.0 ++ told.link p.1) (λ p. AreBounds p.0 × IfSome p.1 IsLink) (λ x h. refl) (λ y h. refl)
-    (IsFormat-both bounds_at link_at told.bounds told.link AreBounds (λ l. IfSome l IsLink) IsFormat-bounds IsFormat-link))
+IsFormat-facts wide =
+    IsFormat-checked fault.Field is_known _ told.facts (AreFacts wide)
+    (IsFormat-mapped to_facts from_facts _ (λ p. told.bounds p.0 ++ told.link p.1) (λ p. AreBounds p.0 × IsLinkIn wide p.1) (λ x h. refl) (λ y h. refl)
+    (IsFormat-both bounds_at (link_at wide) told.bounds told.link AreBounds (IsLinkIn wide) IsFormat-bounds (IsFormat-link wide)))
 
 -- what may be known of a pair that is there or not
-abbrev pub AreFactsFor : Bool → PairFacts → Type 0
-AreFactsFor there f = AreFacts f × (is_known f ≡ there)
-
-not-false : (b : Bool) → not b ≡ false → b ≡ true
-not-false true h = refl
-not-false false h = cc
+abbrev pub AreFactsFor : Bool → Bool → PairFacts → Type 0
+AreFactsFor wide there f = AreFacts wide f × (is_known f ≡ there)
 
 facts-same : (a b c d : ℕ) (k l : Option Link) → a ≡ b → c ≡ d → k ≡ l → (let q : PairFacts = record { bounds = record { first = a; last = c }; link = k } in q) ≡ record { bounds = record { first = b; last = d }; link = l }
 facts-same a b c d k l ea ec ek = rw (ea, ec, ek) refl
@@ -499,34 +612,52 @@ facts-absent f h =
     let b = and_both (f.bounds.first == 0) (f.bounds.last == 0xFFFF) (not-false (f.bounds.first == 0 && f.bounds.last == 0xFFFF) n.1) in
     facts-same f.bounds.first 0 f.bounds.last 0xFFFF f.link None (same f.bounds.first 0 b.0) (same f.bounds.last 0xFFFF b.1) (none-is f.link n.0)
 
-absent-facts : AreFactsFor false nothing_known
-absent-facts = (((omega arith, omega arith), tt), refl)
+or-true : (b : Bool) → (b || true) ≡ true
+or-true true = refl
+or-true false = refl
 
-facts-are : (there : Bool) (f : PairFacts) → IsWhere nothing_known (AreFactsFor true) there f → AreFactsFor there f
-facts-are true f h = h
-facts-are false f h = subst (AreFactsFor false) (sym h) absent-facts
+absent-facts : (wide : Bool) → AreFactsFor wide false nothing_known
+absent-facts wide = (((omega arith, omega arith), (tt, or-true wide)), refl)
 
-are-facts : (there : Bool) (f : PairFacts) → AreFactsFor there f → IsWhere nothing_known (AreFactsFor true) there f
-are-facts true f h = h
-are-facts false f h = facts-absent f h.1
+facts-are : (wide there : Bool) (f : PairFacts) → IsWhere nothing_known (AreFactsFor wide true) there f → AreFactsFor wide there f
+facts-are wide true f h = h
+facts-are wide false f h = subst (AreFactsFor wide false) (sym h) (absent-facts wide)
 
-IsFormat-known : (there : Bool) → IsFormat (defaulted nothing_known there facts_at) told.known_facts (AreFactsFor there)
-IsFormat-known there =
-    IsFormat-as (defaulted nothing_known there facts_at) told.known_facts (IsWhere nothing_known (AreFactsFor true) there) (AreFactsFor there) (facts-are there) (are-facts there)
-    (IsFormat-defaulted nothing_known is_known there facts_at told.facts (AreFactsFor true) refl (λ f h. h.1) IsFormat-facts)
+are-facts : (wide there : Bool) (f : PairFacts) → AreFactsFor wide there f → IsWhere nothing_known (AreFactsFor wide true) there f
+are-facts wide true f h = h
+are-facts wide false f h = facts-absent f h.1
+
+IsFormat-known : (wide there : Bool) → IsFormat (defaulted nothing_known there (facts_at wide)) told.known_facts (AreFactsFor wide there)
+IsFormat-known wide there =
+    IsFormat-as (defaulted nothing_known there (facts_at wide)) told.known_facts (IsWhere nothing_known (AreFactsFor wide true) there) (AreFactsFor wide there) (facts-are wide there) (are-facts wide there)
+    (IsFormat-defaulted nothing_known is_known there (facts_at wide) told.facts (AreFactsFor wide true) refl (λ f h. h.1) (IsFormat-facts wide))
 
 from_pairs : Pairs → PairFacts × (PairFacts × PairFacts)
 from_pairs s = (s.bc, (s.de, s.hl))
 
-abbrev pub ArePairsFor : Present → Pairs → Type 0
-ArePairsFor p s = AreFactsFor p.bc s.bc × (AreFactsFor p.de s.de × AreFactsFor p.hl s.hl)
+abbrev pub ArePairsFor : Bool → Present → Pairs → Type 0
+ArePairsFor wide p s = AreFactsFor wide p.bc s.bc × (AreFactsFor wide p.de s.de × AreFactsFor wide p.hl s.hl)
 
-IsFormat-pairs : (p : Present) → IsFormat (pairs_at p) told.pairs (ArePairsFor p)
+IsFormat-pairs : (wide : Bool) (p : Present) → IsFormat (pairs_at wide p) told.pairs (ArePairsFor wide p)
 unfolding pairs_at from_pairs told.pairs
-IsFormat-pairs p =
-    IsFormat-mapped to_pairs from_pairs _ (λ s. told.known_facts s.0 ++ (told.known_facts s.1.0 ++ told.known_facts s.1.1)) (λ s. AreFactsFor p.bc s.0 × (AreFactsFor p.de s.1.0 × AreFactsFor p.hl s.1.1)) (λ x h. refl) (λ y h. refl)
-    (IsFormat-both (defaulted nothing_known p.bc facts_at) _ _ _ _ _ (IsFormat-known p.bc)
-    (IsFormat-both (defaulted nothing_known p.de facts_at) _ _ _ _ _ (IsFormat-known p.de) (IsFormat-known p.hl)))
+IsFormat-pairs wide p =
+    IsFormat-mapped to_pairs from_pairs _ (λ s. told.known_facts s.0 ++ (told.known_facts s.1.0 ++ told.known_facts s.1.1)) (λ s. AreFactsFor wide p.bc s.0 × (AreFactsFor wide p.de s.1.0 × AreFactsFor wide p.hl s.1.1)) (λ x h. refl) (λ y h. refl)
+    (IsFormat-both (defaulted nothing_known p.bc (facts_at wide)) _ _ _ _ _ (IsFormat-known wide p.bc)
+    (IsFormat-both (defaulted nothing_known p.de (facts_at wide)) _ _ _ _ _ (IsFormat-known wide p.de) (IsFormat-known wide p.hl)))
+
+-- Links may have a width, or each has one sum.
+abbrev pub AreWide : Bool → Pairs → Type 0
+AreWide wide s = (wide || are_exact s) ≡ true
+
+pairs-wide : (wide : Bool) (p : Present) (s : Pairs) → ArePairsFor wide p s → AreWide wide s
+pairs-wide true p s h = refl
+pairs-wide false p s h = both_and (is_exact s.bc.link) _ h.0.0.1.1 (both_and (is_exact s.de.link) (is_exact s.hl.link) h.1.0.0.1.1 h.1.1.0.1.1)
+
+each-wide : (wide : Bool) (s : Pairs) → AreWide wide s → MayBeWide wide s.bc.link × (MayBeWide wide s.de.link × MayBeWide wide s.hl.link)
+each-wide true s h = (refl, (refl, refl))
+each-wide false s h =
+    let b = and_both (is_exact s.bc.link) (is_exact s.de.link && is_exact s.hl.link) h in
+    (b.0, and_both (is_exact s.de.link) (is_exact s.hl.link) b.1)
 
 -- ---- all of them
 
@@ -538,34 +669,35 @@ unfoldable pub from_relations : Bool → Relations → All
 from_relations address r = (told.present_by address r, (r.byte, (r.zero, r.pairs)))
 
 -- what is behind those that there are
-abbrev pub ArePresent : StackBytes → Option ℕ → InMemory → Present → OneByte × (Option WordPair × Pairs) → Type 0
-ArePresent k test at p q = IsByteFor k test p.byte at p.bits q.0 × (((is_some q.1.0 ≡ p.zero) × IfSome q.1.0 (λ z. Unit {0})) × ArePairsFor p q.1.1)
+abbrev pub ArePresent : Bool → StackBytes → Option ℕ → InMemory → Present → OneByte × (Option WordPair × Pairs) → Type 0
+ArePresent wide k test at p q = IsByteFor k test p.byte at p.bits q.0 × (((is_some q.1.0 ≡ p.zero) × IfSome q.1.0 (λ z. Unit {0})) × ArePairsFor wide p q.1.1)
 
 -- what there may be beside a state's test
 abbrev pub IsTold : (ℕ → Bool) → Option ℕ → Relations → Type 0
 IsTold may_be test r = IsRelations may_be r × (compared r.byte.test ≡ test)
 
-pair-facts : (f : PairFacts) (there : Bool) → AreFactsFor there f → IsPairFacts f
-pair-facts f there h = record { last = h.0.0.1; link = h.0.1 }
+pair-facts : (wide : Bool) (f : PairFacts) (there : Bool) → AreFactsFor wide there f → IsPairFacts f
+pair-facts wide f there h = record { last = h.0.0.1; link = h.0.1.0 }
 
-pairs-each : (p : Present) (s : Pairs) → ArePairsFor p s → (w : WordPair) → IsPairFacts (facts_of w s)
-pairs-each p s h Bc = pair-facts s.bc p.bc h.0
-pairs-each p s h De = pair-facts s.de p.de h.1.0
-pairs-each p s h Hl = pair-facts s.hl p.hl h.1.1
+pairs-each : (wide : Bool) (p : Present) (s : Pairs) → ArePairsFor wide p s → (w : WordPair) → IsPairFacts (facts_of w s)
+pairs-each wide p s h Bc = pair-facts wide s.bc p.bc h.0
+pairs-each wide p s h De = pair-facts wide s.de p.de h.1.0
+pairs-each wide p s h Hl = pair-facts wide s.hl p.hl h.1.1
 
-pairs-ordered : (p : Present) (s : Pairs) → ArePairsFor p s → (w : WordPair) → (facts_of w s).bounds.first ≤ (facts_of w s).bounds.last
-pairs-ordered p s h Bc = h.0.0.0.0
-pairs-ordered p s h De = h.1.0.0.0.0
-pairs-ordered p s h Hl = h.1.1.0.0.0
+pairs-ordered : (wide : Bool) (p : Present) (s : Pairs) → ArePairsFor wide p s → (w : WordPair) → (facts_of w s).bounds.first ≤ (facts_of w s).bounds.last
+pairs-ordered wide p s h Bc = h.0.0.0.0
+pairs-ordered wide p s h De = h.1.0.0.0.0
+pairs-ordered wide p s h Hl = h.1.1.0.0.0
 
-pub relations-there : (k : StackBytes) (test : Option ℕ) (at : InMemory) (x : All) → ArePresent k test at x.0 x.1 → (from_relations x.0.address (to_relations x) ≡ x) × IsTold (may_be_in k at) test (to_relations x)
+pub relations-there : (wide : Bool) (k : StackBytes) (test : Option ℕ) (at : InMemory) (x : All) → ArePresent wide k test at x.0 x.1
+    → (from_relations x.0.address (to_relations x) ≡ x) × (IsTold (may_be_in k at) test (to_relations x) × AreWide wide x.1.1.1)
 unfolding from_relations
-relations-there k test at x h =
+relations-there wide k test at x h =
     let p = x.0 in
     let b = h.0 in
     let s = h.1.1 in (
       ap (λ (p : Present). (let q : All = (p, x.1) in q)) (present-same _ _ _ _ _ _ _ x.0.byte x.0.address x.0.bits x.0.zero x.0.bc x.0.de x.0.hl b.place refl b.has_bits h.1.0.0 s.0.1 s.1.0.1 s.1.1.1),
-      (record { byte = b.is_byte; pairs = record { each = pairs-each x.0 x.1.1.1 s }; order = pairs-ordered x.0 x.1.1.1 s }, b.compares),
+      ((record { byte = b.is_byte; pairs = record { each = pairs-each wide x.0 x.1.1.1 s }; order = pairs-ordered wide x.0 x.1.1.1 s }, b.compares), pairs-wide wide x.0 x.1.1.1 s),
     )
 
 -- The same relations, where the address is right by another rule.
@@ -590,18 +722,19 @@ some-pair : (o : Option WordPair) → IfSome o (λ z. Unit {0})
 some-pair None = tt
 some-pair (Some z) = tt
 
-facts-for : (f : PairFacts) → IsPairFacts f → f.bounds.first ≤ f.bounds.last → AreFactsFor (is_known f) f
-facts-for f h order = (((order, h.last), h.link), refl)
+facts-for : (wide : Bool) (f : PairFacts) → IsPairFacts f → f.bounds.first ≤ f.bounds.last → MayBeWide wide f.link → AreFactsFor wide (is_known f) f
+facts-for wide f h order may = (((order, h.last), (h.link, may)), refl)
 
-pub relations-again : (k : StackBytes) (test : Option ℕ) (at : InMemory) (address : Bool) (r : Relations) → IsTold (may_be_in k at) test r → is_some r.byte.address ≡ is_somewhere at
-    → ArePresent k test at (from_relations address r).0 (from_relations address r).1 × (to_relations (from_relations address r) ≡ r)
+pub relations-again : (wide : Bool) (k : StackBytes) (test : Option ℕ) (at : InMemory) (address : Bool) (r : Relations) → IsTold (may_be_in k at) test r → AreWide wide r.pairs → is_some r.byte.address ≡ is_somewhere at
+    → ArePresent wide k test at (from_relations address r).0 (from_relations address r).1 × (to_relations (from_relations address r) ≡ r)
 unfolding from_relations
-relations-again k test at address r h in_memory =
+relations-again wide k test at address r h are_wide in_memory =
     let e = h.0.pairs.each in
-    let o = h.0.order in (
+    let o = h.0.order in
+    let w = each-wide wide r.pairs are_wide in (
       (
         record { is_byte = h.0.byte; place = refl; in_memory = in_memory; has_bits = refl; compares = h.1 },
-        ((refl, some-pair r.zero), (facts-for r.pairs.bc (e Bc) (o Bc), (facts-for r.pairs.de (e De) (o De), facts-for r.pairs.hl (e Hl) (o Hl)))),
+        ((refl, some-pair r.zero), (facts-for wide r.pairs.bc (e Bc) (o Bc) w.0, (facts-for wide r.pairs.de (e De) (o De) w.1.0, facts-for wide r.pairs.hl (e Hl) (o Hl) w.1.1))),
       ),
       refl,
     )
@@ -618,39 +751,42 @@ is-present may_be test at r h in_memory =
 abbrev pub told_parts : StackBytes → OneByte × (Option WordPair × Pairs) → List ℕ
 told_parts k q = told_byte k q.0 ++ (told.optional told.pair q.1.0 ++ told.pairs q.1.1)
 
-pub IsFormat-parts : (k : StackBytes) (test : Option ℕ) (at : InMemory) (p : Present) → IfSome test (λ n. n < 256) → k.count < 256 → AreParts test p.byte (is_somewhere at) p.bits → IsFormat (parts_at k test at p) (told_parts k) (ArePresent k test at p)
+pub IsFormat-parts : (wide : Bool) (k : StackBytes) (test : Option ℕ) (at : InMemory) (p : Present) → IfSome test (λ n. n < 256) → k.count < 256 → AreParts test p.byte (is_somewhere at) p.bits → IsFormat (parts_at wide k test at p) (told_parts k) (ArePresent wide k test at p)
 unfolding told_byte
-IsFormat-parts k test at p small few h =
-    IsFormat-both (defaulted no_byte p.byte (byte_at k test at p.bits)) (both (optional p.zero pair_at) (pairs_at p)) (told_byte k) (λ q. told.optional told.pair q.0 ++ told.pairs q.1) (IsByteFor k test p.byte at p.bits) (λ q. ((is_some q.0 ≡ p.zero) × IfSome q.0 (λ z. Unit {0})) × ArePairsFor p q.1) (IsFormat-one_byte k test p.byte at p.bits h small few)
-    (IsFormat-both (optional p.zero pair_at) (pairs_at p) (told.optional told.pair) told.pairs (λ z. (is_some z ≡ p.zero) × IfSome z (λ z. Unit {0})) (ArePairsFor p) (IsFormat-option p.zero pair_at told.pair (λ z. Unit {0}) IsFormat-pair) (IsFormat-pairs p))
+IsFormat-parts wide k test at p small few h =
+    IsFormat-both (defaulted no_byte p.byte (byte_at k test at p.bits)) (both (optional p.zero pair_at) (pairs_at wide p)) (told_byte k) (λ q. told.optional told.pair q.0 ++ told.pairs q.1) (IsByteFor k test p.byte at p.bits) (λ q. ((is_some q.0 ≡ p.zero) × IfSome q.0 (λ z. Unit {0})) × ArePairsFor wide p q.1) (IsFormat-one_byte k test p.byte at p.bits h small few)
+    (IsFormat-both (optional p.zero pair_at) (pairs_at wide p) (told.optional told.pair) told.pairs (λ z. (is_some z ≡ p.zero) × IfSome z (λ z. Unit {0})) (ArePairsFor wide p) (IsFormat-option p.zero pair_at told.pair (λ z. Unit {0}) IsFormat-pair) (IsFormat-pairs wide p))
 
 -- ---- versions 1 to 3
 
--- in them a place in memory is an address
+-- in them a place in memory is an address, and no link has a width
 abbrev older_place : Present → InMemory
 older_place p = place_by false p.address
 
 abbrev AreOlder : Region → Option ℕ → All → Type 0
-AreOlder region test x = (is_present test x.0 ≡ true) × ArePresent (no_items region) test (older_place x.0) x.0 x.1
+AreOlder region test x = (is_present test x.0 ≡ true) × ArePresent false (no_items region) test (older_place x.0) x.0 x.1
+
+abbrev pub IsToldExactly : Region → Option ℕ → Relations → Type 0
+IsToldExactly region test r = IsTold (is_free_byte region) test r × (are_exact r.pairs ≡ true)
 
 abbrev older_of : Relations → All
 older_of r = from_relations (is_some r.byte.address) r
 
-older-there : (region : Region) (test : Option ℕ) (x : All) → AreOlder region test x → (older_of (to_relations x) ≡ x) × IsTold (is_free_byte region) test (to_relations x)
+older-there : (region : Region) (test : Option ℕ) (x : All) → AreOlder region test x → (older_of (to_relations x) ≡ x) × IsToldExactly region test (to_relations x)
 older-there region test x h =
     let k = no_items region in
-    let r = relations-there k test (older_place x.0) x h.1 in
+    let r = relations-there false k test (older_place x.0) x h.1 in
     let address = h.1.0.in_memory ∙ somewhere x.0.address in
-    (ap (λ a. from_relations a (to_relations x)) address ∙ r.0, (address-as (may_be_in k (older_place x.0)) (is_free_byte region) (to_relations x) r.1.0 (free-there k x.0.address x.1.0.address r.1.0.byte.address), r.1.1))
+    (ap (λ a. from_relations a (to_relations x)) address ∙ r.0, ((address-as (may_be_in k (older_place x.0)) (is_free_byte region) (to_relations x) r.1.0.0 (free-there k x.0.address x.1.0.address r.1.0.0.byte.address), r.1.0.1), r.1.1))
 
-older-again : (region : Region) (test : Option ℕ) (r : Relations) → IsTold (is_free_byte region) test r → AreOlder region test (older_of r) × (to_relations (older_of r) ≡ r)
+older-again : (region : Region) (test : Option ℕ) (r : Relations) → IsToldExactly region test r → AreOlder region test (older_of r) × (to_relations (older_of r) ≡ r)
 unfolding from_relations
 older-again region test r h =
     let k = no_items region in
     let address = is_some r.byte.address in
     let at = place_by false address in
-    let there : IsTold (may_be_in k at) test r = (address-as (is_free_byte region) (may_be_in k at) r h.0 (there-free k r.byte.address h.0.byte.address), h.1) in
-    let a = relations-again k test at address r there (sym (somewhere address)) in
+    let there : IsTold (may_be_in k at) test r = (address-as (is_free_byte region) (may_be_in k at) r h.0.0 (there-free k r.byte.address h.0.0.byte.address), h.0.1) in
+    let a = relations-again false k test at address r there h.1 (sym (somewhere address)) in
     ((subst (λ b. is_present test (from_relations b r).0 ≡ true) (spelled_so address) (is-present (may_be_in k at) test at r there (sym (somewhere address))), a.0), a.1)
   where
     spelled_so : (address : Bool) → is_address (place_by false address) ≡ address
@@ -663,14 +799,14 @@ unfolding from_relations told_byte told.relations
 older-told region r h = ap (λ m. told.present_number (told.present_in r) ∷ told.parts_by m r) (memory-plain region 0 r.byte.address h.byte.address)
 
 -- What is read beside a state's test is the spelling of what there may be, whose test compares where the state's does.
-pub IsFormat-relations : (region : Region) (test : Option ℕ) → IfSome test (λ n. n < 256) → IsFormat (relations_at region test) told.relations (IsTold (is_free_byte region) test)
+pub IsFormat-relations : (region : Region) (test : Option ℕ) → IfSome test (λ n. n < 256) → IsFormat (relations_at region test) told.relations (IsToldExactly region test)
 unfolding relations_at
 IsFormat-relations region test small =
     let k = no_items region in
-    IsFormat-spelled (relations_at region test) (λ r. spelled_present (older_of r).0 ++ told_parts k (older_of r).1) told.relations (IsTold (is_free_byte region) test) (λ r h. older-told region r h.0)
-    (IsFormat-onto to_relations older_of _ (λ x. spelled_present x.0 ++ told_parts k x.1) (AreOlder region test) (IsTold (is_free_byte region) test) (older-there region test) (older-again region test)
-    (IsFormat-followed (present_at test) (λ p. parts_at k test (older_place p) p) spelled_present (λ p. told_parts k) (λ p. is_present test p ≡ true) (λ p. ArePresent k test (older_place p) p) (IsFormat-present test)
-    (λ p h. IsFormat-parts k test (older_place p) p small (omega arith) (subst (λ a. AreParts test p.byte a p.bits) (sym (somewhere p.address)) h))))
+    IsFormat-spelled (relations_at region test) (λ r. spelled_present (older_of r).0 ++ told_parts k (older_of r).1) told.relations (IsToldExactly region test) (λ r h. older-told region r h.0.0)
+    (IsFormat-onto to_relations older_of _ (λ x. spelled_present x.0 ++ told_parts k x.1) (AreOlder region test) (IsToldExactly region test) (older-there region test) (older-again region test)
+    (IsFormat-followed (present_at test) (λ p. parts_at false k test (older_place p) p) spelled_present (λ p. told_parts k) (λ p. is_present test p ≡ true) (λ p. ArePresent false k test (older_place p) p) (IsFormat-present test)
+    (λ p h. IsFormat-parts false k test (older_place p) p small (omega arith) (subst (λ a. AreParts test p.byte a p.bits) (sym (somewhere p.address)) h))))
 
 -- ---- a test of A alone
 
@@ -746,23 +882,23 @@ is-alone r h =
 -- what there may be beside a state's test, by the rules
 abbrev pub IsToldBy : Rules → Region → Option ℕ → Relations → Type 0
 IsToldBy Simple region test r = r ≡ test_alone test
-IsToldBy Extended region test r = IsTold (is_free_byte region) test r
+IsToldBy Extended region test r = IsToldExactly region test r
 
 pub told-compares : (rules : Rules) (region : Region) (test : Option ℕ) (r : Relations) → IsToldBy rules region test r → compared r.byte.test ≡ test
 told-compares Simple region test r h = ap (λ (s : Relations). compared s.byte.test) h ∙ alone-compares test
-told-compares Extended region test r h = h.1
+told-compares Extended region test r h = h.0.1
 
 pub told-relations : (rules : Rules) (region : Region) (test : Option ℕ) (r : Relations) → IfSome test (λ n. n < 256) → IsToldBy rules region test r → IsRelations (is_free_byte region) r
 told-relations Simple region test r small h = subst (IsRelations (is_free_byte region)) (sym h) (alone-relations (is_free_byte region) test small)
-told-relations Extended region test r small h = h.0
+told-relations Extended region test r small h = h.0.0
 
 pub told-known : (rules : Rules) (region : Region) (test : Option ℕ) (r : Relations) → IsToldBy rules region test r → may_be_known rules r ≡ true
 told-known Simple region test r h = ap is_test_alone h ∙ alone-is test
-told-known Extended region test r h = refl
+told-known Extended region test r h = h.1
 
 pub is-told : (rules : Rules) (region : Region) (r : Relations) → IsRelations (is_free_byte region) r → may_be_known rules r ≡ true → IsToldBy rules region (compared r.byte.test) r
 is-told Simple region r h known = is-alone r known
-is-told Extended region r h known = (h, refl)
+is-told Extended region r h known = ((h, refl), known)
 
 pub compared-small : (t : Option Test) → IfSome t (λ t. operand t < 256) → IfSome (compared t) (λ n. n < 256)
 compared-small (Some (Compare n)) h = h

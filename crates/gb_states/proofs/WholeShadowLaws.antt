@@ -1,5 +1,5 @@
 -- Places that shadow the controller's registers: what is read is spelled so, and what is spelled so is read.
-use Rattle.std.proofs.Common.{◌≡◌, ℕ, ◌+◌, ◌*◌, ◌%◌, ◌<◌, ◌≤◌, Bool, true, false, ◌&&◌, not, ◌==◌, nat_le, List, ◌++◌, Option, Some, None, refl, sym, ◌∙◌, ap, subst, arith}
+use Rattle.std.proofs.Common.{◌≡◌, ℕ, ◌+◌, ◌*◌, ◌%◌, ◌<◌, ◌≤◌, Bool, true, false, ◌&&◌, not, ◌==◌, List, ◌++◌, Option, Some, None, refl, sym, ◌∙◌, ap, subst, arith}
 use Rattle.std.specs.Prelude.{IfSome, is_some, is_none}
 use Rattle.std.proofs.lemmas.Bool.Decides.{nat_tests}
 use Rattle.gb_ops.specs.declared.machine.Region.{Region}
@@ -19,7 +19,7 @@ use Rattle.gb_states.specs.RelationSpelling as told
 use Rattle.gb_states.specs.WholeSpelling as spelled
 use Rattle.gb_states.proofs.Formats.{IsFormat, IsFormat-byte, IsFormat-followed, IsFormat-checked, IsFormat-onto, IsFormat-mapped, IsFormat-as}
 use Rattle.gb_states.proofs.FieldLaws.{same, spelled_byte}
-use Rattle.gb_states.proofs.RelationLaws.{is_seven, registers-number, number-registers, no-registers}
+use Rattle.gb_states.proofs.RelationLaws.{is_seven, registers-number, number-registers, no-registers, split, split-parts}
 use Rattle.gb_states.proofs.PlaceLaws.{IsFormat-option, IsFormat-address}
 
 from_shadows : Shadows → ℕ × Option ℕ
@@ -32,10 +32,6 @@ IsFreeOption region o = IfSome o (λ a. is_free_byte region a ≡ true)
 abbrev ArePlaces : Region → (ℕ → Type 0) → ℕ × Option ℕ → Type 0
 ArePlaces region g p = g p.0 × ((is_some p.1 ≡ has_address p.0) × IsFreeOption region p.1)
 
-split : (n : ℕ) (b : Bool) → n < 256 → nat_le 128 n ≡ b → 128 * simple.flag b + n % 128 ≡ n
-split n true h e = let high : 128 ≤ n = grind (arith, nat_tests, e) in omega (arith, high)
-split n false h e = let low : n < 128 = grind (arith, nat_tests, e) in omega (arith, low)
-
 number-again : (p : ℕ × Option ℕ) → p.0 < 256 → is_some p.1 ≡ has_address p.0 → spelled.shadows_number (to_shadows p) ≡ p.0
 number-again p small e =
     let low : p.0 % 128 ≤ 127 = omega arith in
@@ -46,17 +42,6 @@ unfolding from_shadows
 places-there region g small p h =
     let e = number-again p (small p.0 h.0) h.1.0 in
     (ap (λ (n : ℕ). (let q : ℕ × Option ℕ = (n, p.1) in q)) e, (h.1.1, subst g (sym e) h.0))
-
--- the parts of the byte that says which places there are
-parts : (b : Bool) (r : ℕ) → r ≤ 127 → ((128 * simple.flag b + r) % 128 ≡ r) × (nat_le 128 (128 * simple.flag b + r) ≡ b)
-parts true r h = (omega arith, at_least (128 + r) (omega arith))
-  where
-    at_least : (n : ℕ) → 128 ≤ n → nat_le 128 n ≡ true
-    at_least n h = grind (arith, nat_tests)
-parts false r h = (omega arith, less (128 * simple.flag false + r) (omega (arith, h)))
-  where
-    less : (n : ℕ) → n ≤ 127 → nat_le 128 n ≡ false
-    less n h = grind (arith, nat_tests)
 
 number_small : (s : Shadows) → spelled.shadows_number s < 256
 number_small s = by (is_some s.address) (registers-number s.registers).1
@@ -69,7 +54,7 @@ places-again : (region : Region) (g : ℕ → Type 0) (s : Shadows) → AreShado
 unfolding from_shadows
 places-again region g s h =
     let r = registers-number s.registers in
-    let p = parts (is_some s.address) (told.registers_number s.registers) r.1 in
+    let p = split-parts (is_some s.address) (told.registers_number s.registers) r.1 in
     ((h.1, (sym p.1, h.0)), ap (λ (q : Registers Bool). (let x : Shadows = record { registers = q; address = s.address } in x)) (ap to_registers p.0 ∙ r.0))
 
 abbrev spelled_places : ℕ × Option ℕ → List ℕ

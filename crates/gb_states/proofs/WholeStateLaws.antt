@@ -176,7 +176,7 @@ abbrev AreDeclared : StackBytes → Bool → Option ℕ → Present × Declared 
 AreDeclared k may test d = (is_present test d.0 ≡ true) × (may_be_declared may (may_be_item k d.0) d.1 ≡ true)
 
 abbrev AreToldParts : ℕ → StackBytes → Bool → Option ℕ → ToldParts → Type 0
-AreToldParts facts k may test p = AreDeclared k may test p.0 × (ArePresent k test (place_of p.0) p.0.0 p.1.0 × IsSummaryFor facts k.region p.0.1 p.1.1)
+AreToldParts facts k may test p = AreDeclared k may test p.0 × (ArePresent true k test (place_of p.0) p.0.0 p.1.0 × IsSummaryFor facts k.region p.0.1 p.1.1)
 
 -- what there may be beside a state's test
 abbrev pub IsToldIn : ℕ → StackBytes → Bool → Option ℕ → Told → Type 0
@@ -198,15 +198,15 @@ told-there : (facts : ℕ) (k : StackBytes) (may : Bool) (test : Option ℕ) (p 
 unfolding from_told from_relations
 told-there facts k may test p h =
     let at = place_of p.0 in
-    let r = relations-there k test at (p.0.0, p.1.0) h.1.0 in
+    let r = relations-there true k test at (p.0.0, p.1.0) h.1.0 in
     let s = h.1.1 in
     let d = declared-parts k may test p.0 h.0 in
-    let place : place_in k.region p.1.0.0.address ≡ at = place-is k at p.1.0.0.address (h.1.0.0.in_memory, r.1.0.byte.address) in
+    let place : place_in k.region p.1.0.0.address ≡ at = place-is k at p.1.0.0.address (h.1.0.0.in_memory, r.1.0.0.byte.address) in
     let address : is_address (place_in k.region p.1.0.0.address) ≡ p.0.0.address = ap is_address place ∙ address-bit p.0.1.item p.0.0.address (named-alone k p.0.0.byte p.0.0.address p.0.1.item d.1) in
     let item : is_item (place_in k.region p.1.0.0.address) ≡ p.0.1.item = ap is_item place ∙ item-bit p.0.1.item p.0.0.address in (
       parts-same _ p.0.0 _ p.0.1 (ap (λ a. told.present_by a (to_told p).0) address ∙ ap (λ (x : All). x.0) r.0) (declared-same _ _ _ _ p.0.1.shadows p.0.1.levels p.0.1.aside p.0.1.item s.has_shadows s.has_levels s.has_aside item),
       (
-        (address-as (may_be_in k at) (is_place_at k) (to_told p).0 r.1.0 (place-there k at p.1.0.0.address r.1.0.byte.address), r.1.1),
+        (address-as (may_be_in k at) (is_place_at k) (to_told p).0 r.1.0.0 (place-there k at p.1.0.0.address r.1.0.0.byte.address), r.1.0.1),
         record {
           level = s.level;
           few = s.few;
@@ -229,12 +229,12 @@ told-again facts k may test t h =
     let o = t.0.byte.address in
     let lies = there-place k o h.0.0.byte.address in
     let there : IsTold (may_be_in k at) test t.0 = (address-as (is_place_at k) (may_be_in k at) t.0 h.0.0 lies.1, h.0.1) in
-    let r = relations-again k test at (is_address at) t.0 there lies.0 in
+    let r = relations-again true k test at (is_address at) t.0 there refl lies.0 in
     let s = h.1 in (
       (
         (is-present (may_be_in k at) test at t.0 there lies.0, both_and (may || not (is_some t.1.aside)) _ s.may (may-name k at o (is_some_register t.0.byte.registers) lies)),
         (
-          subst (λ place. ArePresent k test place (told.present_by (is_address at) t.0) (t.0.byte, (t.0.zero, t.0.pairs))) (sym (place-again at)) r.0,
+          subst (λ place. ArePresent true k test place (told.present_by (is_address at) t.0) (t.0.byte, (t.0.zero, t.0.pairs))) (sym (place-again at)) r.0,
           record { level = s.level; few = s.few; fills = s.fills; first = s.first; second = s.second; aside = is-within t.1.aside s.aside; has_shadows = refl; has_levels = refl; has_aside = refl },
         ),
       ),
@@ -255,11 +255,11 @@ pub IsFormat-told : (facts : ℕ) (k : StackBytes) (may : Bool) (test : Option �
 unfolding told_at from_told told_byte spelled.told
 IsFormat-told facts k may test small few byte =
     IsFormat-onto to_told (from_told k) _ (told_all k) (AreToldParts facts k may test) (IsToldIn facts k may test) (told-there facts k may test) (told-again facts k may test)
-    (IsFormat-followed (present_declared_at k may test) (λ d. both (parts_at k test (place_of d) d.0) (summary_at facts k.region d.1)) (λ d. spelled_present d.0 ++ spelled_declared d.1) (λ d q. told_parts k q.0 ++ spelled.summary q.1) (AreDeclared k may test)
-    (λ d q. ArePresent k test (place_of d) d.0 q.0 × IsSummaryFor facts k.region d.1 q.1)
+    (IsFormat-followed (present_declared_at k may test) (λ d. both (parts_at true k test (place_of d) d.0) (summary_at facts k.region d.1)) (λ d. spelled_present d.0 ++ spelled_declared d.1) (λ d q. told_parts k q.0 ++ spelled.summary q.1) (AreDeclared k may test)
+    (λ d q. ArePresent true k test (place_of d) d.0 q.0 × IsSummaryFor facts k.region d.1 q.1)
     (IsFormat-followed (present_at test) (λ p. declared_at may (may_be_item k p)) spelled_present (λ p. spelled_declared) (λ p. is_present test p ≡ true) (λ p d. may_be_declared may (may_be_item k p) d ≡ true) (IsFormat-present test) (λ p h. IsFormat-declared may (may_be_item k p)))
-    (λ d h. IsFormat-both (parts_at k test (place_of d) d.0) (summary_at facts k.region d.1) (told_parts k) spelled.summary (ArePresent k test (place_of d) d.0) (IsSummaryFor facts k.region d.1)
-    (IsFormat-parts k test (place_of d) d.0 byte few (parts-said k test d.0.byte d.0.address d.1.item d.0.bits h.0 (named-there k d.0.byte d.0.address d.1.item (declared-parts k may test d h).1))) (IsFormat-summary facts k.region d.1 small)))
+    (λ d h. IsFormat-both (parts_at true k test (place_of d) d.0) (summary_at facts k.region d.1) (told_parts k) spelled.summary (ArePresent true k test (place_of d) d.0) (IsSummaryFor facts k.region d.1)
+    (IsFormat-parts true k test (place_of d) d.0 byte few (parts-said k test d.0.byte d.0.address d.1.item d.0.bits h.0 (named-there k d.0.byte d.0.address d.1.item (declared-parts k may test d h).1))) (IsFormat-summary facts k.region d.1 small)))
 
 -- ---- states
 

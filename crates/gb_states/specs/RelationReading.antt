@@ -1,5 +1,5 @@
 -- Reading what a state says of several of its parts together, field by field (own format). A test of two fields is made behind the later one.
-use Rattle.std.specs.Prelude.{ℕ, ◌+◌, ◌-◌, ◌/◌, ◌%◌, Bool, true, false, not, ◌&&◌, ◌||◌, ◌==◌, nat_lt, Option, Some, None, is_some, if◌then◌else◌}
+use Rattle.std.specs.Prelude.{ℕ, ◌+◌, ◌-◌, ◌/◌, ◌%◌, Bool, true, false, not, ◌&&◌, ◌||◌, ◌==◌, nat_lt, nat_le, Option, Some, None, is_some, if◌then◌else◌}
 use Rattle.gb_ops.specs.declared.machine.Region.{Region}
 use Rattle.gb_ops.specs.declared.op.Register.TheVariants.{A, B, C, D, E, H, L}
 use Rattle.gb_ops.specs.declared.registers.Registers.{Registers}
@@ -25,7 +25,7 @@ use Rattle.gb_states.specs.declared.relations.Present.{Present}
 use Rattle.gb_states.specs.declared.relations.InMemory.{InMemory}
 use Rattle.gb_states.specs.declared.relations.InMemory.TheVariants.{Nowhere, Address, Item}
 use Rattle.gb_fields.specs.Format.{Read, followed, both, mapped, checked, optional, byte}
-use Rattle.gb_fields.specs.Reading.{is_ordered, word, byte_between, nothing}
+use Rattle.gb_fields.specs.Reading.{is_between, is_ordered, word, byte_between, word_between, nothing}
 use Rattle.gb_domain.specs.Areas.{is_area, meets, is_free_byte}
 use Rattle.gb_domain.specs.RelationRules.{is_some_register, is_known, test_alone}
 
@@ -140,8 +140,16 @@ other_of n =
     else if n == 9 then Some (Pair De)
     else Some (Pair Hl)
 
-unfoldable pub other_at : Read (Option Other)
-other_at = mapped other_of (byte_between 0 10)
+-- a link's form: what else it reads, or, where links may have a width, 128 more
+abbrev pub is_form : Bool → ℕ → Bool
+is_form wide n = is_between 0 10 n || wide && is_between 129 138 n
+
+-- bits 0 to 4: what else the link reads; 7: it has a width
+abbrev pub to_form : ℕ → Option Other × Bool
+to_form n = (other_of (n % 128), nat_le 128 n)
+
+unfoldable pub form_at : Bool → Read (Option Other × Bool)
+form_at wide = mapped to_form (checked fault.Field (is_form wide) byte)
 
 -- a byte in two's complement as a word
 abbrev pub to_factor : ℕ → ℕ
@@ -150,46 +158,51 @@ to_factor n = if nat_lt n 128 then n else n + 65280
 unfoldable pub factor_at : Read ℕ
 factor_at = mapped to_factor (byte_between 1 255)
 
-abbrev pub to_link : Other → ℕ × ℕ → Option Link
-to_link other p = Some (record { other = other; factor = p.0; sum = p.1 })
+-- a width that is spelled
+unfoldable pub width_at : Read ℕ
+width_at = word_between 1 65535
 
--- no link, or the factor and the sum of one
-abbrev pub link_of : Option Other → Read (Option Link)
-link_of None = nothing None
-link_of (Some other) = mapped (to_link other) (both factor_at word)
+abbrev pub to_link : Other → ℕ × (ℕ × ℕ) → Option Link
+to_link other p = Some (record { other = other; factor = p.0; sum = p.1.0; width = p.1.1 })
 
-unfoldable pub link_at : Read (Option Link)
-link_at = mapped (λ p. p.1) (followed other_at link_of)
+-- no link, or the factor, the sum and the width of one
+abbrev pub link_of : Option Other → Bool → Read (Option Link)
+link_of None has_width = nothing None
+link_of (Some other) has_width = mapped (to_link other) (both factor_at (both word (defaulted 0 has_width width_at)))
+
+-- a link, which may have a width or may not
+unfoldable pub link_at : Bool → Read (Option Link)
+link_at wide = mapped (λ p. p.1) (followed (form_at wide) (λ f. link_of f.0 f.1))
 
 abbrev pub to_facts : Bounds × Option Link → PairFacts
 to_facts p = record { bounds = p.0; link = p.1 }
 
 -- what is known of a pair, which is something
-unfoldable pub facts_at : Read PairFacts
-facts_at = checked fault.Field is_known (mapped to_facts (both bounds_at link_at))
+unfoldable pub facts_at : Bool → Read PairFacts
+facts_at wide = checked fault.Field is_known (mapped to_facts (both bounds_at (link_at wide)))
 
 abbrev pub to_pairs : PairFacts × (PairFacts × PairFacts) → Pairs
 to_pairs p = record { bc = p.0; de = p.1.0; hl = p.1.1 }
 
-unfoldable pub pairs_at : Present → Read Pairs
-pairs_at p = mapped to_pairs (both (defaulted nothing_known p.bc facts_at) (both (defaulted nothing_known p.de facts_at) (defaulted nothing_known p.hl facts_at)))
+unfoldable pub pairs_at : Bool → Present → Read Pairs
+pairs_at wide p = mapped to_pairs (both (defaulted nothing_known p.bc (facts_at wide)) (both (defaulted nothing_known p.de (facts_at wide)) (defaulted nothing_known p.hl (facts_at wide))))
 
 -- ---- all of them
 
 abbrev pub to_relations : Present × (OneByte × (Option WordPair × Pairs)) → Relations
 to_relations p = record { byte = p.1.0; zero = p.1.1.0; pairs = p.1.1.1 }
 
--- those that there are; the test is the state's, and the one byte's place in memory is this
-abbrev pub parts_at : StackBytes → Option ℕ → InMemory → Present → Read (OneByte × (Option WordPair × Pairs))
-parts_at k test place p = both (defaulted no_byte p.byte (byte_at k test place p.bits)) (both (optional p.zero pair_at) (pairs_at p))
+-- those that there are; links may have a width or may not, the test is the state's, and the one byte's place in memory is this
+abbrev pub parts_at : Bool → StackBytes → Option ℕ → InMemory → Present → Read (OneByte × (Option WordPair × Pairs))
+parts_at wide k test place p = both (defaulted no_byte p.byte (byte_at k test place p.bits)) (both (optional p.zero pair_at) (pairs_at wide p))
 
--- Versions 1 to 3 name no items.
+-- Versions 1 to 3 name no items, and their links have no width.
 abbrev pub no_items : Region → StackBytes
 no_items region = record { region = region; base = 0; count = 0 }
 
 -- which there are, and these
 unfoldable pub relations_at : Region → Option ℕ → Read Relations
-relations_at region test = mapped to_relations (followed (present_at test) (λ p. parts_at (no_items region) test (place_by false p.address) p))
+relations_at region test = mapped to_relations (followed (present_at test) (λ p. parts_at false (no_items region) test (place_by false p.address) p))
 
 -- Versions 1 and 2 say nothing but the test, which is of A.
 abbrev pub relations_by : Rules → Region → Option ℕ → Read Relations

@@ -1,5 +1,5 @@
 -- The one spelling of what a state says of several of its parts together, in bytes (own format). Words have their low byte first.
-use Rattle.std.specs.Prelude.{ℕ, ◌+◌, ◌*◌, ◌%◌, Bool, true, false, List, [], ◌∷◌, ◌++◌, Option, Some, None, is_some}
+use Rattle.std.specs.Prelude.{ℕ, ◌+◌, ◌*◌, ◌%◌, Bool, true, false, not, ◌==◌, List, [], ◌∷◌, ◌++◌, Option, Some, None, is_some}
 use Rattle.gb_ops.specs.declared.op.Register.TheVariants.{A, B, C, D, E, H, L}
 use Rattle.gb_ops.specs.declared.registers.Registers.{Registers}
 use Rattle.gb_domain.specs.declared.pairs.WordPair.{WordPair}
@@ -77,10 +77,21 @@ other_number (Of H) = 5
 other_number (Of L) = 6
 other_number (Pair p) = 7 + pair_number p
 
--- 0, or 1 and what else is read, its factor in two's complement and the sum
+-- A width of 0 isn't spelled: there is one sum.
+abbrev pub has_width : ℕ → Bool
+has_width width = not (width == 0)
+
+abbrev pub width : ℕ → List ℕ
+width n = where_there (has_width n) (word n)
+
+-- what else a link reads, and 128 more where it has a width
+abbrev pub form_number : Other → ℕ → ℕ
+form_number other width = 128 * flag (has_width width) + (1 + other_number other)
+
+-- 0, or the form, its factor in two's complement, the sum and the width
 abbrev pub link : Option Link → List ℕ
 link None = 0 ∷ []
-link (Some l) = (1 + other_number l.other) ∷ l.factor % 256 ∷ word l.sum
+link (Some l) = form_number l.other l.width ∷ l.factor % 256 ∷ (word l.sum ++ width l.width)
 
 abbrev pub bounds : Bounds → List ℕ
 bounds b = word b.first ++ word b.last

@@ -265,7 +265,7 @@ place_of d = place_by d.1.item d.0.address
 
 -- these two, and then the parts; the test is the state's
 unfoldable pub told_at : ℕ → StackBytes → Bool → Option ℕ → Read (Relations × SummaryParts)
-told_at facts k may_be_aside test = mapped to_told (followed (present_declared_at k may_be_aside test) (λ d. both (parts_at k test (place_of d) d.0) (summary_at facts k.region d.1)))
+told_at facts k may_be_aside test = mapped to_told (followed (present_declared_at k may_be_aside test) (λ d. both (parts_at true k test (place_of d) d.0) (summary_at facts k.region d.1)))
 
 abbrev pub to_state : Tested × (List Val × ((Relations × SummaryParts) × List Cell)) → AbsState
 to_state p = record { core = p.0.0; items = p.1.0; cells = p.1.1.1; relations = p.1.1.0.0; summary = p.1.1.0.1 }

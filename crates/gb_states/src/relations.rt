@@ -5,7 +5,7 @@ ghost use Rattle.gb_fields.specs.Format.{Gives, optional, byte};
 ghost use Rattle.gb_domain.specs.Pairs.{nothing_known};
 ghost use Rattle.gb_domain.specs.Places.{no_byte};
 ghost use Rattle.gb_domain.specs.RelationRules.{is_known, compared_a, test_alone};
-ghost use Rattle.gb_states.specs.RelationReading.{defaulted, is_present, present_at, to_registers, registers_at, address_at, is_stack_byte, item_address, is_item_number, item_at, is_somewhere, place_by, memory_at, test_of, byte_at, pair_of, pair_at, bounds_at, other_of, other_at, factor_at, link_of, link_at, facts_at, pairs_at, parts_at, no_items, relations_at, relations_by};
+ghost use Rattle.gb_states.specs.RelationReading.{defaulted, is_present, present_at, to_registers, registers_at, address_at, is_stack_byte, item_address, is_item_number, item_at, is_somewhere, place_by, memory_at, test_of, byte_at, pair_of, pair_at, bounds_at, other_of, is_form, form_at, factor_at, width_at, link_of, link_at, facts_at, pairs_at, parts_at, no_items, relations_at, relations_by};
 
 use crate::states::{is_free, is_in_ram};
 use gb_domain::pairs::{Bounds, Link, NOTHING_KNOWN, Other, PairFacts, Pairs, WordPair};
@@ -13,7 +13,7 @@ use gb_domain::places::{NO_REGISTER, OneByte, StackBytes, Test, is_some_register
 use gb_domain::relations::Relations;
 use gb_domain::types::Rules;
 use gb_fields::CertFault;
-use gb_fields::numbers::{byte, byte_between, word};
+use gb_fields::numbers::{byte, byte_between, word, word_between};
 use gb_ops::machine::Region;
 use gb_ops::op::Register;
 use gb_ops::registers::Registers;
@@ -327,13 +327,23 @@ fn other_of(number: u8) -> Option<Other>
     }
 }
 
-/// What a link reads beside its pair, where there is a link.
-#[tactic(auto, unfolding(crate::specs::RelationReading::other_at))]
-fn other_at(bytes: &[u8]) -> Result<(Option<Other>, &[u8]), CertFault>
-    ensures { Gives (λ x. (x.0, x.1.now)) result (other_at bytes.now) }
+/// Whether a link's form is what else it reads, or, where links may have a width, 128 more.
+fn is_form(wide: bool, number: u8) -> bool
+    ensures { result ≡ is_form wide number }
 {
-    let (number, rest) = byte_between(0, 10, bytes)?;
-    Ok((other_of(number), rest))
+    number <= 10 || wide && 129 <= number && number <= 138
+}
+
+/// What a link reads beside its pair, where there is a link, and whether it has a width.
+#[tactic(auto, unfolding(crate::specs::RelationReading::form_at))]
+fn form_at(wide: bool, bytes: &[u8]) -> Result<((Option<Other>, bool), &[u8]), CertFault>
+    ensures { Gives (λ x. ((x.0.0, x.0.1), x.1.now)) result (form_at wide bytes.now) }
+{
+    let (number, rest) = byte(bytes)?;
+    if !is_form(wide, number) {
+        return Err(CertFault::Field);
+    }
+    Ok(((other_of(number % 128), 128 <= number), rest))
 }
 
 /// A factor, which is spelled in two's complement, modulo 65,536.
@@ -350,25 +360,47 @@ fn factor_at(bytes: &[u8]) -> Result<(u16, &[u8]), CertFault>
     Ok((factor, rest))
 }
 
-/// A link, where there is one: its factor and its sum behind what it reads.
-fn link_of(other: Option<Other>, bytes: &[u8]) -> Result<(Option<Link>, &[u8]), CertFault>
-    ensures { Gives (λ x. (x.0, x.1.now)) result (link_of other bytes.now) }
+/// A width, where it is spelled.
+#[tactic(auto, unfolding(crate::specs::RelationReading::width_at))]
+fn width_where(there: bool, bytes: &[u8]) -> Result<(u16, &[u8]), CertFault>
+    ensures { Gives (λ x. (x.0, x.1.now)) result (defaulted 0 there width_at bytes.now) }
+{
+    if there {
+        word_between(1, 0xFFFF, bytes)
+    } else {
+        Ok((0, bytes))
+    }
+}
+
+/// A link, where there is one: its factor, its sum and its width behind its form.
+fn link_of(
+    other: Option<Other>,
+    has_width: bool,
+    bytes: &[u8],
+) -> Result<(Option<Link>, &[u8]), CertFault>
+    ensures { Gives (λ x. (x.0, x.1.now)) result (link_of other has_width bytes.now) }
 {
     let Some(other) = other else {
         return Ok((None, bytes));
     };
     let (factor, rest) = factor_at(bytes)?;
     let (sum, rest) = word(rest)?;
-    let link = Link { other, factor, sum };
+    let (width, rest) = width_where(has_width, rest)?;
+    let link = Link {
+        other,
+        factor,
+        sum,
+        width,
+    };
     Ok((Some(link), rest))
 }
 
 #[tactic(auto, unfolding(crate::specs::RelationReading::link_at))]
-fn link_at(bytes: &[u8]) -> Result<(Option<Link>, &[u8]), CertFault>
-    ensures { Gives (λ x. (x.0, x.1.now)) result (link_at bytes.now) }
+fn link_at(wide: bool, bytes: &[u8]) -> Result<(Option<Link>, &[u8]), CertFault>
+    ensures { Gives (λ x. (x.0, x.1.now)) result (link_at wide bytes.now) }
 {
-    let (other, rest) = other_at(bytes)?;
-    link_of(other, rest)
+    let ((other, has_width), rest) = form_at(wide, bytes)?;
+    link_of(other, has_width, rest)
 }
 
 /// Whether a pair isn't any word, or has a link.
@@ -379,11 +411,11 @@ fn is_known(facts: PairFacts) -> bool
 }
 
 #[tactic(auto, unfolding(crate::specs::RelationReading::facts_at))]
-fn facts_at(bytes: &[u8]) -> Result<(PairFacts, &[u8]), CertFault>
-    ensures { Gives (λ x. (x.0, x.1.now)) result (facts_at bytes.now) }
+fn facts_at(wide: bool, bytes: &[u8]) -> Result<(PairFacts, &[u8]), CertFault>
+    ensures { Gives (λ x. (x.0, x.1.now)) result (facts_at wide bytes.now) }
 {
     let (bounds, rest) = bounds_at(bytes)?;
-    let (link, rest) = link_at(rest)?;
+    let (link, rest) = link_at(wide, rest)?;
     let facts = PairFacts { bounds, link };
     if !is_known(facts) {
         return Err(CertFault::Field);
@@ -392,23 +424,23 @@ fn facts_at(bytes: &[u8]) -> Result<(PairFacts, &[u8]), CertFault>
 }
 
 /// What is known of a pair, where it is there.
-fn facts_where(there: bool, bytes: &[u8]) -> Result<(PairFacts, &[u8]), CertFault>
-    ensures { Gives (λ x. (x.0, x.1.now)) result (defaulted nothing_known there facts_at bytes.now) }
+fn facts_where(wide: bool, there: bool, bytes: &[u8]) -> Result<(PairFacts, &[u8]), CertFault>
+    ensures { Gives (λ x. (x.0, x.1.now)) result (defaulted nothing_known there (facts_at wide) bytes.now) }
 {
     if there {
-        facts_at(bytes)
+        facts_at(wide, bytes)
     } else {
         Ok((NOTHING_KNOWN, bytes))
     }
 }
 
 #[tactic(auto, unfolding(crate::specs::RelationReading::pairs_at))]
-fn pairs_at(present: Present, bytes: &[u8]) -> Result<(Pairs, &[u8]), CertFault>
-    ensures { Gives (λ x. (x.0, x.1.now)) result (pairs_at present bytes.now) }
+fn pairs_at(wide: bool, present: Present, bytes: &[u8]) -> Result<(Pairs, &[u8]), CertFault>
+    ensures { Gives (λ x. (x.0, x.1.now)) result (pairs_at wide present bytes.now) }
 {
-    let (bc, rest) = facts_where(present.bc, bytes)?;
-    let (de, rest) = facts_where(present.de, rest)?;
-    let (hl, rest) = facts_where(present.hl, rest)?;
+    let (bc, rest) = facts_where(wide, present.bc, bytes)?;
+    let (de, rest) = facts_where(wide, present.de, rest)?;
+    let (hl, rest) = facts_where(wide, present.hl, rest)?;
     Ok((Pairs { bc, de, hl }, rest))
 }
 
@@ -417,19 +449,21 @@ fn pairs_at(present: Present, bytes: &[u8]) -> Result<(Pairs, &[u8]), CertFault>
 /// One byte's places, what is zero, and the pairs.
 pub(crate) type Parts = (OneByte, (Option<WordPair>, Pairs));
 
-/// Those parts that there are; the test is the state's, and the one byte's place in memory is this.
+/// Those parts that there are; links may have a width or may not, the test is the state's, and the one byte's place in memory is
+/// this.
 pub(crate) fn parts_at(
+    wide: bool,
     stack: StackBytes,
     test: Option<u8>,
     place: InMemory,
     present: Present,
     bytes: &[u8],
 ) -> Result<(Parts, &[u8]), CertFault>
-    ensures { Gives (λ x. (x.0, x.1.now)) result (parts_at stack test place present bytes.now) }
+    ensures { Gives (λ x. (x.0, x.1.now)) result (parts_at wide stack test place present bytes.now) }
 {
     let (byte, rest) = byte_where(stack, test, place, present, bytes)?;
     let (zero, rest) = zero_where(present.zero, rest)?;
-    let (pairs, rest) = pairs_at(present, rest)?;
+    let (pairs, rest) = pairs_at(wide, present, rest)?;
     Ok(((byte, (zero, pairs)), rest))
 }
 
@@ -456,7 +490,8 @@ pub fn relations_at(
 {
     let (present, rest) = present_at(test, bytes)?;
     let place = InMemory::by(false, present.address);
-    let ((byte, (zero, pairs)), rest) = parts_at(no_items(region), test, place, present, rest)?;
+    let stack = no_items(region);
+    let ((byte, (zero, pairs)), rest) = parts_at(false, stack, test, place, present, rest)?;
     Ok((Relations { byte, zero, pairs }, rest))
 }
 

@@ -1,6 +1,6 @@
 //! Reading states of version 4, which speaks of whole programs.
 
-ghost use Rattle.std.specs.Prelude.{◌≡◌, ◌≤◌, IfOk};
+ghost use Rattle.std.specs.Prelude.{◌≡◌, ◌≤◌, IfOk, true};
 ghost use Rattle.gb_domain.specs.declared.rules.Rules.TheVariants.{Extended};
 ghost use Rattle.gb_domain.specs.Limits.{cell_room};
 ghost use Rattle.gb_domain.specs.Rules.{after_cell};
@@ -242,11 +242,11 @@ fn both_parts_at(
     there: (Present, Declared),
     bytes: &[u8],
 ) -> Result<((Parts, Summary), &[u8]), CertFault>
-    ensures { Gives (λ x. ((x.0.0, x.0.1), x.1.now)) result (both (parts_at stack test (place_of there) there.0) (summary_at facts stack.region there.1) bytes.now) }
+    ensures { Gives (λ x. ((x.0.0, x.0.1), x.1.now)) result (both (parts_at true stack test (place_of there) there.0) (summary_at facts stack.region there.1) bytes.now) }
 {
     let (present, declared) = there;
     let place = InMemory::by(declared.item, present.address);
-    let (parts, rest) = parts_at(stack, test, place, present, bytes)?;
+    let (parts, rest) = parts_at(true, stack, test, place, present, bytes)?;
     let (summary, rest) = summary_at(facts, stack.region, declared, rest)?;
     Ok(((parts, summary), rest))
 }
