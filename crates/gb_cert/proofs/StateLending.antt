@@ -24,7 +24,7 @@ use Rattle.gb_states.specs.Below.gb_fields.Format.{go_on}
 use Rattle.gb_states.specs.Below.gb_fields.Limits.{unit, item_limit}
 use Rattle.gb_states.specs.RelationSpelling as told
 use Rattle.gb_states.specs.Rules.{is_whole, is_sayable, are_sayable, is_all_or_none, is_core_sayable, is_cell_sayable, is_silent, is_unshadowed, is_state_sayable, IsState}
-use Rattle.gb_states.specs.WholeRules.{may_be_aside, stack_bytes}
+use Rattle.gb_states.specs.WholeRules.{may_be_aside, item_base, stack_bytes}
 use Rattle.gb_domain.specs.Areas.{is_free_byte, is_place_at}
 use Rattle.gb_states.specs.declared.form.ProcedureForm.{ProcedureForm}
 use Rattle.gb_states.specs.Forms.{is_fourth, IsFit, IsStateBy, spelled_by}
@@ -54,7 +54,7 @@ count_by (Fourth facts form) n = n
 -- what is known of several parts together and said of the whole program
 abbrev told_of : Form → Region → AbsState → List ℕ
 told_of (Older rules) region s = told.relations_by rules s.relations
-told_of (Fourth facts form) region s = spelled.told region form.base (s.relations, s.summary)
+told_of (Fourth facts form) region s = spelled.told region (item_base form.base region) (s.relations, s.summary)
 
 abbrev core_of : Form → AbsState → List ℕ
 core_of form s = core_by (λ k. kept_number_by form k) s.core (compared s.relations.byte.test)
@@ -115,7 +115,7 @@ older-spelling rules s h =
     let p = sayable-parts rules s h in
     rw (again.older-core rules s.core (compared s.relations.byte.test) p.0, again.older-vals rules s.items p.1.0, again.older-cells rules s.cells p.1.1.0) refl
 
-fourth-spelling : (facts : ℕ) (form : ProcedureForm) (region : Region) (s : AbsState) → spelled.state region form.base s ≡ core_of (Fourth facts form) s ++ ((length s.items ∷ flat_map spelled.val s.items) ++ (spelled.told region form.base (s.relations, s.summary) ++ (length s.cells ∷ flat_map spelled.cell s.cells)))
+fourth-spelling : (facts : ℕ) (form : ProcedureForm) (region : Region) (s : AbsState) → spelled.state region form.base s ≡ core_of (Fourth facts form) s ++ ((length s.items ∷ flat_map spelled.val s.items) ++ (spelled.told region (item_base form.base region) (s.relations, s.summary) ++ (length s.cells ∷ flat_map spelled.cell s.cells)))
 unfolding spelled.state
 fourth-spelling facts form region s = rw (again.fourth-core s.core (compared s.relations.byte.test)) refl
 
@@ -417,13 +417,13 @@ told-none (Fourth facts form) role region s behind is h =
     let address = spelled.is_address place in
     let p = told.present_number (told.present_by address s.relations) in
     let d = spelled.declared_number (spelled.declared_in (spelled.is_item place) s.summary) in
-    let parts : List ℕ = told.parts_by (spelled.memory region form.base s.relations.byte.address) s.relations in
+    let parts : List ℕ = told.parts_by (spelled.memory region (item_base form.base region) s.relations.byte.address) s.relations in
     let after : List ℕ = (parts ++ spelled.summary s.summary) ++ (length s.cells ∷ behind) in
     let k = and_both (p == 0) (begins_with_zeros (d ∷ after)) h in
     let l = and_both (d == 0) (begins_with_zero after) k.1 in
     let nothing = nothing-known may_be address s.relations is.relations (eqb-true p 0 k.0) in
     let silent = undeclared (spelled.is_item place) s.summary (eqb-true d 0 l.0) in
-    let none : parts ≡ [] = ap (λ (r : Relations). told.parts_by (spelled.memory region form.base r.byte.address) r) nothing ∙ no-parts region form.base in
+    let none : parts ≡ [] = ap (λ (r : Relations). told.parts_by (spelled.memory region (item_base form.base region) r.byte.address) r) nothing ∙ no-parts region (item_base form.base region) in
     let summary : spelled.summary s.summary ≡ [] = ap spelled.summary silent ∙ nothing-said in
     let rest : begins_with_zero (length s.cells ∷ behind) ≡ true = ap (λ (b : List ℕ). begins_with_zero (b ++ (length s.cells ∷ behind))) (sym (ap (λ (b : List ℕ). b ++ spelled.summary s.summary) none ∙ summary)) ∙ l.1 in
     (no-cells s.cells rest, (alone may_be address s.relations is.relations (eqb-true p 0 k.0), silent))

@@ -18,6 +18,7 @@ use Rattle.gb_states.specs.Numbers.{word, node_number}
 use Rattle.gb_states.specs.RelationSpelling.{relations_by}
 use Rattle.gb_states.specs.declared.form.ProcedureForm.{ProcedureForm}
 use Rattle.gb_states.specs.Spelling as older
+use Rattle.gb_states.specs.WholeRules.{item_base}
 use Rattle.gb_states.specs.WholeSpelling as whole
 use Rattle.gb_cert.specs.declared.writer.Version.{Version}
 use Rattle.gb_cert.specs.Written.{number_of, is_fourth, rules_in}
@@ -58,7 +59,7 @@ items version vs = length vs / unit (rules_in version) ∷ flat_map (val version
 
 -- what is known of several parts together, and in version 4 what is said of the whole program
 abbrev pub told_by : Bool → Rules → Region → ℕ → Relations × SummaryParts → List ℕ
-told_by true rules region base p = whole.told region base p
+told_by true rules region base p = whole.told region (item_base base region) p
 told_by false rules region base p = relations_by rules p.0
 
 -- a core with its test, items, what is known and said, and cells, in a procedure with this base

@@ -14,6 +14,7 @@ use gb_domain::summary::Summary;
 use gb_domain::types::{Abs, Cell, Core, Ctl, Flg, ImeSet, KeptBanks, May, Origin, Rules, Val};
 use gb_ops::machine::Region;
 use gb_ops::registers::Registers;
+use gb_states::whole_states::item_base;
 use std::alloc::AllocError;
 
 /// Adds bytes.
@@ -262,7 +263,7 @@ fn put_told_by(
     ensures { OnOk result (out.new.items ≡ out.old.items ++ by_version.told_by (is_fourth version) (rules_in version) region base (relations.now, summary.now)) }
 {
     if version.is_fourth() {
-        put_told(region, base, relations, summary, out)
+        put_told(region, item_base(base, region), relations, summary, out)
     } else {
         put_relations_by(version.rules(), relations, out)
     }

@@ -274,8 +274,8 @@ fn put_told_by(
     put_summary(summary, out)
 }
 
-/// Adds what is known of several parts together and what is said of the whole program, in a procedure with this base: an address in
-/// the region is that of an item.
+/// Adds what is known of several parts together and what is said of the whole program, where items are counted from this base: an
+/// address in the region is that of an item.
 #[tactic(auto, unfolding(gb_states::specs::WholeSpelling::told))]
 pub(crate) fn put_told(
     region: Region,

@@ -248,23 +248,35 @@ reduced_wholly_sound program Simple core r cells s are = same_whole program cell
 reduced_wholly_sound program Extended core r cells s are =
     with_banks_cut_sound program cells s core r (reduced Extended core r) _ (reduced_sound Extended core r _ refl (are refl)) refl
 
--- SP stays set
-pub with_banks_cut_stack :
+-- SP stays set, and the one byte keeps its places
+abbrev pub AreKept : Core → Relations → Product → Type 0
+AreKept core r p = (p.core.stack_set ≡ core.stack_set) × (p.relations.byte ≡ r.byte)
+
+with_banks_cut_kept :
     (program : Program) (cells : List Cell) (s : SummaryParts) (core : Core) (r : Relations) (o q : Option Product)
-    → IfSome o (IsReduced core r) → q ≡ option_and_then (with_banks_cut program cells s) o → IfSome q (λ p. p.core.stack_set ≡ core.stack_set)
-with_banks_cut_stack program cells s core r o q cut e = subst (λ t. IfSome t (λ p. p.core.stack_set ≡ core.stack_set)) (sym e) (by o cut)
+    → IfSome o (IsReduced core r) → q ≡ option_and_then (with_banks_cut program cells s) o → IfSome q (AreKept core r)
+with_banks_cut_kept program cells s core r o q cut e = subst (λ t. IfSome t (AreKept core r)) (sym e) (by o cut)
   where
-    by : (t : Option Product) → IfSome t (IsReduced core r) → IfSome (option_and_then (with_banks_cut program cells s) t) (λ p. p.core.stack_set ≡ core.stack_set)
+    by : (t : Option Product) → IfSome t (IsReduced core r) → IfSome (option_and_then (with_banks_cut program cells s) t) (AreKept core r)
     by None h = tt
     by (Some p) h = choose (reduced_controller program (values_of p.core.registers p.relations.pairs) cells s p.core.ctl)
       where
-        choose : (d : Option Ctl) → IfSome (option_map (λ c. product_of (record p.core { ctl = c }) p.relations) d) (λ t. t.core.stack_set ≡ core.stack_set)
+        choose : (d : Option Ctl) → IfSome (option_map (λ c. product_of (record p.core { ctl = c }) p.relations) d) (AreKept core r)
         choose None = tt
-        choose (Some c) = h.core.stack_set
+        choose (Some c) = (h.core.stack_set, h.relations.byte)
 
-pub reduced_wholly_stack :
+pub with_banks_cut_stack :
+    (program : Program) (cells : List Cell) (s : SummaryParts) (core : Core) (r : Relations) (o q : Option Product)
+    → IfSome o (IsReduced core r) → q ≡ option_and_then (with_banks_cut program cells s) o → IfSome q (λ p. p.core.stack_set ≡ core.stack_set)
+with_banks_cut_stack program cells s core r o q cut e = set q (with_banks_cut_kept program cells s core r o q cut e)
+  where
+    set : (t : Option Product) → IfSome t (AreKept core r) → IfSome t (λ p. p.core.stack_set ≡ core.stack_set)
+    set None h = tt
+    set (Some p) h = h.0
+
+pub reduced_wholly_kept :
     (program : Program) (rules : Rules) (core : Core) (r : Relations) (cells : List Cell) (s : SummaryParts)
-    → IfSome (reduced_wholly program rules core r cells s) (λ p. p.core.stack_set ≡ core.stack_set)
+    → IfSome (reduced_wholly program rules core r cells s) (AreKept core r)
 unfolding reduced_wholly reduced
-reduced_wholly_stack program Simple core r cells s = refl
-reduced_wholly_stack program Extended core r cells s = with_banks_cut_stack program cells s core r (reduced Extended core r) _ (reduced_cuts Extended core r _ refl) refl
+reduced_wholly_kept program Simple core r cells s = (refl, refl)
+reduced_wholly_kept program Extended core r cells s = with_banks_cut_kept program cells s core r (reduced Extended core r) _ (reduced_cuts Extended core r _ refl) refl

@@ -1,5 +1,5 @@
 -- Where the items of a stack lie that may be places.
-use Rattle.std.proofs.Common.{◌≡◌, ℕ, ◌+◌, ◌<◌, ◌≤◌, Bool, true, false, ◌==◌, cond, Option, Some, None, refl, subst, ap, arith}
+use Rattle.std.proofs.Common.{◌≡◌, ℕ, ◌+◌, ◌<◌, ◌≤◌, Bool, true, false, ◌==◌, ◌&&◌, ◌||◌, not, cond, nat_le, nat_lt, Option, Some, None, refl, subst, ap, arith}
 use Rattle.std.proofs.lemmas.Bool.Decides.{nat_tests}
 use Rattle.gb_ops.specs.declared.machine.Region.{Region}
 use Rattle.gb_ops.specs.declared.registers.Registers.{Registers}
@@ -9,7 +9,7 @@ use Rattle.gb_domain.specs.declared.places.OneByte.{OneByte}
 use Rattle.gb_domain.specs.declared.places.StackBytes.{StackBytes}
 use Rattle.gb_domain.specs.declared.relations.Relations.{Relations}
 use Rattle.gb_domain.specs.declared.setting.Setting.{Setting}
-use Rattle.gb_domain.specs.Areas.{is_item, is_place_at}
+use Rattle.gb_domain.specs.Areas.{are_in_ram, meets, is_item, is_place_at}
 use Rattle.gb_domain.specs.Settings.{known_base, IsBase}
 use Rattle.gb_abs_effects.specs.Below.gb_abs.Storage.{peek}
 use Rattle.gb_summaries.specs.Below.gb_copies.Sound.{IsPartOf}
@@ -89,6 +89,20 @@ held_placed z region n m b h = (held_places_left (stack_held z region m) b _ ref
 of_stack : (z : Setting) (region : Region) (n : ℕ) (o : Option ℕ) → IsBytePlaced (stack_held z region n) o → IsBytePlaced (record { region = region; base = (stack_held z region n).base; count = n }) o
 unfolding stack_held
 of_stack z region n o h = h
+
+item_more : (base n m a : ℕ) → n ≤ m → is_item base n a ≡ true → is_item base m a ≡ true
+item_more base n m a more h = let k = among base n a h in grind (arith, nat_tests, k.below, k.above, more)
+
+or_more : (base n m a : ℕ) (area apart : Bool) → n ≤ m → (area && (apart || is_item base n a)) ≡ true → (area && (apart || is_item base m a)) ≡ true
+or_more base n m a true true more h = refl
+or_more base n m a true false more h = item_more base n m a more h
+or_more base n m a false apart more h = h
+
+-- What was an item is one still where more are held.
+pub placed_more : (z : Setting) (region : Region) (n m : ℕ) (o : Option ℕ) → n ≤ m → IsBytePlaced (stack_held z region n) o → IsBytePlaced (stack_held z region m) o
+unfolding stack_held
+placed_more z region n m None more h = tt
+placed_more z region n m (Some a) more h = or_more (cond z.is_whole z.base 0) n m a (nat_le a a && are_in_ram a a) (not (meets region a a)) more h
 
 -- without items it lies outside the stack
 pub outside_free : (z : Setting) (region : Region) (n : ℕ) (b : OneByte) → IsBytePlaced (stack_held z region n) b.address → IsByteFree region (places_outside region b).address

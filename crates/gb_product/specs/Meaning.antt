@@ -28,7 +28,7 @@ pub record Means (abs : AbsState) (entry : Activation) (base : ℕ) (x : MState)
   pub related : AreRelated abs.relations x
   pub summary : IsSummarized abs entry x
 
--- what a state of a procedure knows of memory lies in RAM outside the stack region; a byte's address may be an item's
+-- what a state of a procedure that a run reaches knows of memory lies in RAM outside the stack region; a byte's address may be an item's
 pub record IsApart (z : Setting) (region : Region) (abs : AbsState) : Type 0 where
   pub cells : ArePlaced region abs.cells
   pub byte : IsBytePlaced (stack_held z region (length abs.items)) abs.relations.byte.address

@@ -27,6 +27,7 @@ use Rattle.gb_command_line.specs.Below.gb_verify.Below.gb_states.Rules.{may_be_o
 use Rattle.gb_command_line.specs.Below.gb_verify.Below.gb_states.Numbers.{word, quad}
 use Rattle.gb_command_line.specs.Below.gb_verify.Below.gb_states.RelationSpelling as told
 use Rattle.gb_command_line.specs.Below.gb_verify.Below.gb_states.Spelling as spelled
+use Rattle.gb_command_line.specs.Below.gb_verify.Below.gb_states.WholeRules.{item_base}
 use Rattle.gb_command_line.specs.Below.gb_verify.Below.gb_states.WholeSpelling as whole
 use Rattle.gb_command_line.specs.Below.gb_verify.Widened.{below_items, above_return_word, widened_node, widened_procedure}
 use Rattle.gb_program.specs.Fourth.{bank_by, fourth_ctl, fourth_state, fourth_node, fourth_procedure, has_return_word, widened_node_by, widened_procedure_by, IsFree, IsOlder}
@@ -179,7 +180,7 @@ state_text region base is_entered s free h =
     let items : List ℕ = spelled.counted whole.val (below_items is_entered ++ s.items) in
     let said : List ℕ = told.present_number (told.present_in s.relations) ∷ 0 ∷ told.parts s.relations in
     let cells : List ℕ = spelled.counted whole.cell s.cells in
-    append_assoc (core ++ items) said cells ∙ append_assoc core items (said ++ cells) ∙ ap (λ (t : List ℕ). core ++ (items ++ (t ++ cells))) (silent_text region base s.summary s.relations free h)
+    append_assoc (core ++ items) said cells ∙ append_assoc core items (said ++ cells) ∙ ap (λ (t : List ℕ). core ++ (items ++ (t ++ cells))) (silent_text region (item_base base region) s.summary s.relations free h)
 
 -- ---- texts that grow
 

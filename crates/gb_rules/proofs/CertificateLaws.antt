@@ -1,5 +1,5 @@
 -- What certificates of any version have in common: the parts of their states, nodes and procedures.
-use Rattle.std.proofs.Common.{◌≡◌, ℕ, ◌-◌, ◌%◌, ◌<◌, ◌==◌, Bool, true, false, not, ◌&&◌, ◌||◌, nat_le, nat_lt, List, [], ◌∷◌, length, Option, Some, None, refl, sym, ◌∙◌, subst, arith, ap, cond}
+use Rattle.std.proofs.Common.{◌≡◌, ℕ, ◌-◌, ◌%◌, ◌<◌, ◌==◌, ◌⊎◌, inl, inr, Bool, true, false, not, ◌&&◌, ◌||◌, nat_le, nat_lt, List, [], ◌∷◌, length, Option, Some, None, refl, sym, ◌∙◌, subst, arith, ap, cond}
 use Rattle.std.proofs.lemmas.Bool.{and_parts, not-true, eqb-true}
 use Rattle.std.proofs.lemmas.Bool.Decides.{nat_tests}
 use Rattle.std.specs.Prelude.{IfSome, is_some}
@@ -23,16 +23,15 @@ use Rattle.gb_successors.specs.Below.gb_domain.Types.{AbsState, ProcedureParts, 
 use Rattle.gb_calls.specs.Below.gb_states.declared.role.Role.{Role}
 use Rattle.gb_calls.specs.Below.gb_states.declared.role.Role.TheVariants as role
 use Rattle.gb_calls.specs.Below.gb_states.Rules.{fits, is_base_of, is_silent, is_sayable, is_core_sayable, is_cell_sayable, is_state_sayable, needs_stack, may_be_pushed, role_of, IsRange, after_range, is_after, IsState}
-use Rattle.gb_calls.specs.Below.gb_states.WholeRules.{IsValIn, IsStretch, IsFact, IsFill, IsSummary, AreFactsBy, IsCoreIn, IsCellIn, IsStateIn, IsProcedureBy, IsNodeBy, IsCertificate, IsWithin, may_be_aside, procedure_form, named_items, stack_bytes}
+use Rattle.gb_calls.specs.Below.gb_states.WholeRules.{IsValIn, IsStretch, IsFact, IsFill, IsSummary, AreFactsBy, IsCoreIn, IsCellIn, IsStateIn, IsProcedureBy, IsNodeBy, IsCertificate, IsWithin, may_be_aside, procedure_form, item_base, stack_bytes}
 use Rattle.gb_calls.proofs.Below.gb_states_laws.SummaryLaws.{silent-is}
 use Rattle.gb_successors.specs.Below.gb_abs.Cells.{ArePlaced}
 use Rattle.gb_successors.specs.Below.gb_abs_memory.Sound.{AreVals}
 use Rattle.gb_successors.specs.Below.gb_product.Below.gb_summaries.Below.gb_ram_bounds.Facts.{has_address}
 use Rattle.gb_successors.specs.Below.gb_product.Below.gb_summaries.Elsewhere.{IsFreeFact, IsFreeFill, AreFreeFacts, IsFree}
 use Rattle.gb_successors.specs.Below.gb_relations.Places.{is_free}
-use Rattle.gb_successors.specs.Below.gb_relations.Sound.{IsByteFree, IsBytePlaced}
+use Rattle.gb_successors.specs.Below.gb_relations.Sound.{IsByteFree}
 use Rattle.gb_calls.specs.Below.gb_states.declared.form.ProcedureForm.{ProcedureForm}
-use Rattle.gb_successors.specs.Below.gb_domain.declared.places.StackBytes.{StackBytes}
 use Rattle.gb_successors.specs.Below.gb_domain.Pairs.{ArePairs}
 
 -- ---- versions
@@ -134,6 +133,7 @@ pub record HasStateParts (rules : Rules) (of : Role) (region : Region) (s : AbsS
   pub apart : IsFree region s.summary
   pub aside : IfSome s.summary.aside (λ b. b.last < 65536)
   pub left : of ≡ role.Exit → s.summary.aside ≡ None
+  pub place : (rules ≡ Simple) ⊎ (of ≡ role.Exit) → IsByteFree region s.relations.byte.address
 
 not_aside : (s : SummaryParts) → s ≡ no_summary → s.aside ≡ None
 not_aside s e = ap (λ (m : SummaryParts). m.aside) e
@@ -150,6 +150,25 @@ none_left role.Exit core None e h = refl
 none_left role.Exit core (Some b) e h = cc
 none_left role.Main core o e h = absurd (let bad : role.Main ≡ role.Exit = e in cc)
 none_left role.Other core o e h = absurd (let bad : role.Other ≡ role.Exit = e in cc)
+
+-- an exit names no item as a place
+free_exit : (form : ProcedureForm) (r : Role) (region : Region) (count : ℕ) (o : Option ℕ) → r ≡ role.Exit → IfSome o (λ a. is_place_at (stack_bytes form r region count) a ≡ true) → IsByteFree region o
+free_exit form r region count None e h = tt
+free_exit form role.Exit region count (Some a) e h = by (item_base form.base region) a (meets region a a) h
+  where
+    no_item : (base a : ℕ) → is_item base 0 a ≡ false
+    no_item base a = grind (arith, nat_tests)
+
+    of_place : (order ram apart item : Bool) → item ≡ false → ((order && ram) && (apart || item)) ≡ true → (ram && apart) ≡ true
+    of_place true true true item e h = refl
+    of_place true true false item e h = sym e ∙ h
+    of_place true false apart item e h = cc
+    of_place false ram apart item e h = cc
+
+    by : (base a : ℕ) (met : Bool) → ((nat_le a a && are_in_ram a a) && (not met || is_item base 0 a)) ≡ true → (are_in_ram a a && not met) ≡ true
+    by base a met h = of_place (nat_le a a) (are_in_ram a a) (not met) (is_item base 0 a) (no_item base a) h
+free_exit form role.Main region count (Some a) e h = absurd (let bad : role.Main ≡ role.Exit = e in cc)
+free_exit form role.Other region count (Some a) e h = absurd (let bad : role.Other ≡ role.Exit = e in cc)
 
 placed_from : (region : Region) (least : ℕ) (cells : List Cell) → IsChain (IsCell region) after_cell least cells → ArePlaced region cells
 placed_from region least [] h = tt
@@ -173,6 +192,7 @@ has_parts rules role region s h = record {
   apart = free_quiet region s.summary (nothing_said rules s h.sayable);
   aside = small_none s.summary.aside (not_aside s.summary (nothing_said rules s h.sayable));
   left = λ exit. not_aside s.summary (nothing_said rules s h.sayable);
+  place = λ plain. free_from region s.relations.byte.address h.relations.byte.address;
 }
 
 core_in : (kept : ℕ) (c : Core) → IsCoreIn kept c → IsCore c
@@ -192,6 +212,10 @@ vals_in : (kept : ℕ) (region : Region) (least : ℕ) (cells : List Cell) → I
 vals_in kept region least [] h = tt
 vals_in kept region least (c ∷ rest) h = (h.0.val.val, vals_in kept region (after_cell c) rest h.1)
 
+free_in : (form : ProcedureForm) (r : Role) (region : Region) (count : ℕ) (o : Option ℕ) → IfSome o (λ a. is_place_at (stack_bytes form r region count) a ≡ true) → (Extended ≡ Simple) ⊎ (r ≡ role.Exit) → IsByteFree region o
+free_in form r region count o h (inl e) = unlike e
+free_in form r region count o h (inr e) = free_exit form r region count o e h
+
 -- one of version 4
 has_parts_in : (facts : ℕ) (form : ProcedureForm) (role : Role) (region : Region) (s : AbsState) → IsStateIn facts form role region s → HasStateParts Extended role region s
 has_parts_in facts form role region s h = record {
@@ -206,56 +230,27 @@ has_parts_in facts form role region s h = record {
   apart = free_summary facts region _ s.summary h.summary;
   aside = small_within s.summary.aside h.summary.aside;
   left = λ exit. none_left role s.core s.summary.aside exit h.summary.may;
+  place = free_in form role region (length s.items) s.relations.byte.address h.relations.byte.address;
 }
 
 -- ---- nodes
 
--- the stack that a node's places may lie in: in versions 1 to 3 no item is one
-abbrev pub node_stack : Bool → ProcedureForm → Region → Node → StackBytes
-node_stack fourth form region n = record { region = region; base = cond fourth form.base 0; count = length n.state.items }
-
-pub record HasNodeParts (fourth : Bool) (form : ProcedureForm) (rules : Rules) (region : Region) (n : Node) : Type 0 where
+pub record HasNodeParts (rules : Rules) (region : Region) (n : Node) : Type 0 where
   pub address : n.address < 65536
   pub state : HasStateParts rules (role_of n.procedure) region n.state
-  pub place : IsBytePlaced (node_stack fourth form region n) n.state.relations.byte.address
-
-placed_free : (k : StackBytes) (o : Option ℕ) → IfSome o (λ a. is_free_byte k.region a ≡ true) → IsBytePlaced k o
-placed_free k None h = tt
-placed_free k (Some a) h = by (nat_le a a && are_in_ram a a) (not (meets k.region a a)) (is_item k.base k.count a) h
-  where
-    by : (area apart item : Bool) → (area && apart) ≡ true → (area && (apart || item)) ≡ true
-    by true true item h = refl
-    by true false item h = cc
-    by false apart item h = h
-
--- the states of nodes name their items
-named_by_nodes : (procedure count : ℕ) → named_items (role_of procedure) count ≡ count
-named_by_nodes procedure count = by (procedure == 0)
-  where
-    by : (b : Bool) → named_items (cond b role.Main role.Other) count ≡ count
-    by true = refl
-    by false = refl
-
-placed_in_form : (form : ProcedureForm) (region : Region) (n : Node) (o : Option ℕ)
-    → IfSome o (λ a. is_place_at (stack_bytes form (role_of n.procedure) region (length n.state.items)) a ≡ true) → IsBytePlaced (node_stack true form region n) o
-placed_in_form form region n None h = tt
-placed_in_form form region n (Some a) h =
-    subst (λ m. is_place_at (record { region = region; base = form.base; count = m }) a ≡ true) (named_by_nodes n.procedure (length n.state.items)) h
 
 pub node_parts : (fourth : Bool) (version facts : ℕ) (form_of : ℕ → ProcedureForm) (region : Region) (procedures : ℕ) (before : ℕ × ℕ) (n : Node) → (version == 4) ≡ fourth
-    → IsNodeBy fourth version facts form_of region procedures before n → HasNodeParts fourth (form_of n.procedure) (rules_of version) region n
+    → IsNodeBy fourth version facts form_of region procedures before n → HasNodeParts (rules_of version) region n
 node_parts true version facts form_of region procedures before n e h =
-    subst (λ r. HasNodeParts true (form_of n.procedure) r region n) (sym (fourth_rules version e))
+    subst (λ r. HasNodeParts r region n) (sym (fourth_rules version e))
     (record {
       address = h.address;
       state = has_parts_in facts (form_of n.procedure) (role_of n.procedure) region n.state h.state;
-      place = placed_in_form (form_of n.procedure) region n n.state.relations.byte.address h.state.relations.byte.address;
     })
 node_parts false version facts form_of region procedures before n e h =
     record {
       address = h.address;
       state = has_parts (rules_of version) (role_of n.procedure) region n.state h.state;
-      place = placed_free (node_stack false (form_of n.procedure) region n) n.state.relations.byte.address h.state.relations.byte.address;
     }
 
 -- ---- procedures

@@ -3,9 +3,12 @@ use Rattle.std.proofs.Common.{◌≡◌, ℕ, zero, suc, ◌+◌, ◌≤◌, ◌
 use Rattle.std.proofs.lemmas.Bool.{and_parts, eqb-true}
 use Rattle.std.specs.List.{Contains, list_any}
 use Rattle.std.proofs.lemmas.List.Folds.{Any-from_list_any}
+use Rattle.gb_ops.specs.declared.registers.Registers.{Registers}
 use Rattle.gb_ops.specs.Registers.{get}
 use Rattle.gb_ops.specs.Play.{MState}
 use Rattle.gb_successors.specs.Below.gb_domain.declared.rules.Rules.{Rules}
+use Rattle.gb_successors.specs.Below.gb_domain.declared.places.OneByte.{OneByte}
+use Rattle.gb_successors.specs.Below.gb_domain.declared.places.StackBytes.{StackBytes}
 use Rattle.gb_successors.specs.Below.gb_domain.declared.relations.Relations.{Relations}
 use Rattle.gb_successors.specs.Below.gb_domain.declared.rules.Rules.TheVariants.{Simple, Extended}
 use Rattle.gb_successors.specs.Below.gb_domain.declared.types.Cell.{Cell}
@@ -25,8 +28,12 @@ use Rattle.gb_successors.proofs.Below.gb_abs_laws.StackLaws.{MeansParts-with_cor
 use Rattle.gb_successors.specs.Below.gb_pairs.Meaning.{AreBytes}
 use Rattle.gb_successors.specs.Below.gb_product.declared.parts.Product.{Product}
 use Rattle.gb_successors.specs.Below.gb_product.Sound.{MeansProduct, IsMeantProduct}
-use Rattle.gb_successors.proofs.Below.gb_product_laws.ControllerLaws.{reduced_wholly_sound, reduced_wholly_stack}
-use Rattle.gb_successors.specs.Below.gb_product.Covering.{covers, byte_in, values_in}
+use Rattle.gb_successors.proofs.Below.gb_product_laws.ControllerLaws.{reduced_wholly_sound, AreKept, reduced_wholly_kept}
+use Rattle.gb_successors.specs.Below.gb_product.Covering.{covers, covers_relations, byte_in, values_in}
+use Rattle.gb_successors.specs.Below.gb_product.Below.gb_copies.Covering.{covers_address, covers_byte}
+use Rattle.gb_successors.specs.Below.gb_relations.Sound.{IsBytePlaced}
+use Rattle.gb_successors.specs.Below.gb_product.Held.{stack_held}
+use Rattle.gb_rules.specs.Procedures.{setting_of}
 use Rattle.gb_successors.specs.Below.gb_product.Meaning.{AreRelated, IsSummarized, Means}
 use Rattle.gb_successors.specs.Below.gb_product.Reduced.{reduced, reduced_wholly}
 use Rattle.gb_successors.specs.Below.gb_abs.Meaning.{Activation, Holds, MeansCore, MeansParts}
@@ -53,17 +60,70 @@ covered_items program s t h = items_counted s.items t.items (second _ _ _ _ _ h)
     second true false c d e h = cc
     second false b c d e h = cc
 
+-- a place in memory of the one byte is none, or that which there was
+abbrev pub IsAmong : Option ℕ → Option ℕ → Type 0
+IsAmong places None = Unit {0}
+IsAmong places (Some a) = places ≡ Some a
+
+address_among : (s t : Option ℕ) → covers_address s t ≡ true → IsAmong s t
+address_among s None h = tt
+address_among None (Some a) h = cc
+address_among (Some b) (Some a) h = ap Some (eqb-true b a h)
+
+covered_byte : (registers : Registers Val) (s t : Relations) → covers_relations registers s t ≡ true → covers_byte s.byte t.byte ≡ true
+unfolding covers_relations
+covered_byte registers s t h = first _ _ _ h
+  where
+    first : (a b c : Bool) → (a && b && c) ≡ true → a ≡ true
+    first true b c h = refl
+    first false b c h = cc
+
+covered_address : (s t : OneByte) → covers_byte s t ≡ true → covers_address s.address t.address ≡ true
+unfolding covers_byte
+covered_address s t h = second _ _ _ h
+  where
+    second : (a b c : Bool) → (a && b && c) ≡ true → b ≡ true
+    second a true c h = refl
+    second true false c h = cc
+    second false false c h = cc
+
+covered_relations : (program : Program) (s t : AbsState) → covers program s t ≡ true → covers_relations s.core.registers s.relations t.relations ≡ true
+unfolding covers
+covered_relations program s t h =
+    let p = and_parts _ _ h in
+    let q = and_parts _ _ p.0 in
+    q.1
+
+-- the place of what covers is among those that are covered
+pub covered_place : (program : Program) (s t : AbsState) → covers program s t ≡ true → IsAmong s.relations.byte.address t.relations.byte.address
+covered_place program s t h =
+    address_among s.relations.byte.address t.relations.byte.address (covered_address s.relations.byte t.relations.byte (covered_byte s.core.registers s.relations t.relations (covered_relations program s t h)))
+
+-- where one may lie the other does
+pub IsBytePlaced-among : (k : StackBytes) (s t : Option ℕ) → IsAmong s t → IsBytePlaced k s → IsBytePlaced k t
+IsBytePlaced-among k s None among h = tt
+IsBytePlaced-among k s (Some a) among h = subst (λ (o : Option ℕ). IsBytePlaced k o) among h
+
+-- in the same procedure, where as many items are held
+pub place_found :
+    (cert : Certificate) (procedure m items count : ℕ) (s t : Option ℕ) → m ≡ procedure → count ≡ items → IsAmong s t → IsBytePlaced (stack_held (setting_of cert procedure) cert.region items) s
+    → IsBytePlaced (stack_held (setting_of cert m) cert.region count) t
+place_found cert procedure m items count s t same equal among h =
+    subst (λ n. IsBytePlaced (stack_held (setting_of cert n) cert.region count) t) (sym same)
+    (subst (λ n. IsBytePlaced (stack_held (setting_of cert procedure) cert.region n) t) (sym equal) (IsBytePlaced-among (stack_held (setting_of cert procedure) cert.region items) s t among h))
+
 -- a node that means the state, at an address of the procedure
-pub record IsFoundAt (cert : Certificate) (procedure a : ℕ) (items : ℕ) (entry : Activation) (base : ℕ) (y : MState) : Type 0 where
+pub record IsFoundAt (cert : Certificate) (procedure a : ℕ) (items : ℕ) (places : Option ℕ) (entry : Activation) (base : ℕ) (y : MState) : Type 0 where
   pub node : Node
   pub is_node : Contains cert.nodes node
   pub procedure_is : node.procedure ≡ procedure
   pub address : node.address ≡ a
   pub means : Means node.state entry base y
   pub count : length node.state.items ≡ items
+  pub place : IsAmong places node.state.relations.byte.address
 
 found_by_one : (cert : Certificate) (procedure a : ℕ) (s : AbsState) (entry : Activation) (base : ℕ) (y : MState) → is_covered_by_one entry.program cert.nodes procedure a s ≡ true → Means s entry base y
-    → IsFoundAt cert procedure a (length s.items) entry base y
+    → IsFoundAt cert procedure a (length s.items) s.relations.byte.address entry base y
 unfolding is_covered_by_one
 found_by_one cert procedure a s entry base y h m =
     let p = Any-from_list_any (is_cover entry.program procedure a s) cert.nodes h in
@@ -76,6 +136,7 @@ found_by_one cert procedure a s entry base y h m =
       address = eqb-true _ _ r.1;
       means = Means-covered s p.1.state entry base y q.1 m;
       count = covered_items entry.program s p.1.state q.1;
+      place = covered_place entry.program s p.1.state q.1;
     }
 
 one_of_them : (test : ℕ → Bool) (first n v : ℕ) → all_from test first n ≡ true → first ≤ v → v < first + n → test v ≡ true
@@ -120,20 +181,21 @@ product_means s p entry base y m related summary =
     }
 
 -- where something is left of states that mean y, a node stands for that
-found_left : (cert : Certificate) (procedure a : ℕ) (s : AbsState) (o : Option Product) (entry : Activation) (base : ℕ) (y : MState) → IsMeantProduct o entry y → IfSome o (λ p. p.core.stack_set ≡ s.core.stack_set)
-    → is_covered_if entry.program cert.nodes procedure a (option_map (with_product s) o) ≡ true → MeansParts s entry base y → IsSummarized s entry y → IsFoundAt cert procedure a (length s.items) entry base y
+found_left : (cert : Certificate) (procedure a : ℕ) (s : AbsState) (o : Option Product) (entry : Activation) (base : ℕ) (y : MState) → IsMeantProduct o entry y → IfSome o (AreKept s.core s.relations)
+    → is_covered_if entry.program cert.nodes procedure a (option_map (with_product s) o) ≡ true → MeansParts s entry base y → IsSummarized s entry y → IsFoundAt cert procedure a (length s.items) s.relations.byte.address entry base y
 found_left cert procedure a s None entry base y q cut h m summary = absurd q
 found_left cert procedure a s (Some p) entry base y q cut h m summary =
-    found_by_one cert procedure a (with_product s p) entry base y h (product_means s p entry base y (MeansParts-with_product s p entry base y cut q m) q.related summary)
+    subst (λ (b : OneByte). IsFoundAt cert procedure a (length s.items) b.address entry base y) cut.1
+    (found_by_one cert procedure a (with_product s p) entry base y h (product_means s p entry base y (MeansParts-with_product s p entry base y cut.0 q m) q.related summary))
 
 -- a node stands for what reducing leaves of states that mean y
 found_reduced :
     (rules : Rules) (cert : Certificate) (procedure a : ℕ) (s : AbsState) (entry : Activation) (base : ℕ) (y : MState) → IsReducible rules s y
-    → is_covered_if entry.program cert.nodes procedure a (reduced_state entry.program rules s) ≡ true → Means s entry base y → IsFoundAt cert procedure a (length s.items) entry base y
+    → is_covered_if entry.program cert.nodes procedure a (reduced_state entry.program rules s) ≡ true → Means s entry base y → IsFoundAt cert procedure a (length s.items) s.relations.byte.address entry base y
 unfolding reduced_state
 found_reduced rules cert procedure a s entry base y can h m =
     found_left cert procedure a s (reduced_wholly entry.program rules s.core s.relations s.cells s.summary) entry base y (left_is_meant rules s entry base y can m)
-    (reduced_wholly_stack entry.program rules s.core s.relations s.cells s.summary) h m.parts m.summary
+    (reduced_wholly_kept entry.program rules s.core s.relations s.cells s.summary) h m.parts m.summary
 
 -- ---- value by value
 
@@ -186,7 +248,7 @@ asked false c e h = cc
 found_by_values :
     (rules : Rules) (cert : Certificate) (procedure a : ℕ) (s : AbsState) (by : Parted) (entry : Activation) (base : ℕ) (y : MState)
     → IsReducible rules s y → Holds (known_of by s) entry (value_at by y) → is_covered_by_values entry.program rules cert.nodes procedure a s by ≡ true → Means s entry base y
-    → IsFoundAt cert procedure a (length s.items) entry base y
+    → IsFoundAt cert procedure a (length s.items) s.relations.byte.address entry base y
 unfolding is_covered_by_values is_value_covered
 found_by_values rules cert procedure a s by entry base y can holds h m =
     let n = value_at by y in
@@ -194,13 +256,14 @@ found_by_values rules cert procedure a s by entry base y can holds h m =
     let most = holds.most in
     let one = one_of_them (λ v. not (has_low_bits (known_of by s) v) || is_covered_if entry.program cert.nodes procedure a (reduced_state entry.program rules (with_one by s v)))
     (known_of by s).lo (count_of (known_of by s)) n h least (omega arith) in
-    subst (λ items. IsFoundAt cert procedure a (length items) entry base y) (same_items by s n)
-    (found_reduced rules cert procedure a (with_one by s n) entry base y (reducible_one rules by s n y can) (asked _ _ holds.low one) (with_one_means by s entry base y holds m))
+    subst (λ items. IsFoundAt cert procedure a (length items) s.relations.byte.address entry base y) (same_items by s n)
+    (subst (λ (r : Relations). IsFoundAt cert procedure a (length (with_one by s n).items) r.byte.address entry base y) (same_relations by s n)
+    (found_reduced rules cert procedure a (with_one by s n) entry base y (reducible_one rules by s n y can) (asked _ _ holds.low one) (with_one_means by s entry base y holds m)))
 
 found_by_byte :
     (rules : Rules) (cert : Certificate) (procedure a : ℕ) (s : AbsState) (at : ℕ) (entry : Activation) (base : ℕ) (y : MState)
     → IsReducible rules s y → is_covered_by_byte entry.program rules cert.nodes procedure a s at ≡ true → Means s entry base y
-    → IsFoundAt cert procedure a (length s.items) entry base y
+    → IsFoundAt cert procedure a (length s.items) s.relations.byte.address entry base y
 unfolding is_covered_by_byte
 found_by_byte rules cert procedure a s at entry base y can h m =
     found_by_values rules cert procedure a s (parted.Byte at (byte_in entry.program (values_in s) s.cells s.summary at)) entry base y can
@@ -209,7 +272,7 @@ found_by_byte rules cert procedure a s at entry base y can h m =
 found_by_bytes :
     (rules : Rules) (cert : Certificate) (procedure a : ℕ) (s : AbsState) (entry : Activation) (base : ℕ) (y : MState)
     → IsReducible rules s y → is_covered_by_bytes entry.program rules cert.nodes procedure a s ≡ true → Means s entry base y
-    → IsFoundAt cert procedure a (length s.items) entry base y
+    → IsFoundAt cert procedure a (length s.items) s.relations.byte.address entry base y
 unfolding is_covered_by_bytes
 found_by_bytes rules cert procedure a s entry base y can h m =
     let node = Any-from_list_any (λ n. is_node_at procedure a n && list_any (is_covered_by_cell entry.program rules cert.nodes procedure a s) n.state.cells) cert.nodes h in
@@ -219,29 +282,29 @@ found_by_bytes rules cert procedure a s entry base y can h m =
 -- states that are covered at an address: a node there means each of their machine states
 found_where :
     (rules : Rules) (cert : Certificate) (procedure a : ℕ) (s : AbsState) (entry : Activation) (base : ℕ) (y : MState)
-    → IsReducible rules s y → covered_at entry.program rules cert procedure a s ≡ true → Means s entry base y → IsFoundAt cert procedure a (length s.items) entry base y
+    → IsReducible rules s y → covered_at entry.program rules cert procedure a s ≡ true → Means s entry base y → IsFoundAt cert procedure a (length s.items) s.relations.byte.address entry base y
 unfolding covered_at
 found_where rules cert procedure a s entry base y can h m = by (is_covered_by_one entry.program cert.nodes procedure a s) (list_any (is_covered_by_register entry.program rules cert.nodes procedure a s) registers) refl refl h
   where
-    register : list_any (is_covered_by_register entry.program rules cert.nodes procedure a s) registers ≡ true → IsFoundAt cert procedure a (length s.items) entry base y
+    register : list_any (is_covered_by_register entry.program rules cert.nodes procedure a s) registers ≡ true → IsFoundAt cert procedure a (length s.items) s.relations.byte.address entry base y
     register e =
         let p = Any-from_list_any (is_covered_by_register entry.program rules cert.nodes procedure a s) registers e in
         found_by_values rules cert procedure a s (parted.Register p.1) entry base y can (m.parts.core.registers p.1) p.4 m
 
     by :
         (b c : Bool) → is_covered_by_one entry.program cert.nodes procedure a s ≡ b → list_any (is_covered_by_register entry.program rules cert.nodes procedure a s) registers ≡ c
-        → ((b || c) || (cert.version == 4) && is_covered_by_bytes entry.program rules cert.nodes procedure a s) ≡ true → IsFoundAt cert procedure a (length s.items) entry base y
+        → ((b || c) || (cert.version == 4) && is_covered_by_bytes entry.program rules cert.nodes procedure a s) ≡ true → IsFoundAt cert procedure a (length s.items) s.relations.byte.address entry base y
     by true c e f t = found_by_one cert procedure a s entry base y e m
     by false true e f t = register f
     by false false e f t = found_by_bytes rules cert procedure a s entry base y can (and_parts _ _ t).1 m
 
 -- by the rules of versions 1 and 2
 pub found_at : (cert : Certificate) (procedure a : ℕ) (s : AbsState) (entry : Activation) (base : ℕ) (y : MState) → covered_at entry.program Simple cert procedure a s ≡ true → Means s entry base y
-    → IsFoundAt cert procedure a (length s.items) entry base y
+    → IsFoundAt cert procedure a (length s.items) s.relations.byte.address entry base y
 found_at cert procedure a s entry base y h m = found_where Simple cert procedure a s entry base y tt h m
 
 -- by any rules
 pub found_by : (rules : Rules) (cert : Certificate) (procedure a : ℕ) (s : AbsState) (entry : Activation) (base : ℕ) (y : MState) → ArePairs s.relations.pairs → AreBytes y.processor.registers
-    → covered_at entry.program rules cert procedure a s ≡ true → Means s entry base y → IsFoundAt cert procedure a (length s.items) entry base y
+    → covered_at entry.program rules cert procedure a s ≡ true → Means s entry base y → IsFoundAt cert procedure a (length s.items) s.relations.byte.address entry base y
 found_by Simple cert procedure a s entry base y pairs bytes h m = found_where Simple cert procedure a s entry base y tt h m
 found_by Extended cert procedure a s entry base y pairs bytes h m = found_where Extended cert procedure a s entry base y (pairs, bytes) h m

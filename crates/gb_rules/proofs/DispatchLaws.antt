@@ -281,7 +281,7 @@ is_dispatched rom cert n entry base x i at is_node certificate on set unlimited 
     (not_pushed cert.region base x.processor.sp (length n.state.items) (x.processor.sp - 2) b room top (inr refl) (λ m. not_so (sym m ∙ not-true _ p.1))) in
     let held : (b : ℕ) → n.state.relations.byte.address ≡ Some b → peek (left_by rom x i n.address).storage b ≡ peek x.storage b =
     λ b e.
-    let place = placed_at (setting_of cert n.procedure) cert.region (length n.state.items) n.state.relations.byte.address b s.place e in
+    let place = placed_at (setting_of cert n.procedure) cert.region (length n.state.items) n.state.relations.byte.address b at.place e in
     let above = above_pointer (setting_of cert n.procedure) cert.region (length n.state.items) b base x.processor.sp at.based top place in
     let below = room_below cert.region base (length n.state.items) x.processor.sp room top in
     passed_peek (stored (view rom x false) (write.Push x.processor.sp n.address)) 5 b

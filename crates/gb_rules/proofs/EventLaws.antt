@@ -179,7 +179,7 @@ itself rom cert n entry base x y k address means mark = record {
   node = n;
   is_node = k.is_node;
   procedure_is = refl;
-  at = record { address = address; program = k.program; names = k.names; means = means; mark = mark; main = k.main; based = k.based; return_word = k.return_word; room = k.room; held = k.held };
+  at = record { address = address; program = k.program; names = k.names; means = means; mark = mark; main = k.main; based = k.based; return_word = k.return_word; room = k.room; held = k.held; place = k.place };
 }
 
 -- a smaller count, and the same processor but for PC and the mark
@@ -462,7 +462,7 @@ mark_waited : (rom : List ℕ) (cert : Certificate) (n : Node) (entry : Activati
 mark_waited rom cert n entry base x k count m (inl clear) = inl clear
 mark_waited rom cert n entry base x k count m (inr nop) =
     let later : OnNode rom cert n entry base (counted count x) =
-    record { cartridge = k.cartridge; certificate = k.certificate; is_node = k.is_node; state = k.state; passes = k.passes; address = k.address; program = k.program; names = k.names; means = m; main = k.main; return_word = k.return_word; room = k.room; based = k.based; held = k.held } in
+    record { cartridge = k.cartridge; certificate = k.certificate; is_node = k.is_node; state = k.state; passes = k.passes; address = k.address; program = k.program; names = k.names; means = m; main = k.main; return_word = k.return_word; room = k.room; based = k.based; held = k.held; place = k.place } in
     let first = FetchesFirst-known (program_of rom cert) rom n entry base (counted count x) k.passes.bytes (is_known rom cert n entry base x k) (on_code rom cert n entry base (counted count x) later) in
     inr (nop.0, first.fixed, same_bytes rom x count x.processor.pc ∙ nop.2)
 
@@ -541,6 +541,7 @@ IsSafeNode-right rom cert n cartridge certificate is_node right entry base x e o
       room = at.room;
       based = at.based;
       held = at.held;
+      place = at.place;
     } in
     IsSafeEvent-where rom cert n.procedure entry base x e (is_possible (within rom x) e) refl (record { node = n; is_node = is_node; procedure_is = refl; at = at })
     (λ possible. event_safe rom cert n entry base x e k at.mark other possible)

@@ -35,6 +35,7 @@ use Rattle.gb_rules.specs.Procedures.{ranges_of, kept_of, need_of, setting_of, p
 use Rattle.gb_rules.specs.Safety.{Declares, begun, IsAt, IsMeant, Calls, Returns}
 use Rattle.gb_rules.specs.Frames.{Keeps, Frame, IsWaiting, AreWaiting, Stands}
 use Rattle.gb_rules.proofs.CoveringLaws.{IsFoundAt, covered_items, found_at}
+use Rattle.gb_rules.proofs.NodeLaws.{place_simply}
 use Rattle.gb_rules.proofs.ProcedureLaws.{based_setting, HasReturnWord-simply, return_word_of, ranges_apart, apart_outside, exit_state, exit_located, exit_items}
 use Rattle.gb_rules.proofs.CallLaws.{sp_pushed, Means-without_word, pushed_word, region_end}
 use Rattle.gb_ops.specs.declared.machine.Region.{Region}
@@ -118,6 +119,7 @@ IsAt-called rom cert procedure entry base t certificate simple program c p =
       return_word = HasReturnWord-simply (rules_of cert.version) cert.region c.node.procedure t.processor.sp simple (λ _. p.return_word);
       room = p.callee_room;
       held = record { first = omega arith; last = last };
+      place = place_simply cert c.node certificate c.is_node simple;
     }
 
 -- those that wait, by the rules of the certificate
@@ -238,8 +240,8 @@ is_resumed cert f procedure entry base exit w is =
 
 -- the caller's state behind the call is meant by a node
 goes_on : (rom : List ℕ) (cert : Certificate) (f : Frame) (procedure : ℕ) (entry : Activation) (base : ℕ) (s t : MState) → IsCertificate cert → rules_of cert.version ≡ Simple → entry.program ≡ program_of rom cert → (w : IsWaiting cert f procedure entry base)
-    → Keeps cert procedure base entry.entered s → Returns cert procedure entry base s t → Keeps cert procedure base s t
-    → IsFoundAt cert f.procedure w.calls.back (length w.calls.state.items) f.entry f.base t
+    → Keeps cert procedure base entry.entered s → (r : Returns cert procedure entry base s t) → Keeps cert procedure base s t
+    → IsFoundAt cert f.procedure w.calls.back (length w.calls.state.items) (resumed_alone (ranges_of cert procedure) w.calls.state r.exit).relations.byte.address f.entry f.base t
 unfolding resumed_alone
 goes_on rom cert f procedure entry base s t certificate simple program w before r keeps =
     let ranges = ranges_of cert procedure in
@@ -271,6 +273,7 @@ IsMeant-returned rom cert f procedure entry base s t certificate simple program 
         return_word = HasReturnWord-simply (rules_of cert.version) cert.region g.node.procedure f.base simple (λ some. w.return_word (subst (λ n. 0 < n) same some));
         room = subst (λ n. AreInRegion cert.region f.base (need_of cert n)) (sym same) w.room;
         held = record { first = let count = g.count in let depth = w.calls.depth in omega arith; last = room.last };
+        place = place_simply cert g.node certificate g.is_node simple;
       };
     }
 

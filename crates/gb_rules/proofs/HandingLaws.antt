@@ -1,6 +1,6 @@
 -- The procedures that wait, by the rules of version 3: one hands its newest items over, its others wait above the callee's
 -- base, and it goes on with these and with what it is given back.
-use Rattle.std.proofs.Common.{◌≡◌, ℕ, ◌+◌, ◌-◌, ◌≤◌, ◌<◌, true, not, ◌==◌, inl, List, ◌∷◌, length, Option, Some, None, refl, sym, ◌∙◌, ap, subst, arith}
+use Rattle.std.proofs.Common.{◌≡◌, ℕ, ◌+◌, ◌-◌, ◌≤◌, ◌<◌, true, not, ◌==◌, inl, inr, List, ◌∷◌, length, Option, Some, None, refl, sym, ◌∙◌, ap, subst, arith}
 use Rattle.std.specs.Prelude.{IfSome}
 use Rattle.std.proofs.lemmas.Bool.Decides.{nat_tests}
 use Rattle.gb_ops.specs.Play.{MState}
@@ -18,10 +18,15 @@ use Rattle.gb_successors.specs.Below.gb_abs.Stack.{AreInRegion}
 use Rattle.gb_successors.specs.Below.gb_product.Covering.{covers}
 use Rattle.gb_successors.specs.Below.gb_product.Meaning.{Means, IsApart}
 use Rattle.gb_successors.proofs.Below.gb_product_laws.CoveringLaws.{Means-covered}
+use Rattle.gb_successors.proofs.Below.gb_product_laws.HeldLaws.{free_held, outside_free, placed_more}
+use Rattle.gb_successors.specs.Below.gb_domain.declared.places.StackBytes.{StackBytes}
+use Rattle.gb_successors.specs.Below.gb_domain.declared.types.Val.{Val}
+use Rattle.gb_successors.specs.Below.gb_relations.Items.{places_outside}
+use Rattle.gb_successors.specs.Below.gb_relations.Sound.{IsBytePlaced}
 use Rattle.gb_successors.proofs.Below.gb_product_laws.MeaningLaws.{AreBytes-core}
 use Rattle.gb_successors.specs.Below.gb_abs_memory.Kept.{keeps, keeps_by, IsKept}
 use Rattle.gb_calls.specs.Calls.{entered_by, are_ranges_inside}
-use Rattle.gb_calls.specs.Resuming.{resumed}
+use Rattle.gb_calls.specs.Resuming.{resumed, waiting_stack}
 use Rattle.gb_calls.specs.Sound.{IsCalled, HandsBack, MeansIf}
 use Rattle.gb_calls.specs.TakenOver.{base_below, given_back_items}
 use Rattle.gb_calls.proofs.EnteringLaws.{Means-taken_over}
@@ -32,7 +37,7 @@ use Rattle.gb_rules.specs.Covered.{covered_at}
 use Rattle.gb_rules.specs.Procedures.{ranges_of, kept_of, need_of, setting_of, program_of, exit_of, taken_by}
 use Rattle.gb_rules.specs.Safety.{Declares, begun, IsAt, IsMeant, HandsOver, GoesBack}
 use Rattle.gb_rules.specs.Frames.{Keeps, Frame, IsWaitingAbove, Stands}
-use Rattle.gb_rules.proofs.CoveringLaws.{IsFoundAt, covered_items, found_by}
+use Rattle.gb_rules.proofs.CoveringLaws.{IsFoundAt, covered_items, covered_place, IsBytePlaced-among, place_found, found_by}
 use Rattle.gb_rules.proofs.ProcedureLaws.{HasReturnWord-widely, ranges_apart, exit_state, exit_located}
 use Rattle.gb_rules.proofs.ResumedLaws.{IsGivenBack, IsGivenBack-resumed}
 use Rattle.gb_rules.proofs.FrameLaws.{Keeps-none, Keeps-then, waiting_by, waiting_in}
@@ -94,6 +99,15 @@ placed_above cert procedure entry base t room h =
 is_called : (cert : Certificate) (procedure : ℕ) (entry : Activation) (base : ℕ) (t : MState) (h : HandsOver cert procedure entry base t) → IsCalled (taken_by cert h.node.procedure) h.state entry base t
 is_called cert procedure entry base t h = record { few = h.few; located = h.located; caller = h.means }
 
+-- no item of the caller's is a place in it, so none is one of its entry
+place_begun :
+    (z callee : Setting) (program : Program) (region : Region) (k n count : ℕ) (kept : List ℕ) (s t : AbsState) → IsBytePlaced (stack_held z region n) s.relations.byte.address
+    → covers program (entered_by program region Extended k kept s) t ≡ true → IsBytePlaced (stack_held callee region count) t.relations.byte.address
+unfolding entered_by
+place_begun z callee program region k n count kept s t place h =
+    IsBytePlaced-among (stack_held callee region count) (places_outside region s.relations.byte).address t.relations.byte.address (covered_place program (entered_by program region Extended k kept s) t h)
+    (free_held callee region count (places_outside region s.relations.byte).address (outside_free z region n s.relations.byte place))
+
 -- the callee stands at its entry, and was entered just now
 IsAt-handed : (rom : List ℕ) (cert : Certificate) (procedure : ℕ) (entry : Activation) (base : ℕ) (t : MState) → rules_of cert.version ≡ Extended → entry.program ≡ program_of rom cert
     → (h : HandsOver cert procedure entry base t) → IsPlacedAbove cert procedure entry base t h → IsAt rom cert h.node (begun rom cert h.node.procedure (base_below (taken_by cert h.node.procedure) h.state.items base) t) (base_below (taken_by cert h.node.procedure) h.state.items base) t
@@ -114,6 +128,7 @@ IsAt-handed rom cert procedure entry base t extended program h p =
       return_word = HasReturnWord-widely (rules_of cert.version) cert.region h.node.procedure (base_below k h.state.items base) extended;
       room = p.room;
       held = p.held;
+      place = place_begun (setting_of cert procedure) (setting_of cert h.node.procedure) entry.program cert.region k (length h.state.items) (length h.node.state.items) kept h.state h.node.state h.placed.byte h.begins;
     }
 
 -- the machine has called: the procedure waits above the items that it keeps, and the callee was entered just now
@@ -198,20 +213,29 @@ hands_back rom cert f procedure entry base s t certificate extended program name
       kept = λ b k. all.byte b (subst (λ n. IsKept (setting_of cert procedure) cert.region (ranges_of cert procedure) n b) (sym w.base_is) k);
     }
 
+-- a node that means the state, whose place is among some that this stack may have
+record IsFoundBack (cert : Certificate) (waiting : StackBytes) (procedure a items : ℕ) (entry : Activation) (base : ℕ) (y : MState) : Type 0 where
+  places : Option ℕ
+  placed : IsBytePlaced waiting places
+  found : IsFoundAt cert procedure a items places entry base y
+
 -- where something is left, it is covered, and means the machine's state, a node stands for it
-found_if : (cert : Certificate) (procedure a : ℕ) (k : ℕ) (s x : AbsState) (entry called : Activation) (base : ℕ) (y : MState) (o : Option AbsState) → HasStateParts Extended role.Exit cert.region x → Means x called base y
-    → (top : ℕ) → MeansIf o entry top y → IfSome o (λ after. covered_at entry.program Extended cert procedure a after ≡ true) → IfSome o (IsGivenBack k s x)
-    → IsFoundAt cert procedure a (length (given_back_items k s.items x.items)) entry top y
-found_if cert procedure a k s x entry called base y None is exits top m covered given = absurd m
-found_if cert procedure a k s x entry called base y (Some after) is exits top m covered given =
-    subst (λ n. IsFoundAt cert procedure a n entry top y) given.count
-    (found_by Extended cert procedure a after entry top y given.pairs (AreBytes-core x.core called y is.core exits.parts.core) covered m)
+found_if : (cert : Certificate) (waiting : StackBytes) (procedure a : ℕ) (k : ℕ) (s x : AbsState) (entry called : Activation) (base : ℕ) (y : MState) (o : Option AbsState) → HasStateParts Extended role.Exit cert.region x → Means x called base y
+    → (top : ℕ) → MeansIf o entry top y → IfSome o (λ after. covered_at entry.program Extended cert procedure a after ≡ true) → IfSome o (IsGivenBack waiting k s x)
+    → IsFoundBack cert waiting procedure a (length (given_back_items k s.items x.items)) entry top y
+found_if cert waiting procedure a k s x entry called base y None is exits top m covered given = absurd m
+found_if cert waiting procedure a k s x entry called base y (Some after) is exits top m covered given = record {
+  places = after.relations.byte.address;
+  placed = given.place;
+  found = subst (λ n. IsFoundAt cert procedure a n after.relations.byte.address entry top y) given.count
+      (found_by Extended cert procedure a after entry top y given.pairs (AreBytes-core x.core called y is.core exits.parts.core) covered m);
+}
 
 -- the caller's state behind the call is meant by a node
 goes_on : (rom : List ℕ) (cert : Certificate) (f : Frame) (procedure : ℕ) (entry : Activation) (base : ℕ) (s t : MState) → IsCertificate cert → rules_of cert.version ≡ Extended
     → entry.program ≡ program_of rom cert → entry.kept ≡ kept_of cert procedure → (w : IsWaitingAbove cert f procedure entry base) → Keeps cert procedure base entry.entered s
     → (r : GoesBack cert procedure entry base t) → Keeps cert procedure base s t
-    → IsFoundAt cert f.procedure w.calls.back (length (given_back_items (taken_by cert procedure) w.calls.state.items r.exit.items)) f.entry f.base t
+    → IsFoundBack cert (waiting_stack (setting_by Extended cert f.procedure) cert.region (taken_by cert procedure) w.calls.state) f.procedure w.calls.back (length (given_back_items (taken_by cert procedure) w.calls.state.items r.exit.items)) f.entry f.base t
 goes_on rom cert f procedure entry base s t certificate extended program names w before r keeps =
     let c = w.calls in
     let k = taken_by cert procedure in
@@ -223,9 +247,20 @@ goes_on rom cert f procedure entry base s t certificate extended program names w
     let resumes : IfSome (resumed f.entry.program z cert.region k (ranges_of cert procedure) kept c.state r.exit) (λ after. covered_at f.entry.program Extended cert f.procedure c.back after ≡ true) =
     subst (λ n. IfSome (resumed f.entry.program z cert.region (taken_by cert n) (ranges_of cert n) (kept_of cert n) c.state r.exit) (λ after. covered_at f.entry.program Extended cert f.procedure c.back after ≡ true)) w.callee
     (c.resumes r.exit (ap (exit_of cert) w.callee ∙ r.is_exit)) in
-    found_if cert f.procedure c.back k c.state r.exit f.entry entry base t (resumed f.entry.program z cert.region k (ranges_of cert procedure) kept c.state r.exit) exit r.means f.base
+    found_if cert (waiting_stack z cert.region k c.state) f.procedure c.back k c.state r.exit f.entry entry base t (resumed f.entry.program z cert.region k (ranges_of cert procedure) kept c.state r.exit) exit r.means f.base
     (Means-resumed f.entry.program Extended z k cert.region (ranges_of cert procedure) kept c.state r.exit f.entry f.base entry t c.pairs pairs back) resumes
-    (IsGivenBack-resumed f.entry.program z cert.region k (ranges_of cert procedure) kept c.state r.exit c.pairs pairs)
+    (IsGivenBack-resumed f.entry.program z cert.region k (ranges_of cert procedure) kept c.state r.exit c.pairs pairs back.placed.byte (exit.place (inr refl)))
+
+-- it holds no fewer than those that waited
+given_back_more : (k : ℕ) (items given : List Val) → k ≤ length items → length items - k ≤ length (given_back_items k items given)
+given_back_more k items given few =
+    let all = given_back-pointer k items given (length items + length given) k few (omega arith) (omega (arith, few)) in
+    omega (arith, all, few)
+
+-- the rules leave where its items lie
+place_back : (z : Setting) (region : Region) (count : ℕ) (o : Option ℕ) → IsBytePlaced (stack_held (record z { rules = Extended }) region count) o → IsBytePlaced (stack_held z region count) o
+unfolding stack_held
+place_back z region count o h = h
 
 -- what it holds lies in the region
 given_back_room : (cert : Certificate) (f : Frame) (procedure : ℕ) (entry : Activation) (base : ℕ) (t : MState) → IsCertificate cert → (w : IsWaitingAbove cert f procedure entry base)
@@ -246,8 +281,15 @@ IsMeant-given_back : (rom : List ℕ) (cert : Certificate) (f : Frame) (procedur
     → entry.program ≡ program_of rom cert → entry.kept ≡ kept_of cert procedure → IsWaitingAbove cert f procedure entry base → Keeps cert procedure base entry.entered s
     → GoesBack cert procedure entry base t → Keeps cert procedure base s t → IsMeant rom cert f.procedure f.entry f.base t
 IsMeant-given_back rom cert f procedure entry base s t certificate extended program names w before r keeps =
-    let g = goes_on rom cert f procedure entry base s t certificate extended program names w before r keeps in
+    let there = goes_on rom cert f procedure entry base s t certificate extended program names w before r keeps in
+    let g = there.found in
     let same = g.procedure_is in
+    let k = taken_by cert procedure in
+    let items = w.calls.state.items in
+    let few : k ≤ length items = subst (λ n. taken_by cert n ≤ length items) w.callee w.calls.few in
+    let all = length (given_back_items k items r.exit.items) in
+    let own = place_back (setting_of cert f.procedure) cert.region (length items - k) there.places there.placed in
+    let place = placed_more (setting_of cert f.procedure) cert.region (length items - k) all there.places (given_back_more k items r.exit.items few) own in
     record {
       node = g.node;
       is_node = g.is_node;
@@ -263,6 +305,7 @@ IsMeant-given_back rom cert f procedure entry base s t certificate extended prog
         return_word = HasReturnWord-widely (rules_of cert.version) cert.region g.node.procedure f.base extended;
         room = subst (λ n. AreInRegion cert.region f.base (need_of cert n)) (sym same) w.room;
         held = subst (λ n. AreInRegion cert.region f.base n) (sym g.count) (given_back_room cert f procedure entry base t certificate w r);
+        place = place_found cert f.procedure g.node.procedure all (length g.node.state.items) there.places g.node.state.relations.byte.address same g.count g.place place;
       };
     }
 

@@ -47,7 +47,7 @@ use Rattle.gb_rules.proofs.ReachingLaws.{IsCalling, LeadsBy-called}
 use Rattle.gb_ops.specs.declared.machine.Region.{Region}
 use Rattle.gb_successors.specs.Below.gb_product.Below.gb_summaries.Elsewhere.{IsFree}
 use Rattle.gb_successors.specs.Below.gb_product.Held.{stack_held}
-use Rattle.gb_successors.specs.Below.gb_domain.Areas.{are_in_ram, is_item, meets}
+use Rattle.gb_successors.proofs.Below.gb_product_laws.HeldLaws.{placed_more}
 
 -- ---- where something is meant
 
@@ -144,24 +144,14 @@ is_ready program cert n i o handled deep =
 
 -- ---- where the machine is then
 
-item_more : (base count a : ℕ) → is_item base count a ≡ true → is_item base (count + 2) a ≡ true
-item_more base count a h = grind (arith, nat_tests)
-
-or_more : (base count a : ℕ) (area apart : Bool) → (area && (apart || is_item base count a)) ≡ true → (area && (apart || is_item base (count + 2) a)) ≡ true
-or_more base count a true true h = refl
-or_more base count a true false h = item_more base count a h
-or_more base count a false apart h = h
-
--- what was an item is one still where two bytes more are held
-placed_more : (z : Setting) (region : Region) (count : ℕ) (o : Option ℕ) → IsBytePlaced (stack_held z region count) o → IsBytePlaced (stack_held z region (count + 2)) o
-unfolding stack_held
-placed_more z region count None h = tt
-placed_more z region count (Some a) h = or_more (cond z.is_whole z.base 0) count a (nat_le a a && are_in_ram a a) (not (meets region a a)) h
-
 is_calling : (rom : List ℕ) (cert : Certificate) (n : Node) (entry : Activation) (base : ℕ) (x : MState) (i : ℕ) (o : Option ℕ) → IsAt rom cert n entry base x → IsNodeState cert n → IsReady entry.program cert n i o
     → IsDispatched rom cert n entry base x i → x.processor.halt_mark ≡ false → IsCalling cert n.procedure (vector i) n.address (left_at n) entry base (left_by rom x i n.address)
 is_calling rom cert n entry base x i o at s ready d mark =
     let related = sym (left_relations n) in
+    let place =
+    subst (λ r. IsBytePlaced (stack_held (setting_of cert n.procedure) cert.region (length (left_at n).items)) r.byte.address) related
+    (subst (λ m. IsBytePlaced (stack_held (setting_of cert n.procedure) cert.region m) n.state.relations.byte.address) (sym (left_count n))
+    (placed_more (setting_of cert n.procedure) cert.region (length n.state.items) (length n.state.items + 2) n.state.relations.byte.address (omega arith) at.place)) in
     record {
       reached = record {
         means = d.means;
@@ -172,13 +162,12 @@ is_calling rom cert n entry base x i o at s ready d mark =
         main = at.main;
         based = at.based;
         room = at.room;
+        place = place;
       };
       located = left_set n ∙ d.located;
       placed = record {
         cells = subst (λ cells. ArePlaced cert.region cells) (sym (left_cells n)) s.placed;
-        byte = subst (λ r. IsBytePlaced (stack_held (setting_of cert n.procedure) cert.region (length (left_at n).items)) r.byte.address) related
-            (subst (λ m. IsBytePlaced (stack_held (setting_of cert n.procedure) cert.region m) n.state.relations.byte.address) (sym (left_count n))
-            (placed_more (setting_of cert n.procedure) cert.region (length n.state.items) n.state.relations.byte.address s.place));
+        byte = place;
         summary = left_apart cert.region n s.apart;
       };
       back_small = s.address;

@@ -22,7 +22,7 @@ use Rattle.gb_successors.specs.Below.gb_domain.Limits.{rules_of, item_room}
 use Rattle.gb_successors.specs.Below.gb_domain.Summaries.{Program, no_summary, SummaryParts}
 use Rattle.gb_successors.specs.Below.gb_product.Below.gb_summaries.Elsewhere.{IsFree}
 use Rattle.gb_successors.proofs.Below.gb_abs_laws.LocationLaws.{is_located-of}
-use Rattle.gb_rules.proofs.CertificateLaws.{node_stack, HasStateParts, node_parts}
+use Rattle.gb_rules.proofs.CertificateLaws.{HasStateParts, node_parts}
 use Rattle.gb_successors.specs.Below.gb_domain.Types.{ProcedureParts, AbsState, Node}
 use Rattle.gb_successors.specs.Below.gb_domain.Certificate.{Certificate}
 use Rattle.gb_successors.specs.Below.gb_domain.Areas.{IsRegion}
@@ -41,6 +41,7 @@ use Rattle.gb_successors.specs.Below.gb_abs_memory.Shown.{known_bank}
 use Rattle.gb_successors.specs.Below.gb_abs_memory.Sound.{IsRom, AreVals}
 use Rattle.gb_successors.proofs.Below.gb_abs_memory_laws.LoadLaws.{IsVal-val_at, IsVal-cell}
 use Rattle.gb_successors.proofs.Below.gb_product_laws.ByteLaws.{IsVal-byte_in}
+use Rattle.gb_successors.proofs.Below.gb_product_laws.HeldLaws.{free_held}
 use Rattle.gb_successors.specs.Below.gb_product.Covering.{byte_in, values_in}
 use Rattle.gb_successors.specs.Below.gb_abs.Storage.{is_ram}
 use Rattle.gb_successors.specs.Code.{area_end, code_val, known_byte, known_where, single_of}
@@ -50,7 +51,7 @@ use Rattle.gb_successors.specs.Way.{Successor}
 use Rattle.gb_successors.specs.declared.successors.Successors.{Successors}
 use Rattle.gb_successors.specs.Successors.{has, any_successor, product_before}
 use Rattle.gb_successors.specs.Below.gb_product.Reduced.{reduced}
-use Rattle.gb_successors.specs.Below.gb_relations.Sound.{IsBytePlaced}
+use Rattle.gb_successors.specs.Below.gb_relations.Sound.{IsByteFree, IsBytePlaced}
 use Rattle.gb_successors.specs.Refused.{is_unstorable, meets_closed, is_stack_limited, meets_oam_transfer, is_unknown}
 use Rattle.gb_successors.specs.Sound.{IsOneOf, is_followed, IsAllowed, IsFound, IsStackKnown, IsStackRuled, IsStackFree, IsStackFit, IsPushable, IsPoppable, IsReturnable, IsRuled}
 use Rattle.gb_calls.specs.Calls.{callee_of, are_ranges_inside}
@@ -63,9 +64,8 @@ use Rattle.gb_rules.proofs.RegionLaws.{fewer_bytes}
 use Rattle.gb_rules.proofs.TargetLaws.{way_followed}
 use Rattle.gb_rules.specs.Safety.{HasReturnWord}
 use Rattle.std.specs.Option.{IfSome, is_some}
-use Rattle.gb_rules.specs.Procedures.{base_in, ranges_of, kept_of, need_of, setting_of, stack_of, program_of, exit_of, taken_by}
+use Rattle.gb_rules.specs.Procedures.{ranges_of, kept_of, need_of, setting_of, stack_of, program_of, exit_of, taken_by}
 use Rattle.gb_rules.specs.Rules.{is_stop, may_read_twice, breaks_simple_stack, breaks_stack_by, breaks_stack, pushes_too_deep, moves_too_deep, is_code_limited, callee_by, callee_at, is_over, calls_too_deep, is_resumed_uncovered, is_uncovered_if, is_uncovered, is_outside_of, is_uncallable_at, is_uncallable, is_exit_missed, is_unreturnable_at, is_unreturnable, interrupts, any_interrupt, is_dispatch_deep, handles_too_deep, is_dispatch_limited, is_unhandled, lacks_handler, test_row, test_instruction, is_undefined, node_bytes, ways_of, any_of, is_possible, grows_too_deep, stores_outside, meets_ram, meets_transfer, leads_anywhere, leads_uncovered, calls_wrongly, returns_wrongly, applies_to_row, applies, reasons, reason_of}
-use Rattle.gb_successors.specs.Below.gb_domain.declared.places.StackBytes.{StackBytes}
 use Rattle.gb_successors.specs.Below.gb_product.Held.{stack_held}
 use Rattle.gb_rules.specs.Rules.{setting_by}
 
@@ -87,7 +87,7 @@ pub record IsNodeState (cert : Certificate) (n : Node) : Type 0 where
   pub placed : ArePlaced cert.region n.state.cells
   pub vals : AreVals n.state.cells
   pub items : AllByRecursion IsVal n.state.items
-  pub place : IsBytePlaced (stack_held (setting_of cert n.procedure) cert.region (length n.state.items)) n.state.relations.byte.address
+  pub place : rules_of cert.version ≡ Simple → IsByteFree cert.region n.state.relations.byte.address
   pub pairs : ArePairs n.state.relations.pairs
   pub quiet : rules_of cert.version ≡ Simple → n.state.summary ≡ no_summary
   pub apart : IsFree cert.region n.state.summary
@@ -116,21 +116,6 @@ none_unset true true (v ∷ items) h e = absurd (unlike e)
 none_unset true false (v ∷ items) h e = absurd (not_zero (length items) h)
 none_unset false set (v ∷ items) h e = absurd (not_zero (length items) h)
 
--- the procedure's base is the one of its form
-form_base : (procedures : List ProcedureParts) (i : ℕ) → (form_in (procedure_forms procedures) i).base ≡ base_in (slice_get procedures i)
-form_base [] i = refl
-form_base (p ∷ ps) zero = refl
-form_base (p ∷ ps) (suc i) = form_base ps i
-
--- a place that a node's state may have is one of its procedure's
-node_place :
-    (cert : Certificate) (n : Node) → IsBytePlaced (node_stack (cert.version == 4) (form_in (procedure_forms cert.procedures) n.procedure) cert.region n) n.state.relations.byte.address
-    → IsBytePlaced (stack_held (setting_of cert n.procedure) cert.region (length n.state.items)) n.state.relations.byte.address
-unfolding stack_held setting_of
-node_place cert n h =
-    subst (λ base. IsBytePlaced (record { region = cert.region; base = cond (cert.version == 4) base 0; count = length n.state.items }) n.state.relations.byte.address)
-    (form_base cert.procedures n.procedure) h
-
 pub IsNodeState-node : (cert : Certificate) (n : Node) → IsCertificate cert → Contains cert.nodes n → IsNodeState cert n
 IsNodeState-node cert n c is =
     let p = contained (IsNodeBy (cert.version == 4) cert.version (length cert.facts) (form_in (procedure_forms cert.procedures)) cert.region (length cert.procedures)) key (0, 0) cert.nodes n c.nodes is in
@@ -143,7 +128,7 @@ IsNodeState-node cert n c is =
       placed = state.placed;
       vals = state.vals;
       items = state.items;
-      place = node_place cert n node.place;
+      place = λ simple. state.place (inl simple);
       pairs = state.pairs;
       quiet = state.quiet;
       apart = state.apart;
@@ -151,6 +136,12 @@ IsNodeState-node cert n c is =
       unset = none_unset _ n.state.core.stack_set n.state.items state.pushed;
       aside = state.aside;
     }
+
+-- by the rules of versions 1 and 2 no item is a place
+pub place_simply :
+    (cert : Certificate) (n : Node) → IsCertificate cert → Contains cert.nodes n → rules_of cert.version ≡ Simple
+    → IsBytePlaced (stack_held (setting_of cert n.procedure) cert.region (length n.state.items)) n.state.relations.byte.address
+place_simply cert n c is simple = free_held (setting_of cert n.procedure) cert.region (length n.state.items) n.state.relations.byte.address ((IsNodeState-node cert n c is).place simple)
 
 -- ---- no reason applies
 

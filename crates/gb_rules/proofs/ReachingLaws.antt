@@ -22,8 +22,11 @@ use Rattle.gb_successors.specs.Below.gb_abs.Stack.{AreInRegion}
 use Rattle.gb_successors.specs.Below.gb_abs.Storage.{peek}
 use Rattle.gb_successors.specs.Below.gb_pairs.Meaning.{AreBytes}
 use Rattle.gb_successors.specs.Below.gb_product.Covering.{covers}
+use Rattle.gb_successors.specs.Below.gb_product.Held.{stack_held}
 use Rattle.gb_successors.specs.Below.gb_product.Meaning.{Means, IsApart}
+use Rattle.gb_successors.specs.Below.gb_relations.Sound.{IsByteFree, IsBytePlaced}
 use Rattle.gb_successors.proofs.Below.gb_product_laws.CoveringLaws.{Means-covered}
+use Rattle.gb_successors.proofs.Below.gb_product_laws.HeldLaws.{free_held}
 use Rattle.gb_calls.specs.Calls.{entered_by, fits, callee_of, are_ranges_inside}
 use Rattle.gb_calls.specs.Resuming.{resumed}
 use Rattle.gb_calls.proofs.CalleeLaws.{IsCallee-found, IsEntryNode-entry, fits-few, fits-base}
@@ -32,7 +35,7 @@ use Rattle.gb_rules.specs.Procedures.{ranges_of, kept_of, need_of, setting_of, p
 use Rattle.gb_rules.specs.Rules.{is_extended, is_over, is_resumed_uncovered, is_back_uncovered, is_call_uncovered, is_uncovered_if, is_outside_of, is_exit_missed}
 use Rattle.gb_rules.specs.Safety.{begun, Declares, IsMeant, HandsOver, GoesBack, LeadsBy}
 use Rattle.gb_rules.proofs.SearchLaws.{Contains-slice_get}
-use Rattle.gb_rules.proofs.CoveringLaws.{covered_items, found_by}
+use Rattle.gb_rules.proofs.CoveringLaws.{covered_items, place_found, found_by}
 use Rattle.gb_rules.proofs.ProcedureLaws.{kept_is, HasReturnWord-widely, main_room, main_based}
 use Rattle.gb_rules.proofs.WayLaws.{is_own, same_number}
 use Rattle.gb_rules.specs.Rules.{setting_by}
@@ -47,6 +50,7 @@ pub record IsReached (cert : Certificate) (procedure a : ℕ) (state : AbsState)
   pub main : procedure ≡ 0 → base ≡ cert.region.last + 1
   pub based : IsBase (setting_of cert procedure) base
   pub room : AreInRegion cert.region base (need_of cert procedure)
+  pub place : IsBytePlaced (stack_held (setting_of cert procedure) cert.region (length state.items)) state.relations.byte.address
 
 -- ---- in the same procedure
 
@@ -72,14 +76,15 @@ IsMeant-reached rom cert procedure a state entry base y extended program names k
         return_word = HasReturnWord-widely (rules_of cert.version) cert.region f.node.procedure base extended;
         room = subst (λ n. AreInRegion cert.region base (need_of cert n)) (sym same) k.room;
         held = subst (λ n. AreInRegion cert.region base n) (sym f.count) k.held;
+        place = place_found cert procedure f.node.procedure (length state.items) (length f.node.state.items) state.relations.byte.address f.node.state.relations.byte.address same f.count f.place k.place;
       };
     }
 
 -- main begins anew, as if it were entered now
 pub IsMeant-anew : (rom : List ℕ) (cert : Certificate) (a : ℕ) (state : AbsState) (y : MState) → rules_of cert.version ≡ Extended → IsCertificate cert → Means state (begun rom cert 0 (cert.region.last + 1) y) (cert.region.last + 1) y
-    → y.processor.pc ≡ a → AreBytes y.processor.registers → ArePairs state.relations.pairs → AreInRegion cert.region (cert.region.last + 1) (length state.items) → IsMarkHarmless rom y
+    → y.processor.pc ≡ a → AreBytes y.processor.registers → ArePairs state.relations.pairs → AreInRegion cert.region (cert.region.last + 1) (length state.items) → IsByteFree cert.region state.relations.byte.address → IsMarkHarmless rom y
     → covered_at (program_of rom cert) Extended cert 0 a state ≡ true → IsMeant rom cert 0 (begun rom cert 0 (cert.region.last + 1) y) (cert.region.last + 1) y
-IsMeant-anew rom cert a state y extended certificate means address bytes pairs held mark covered =
+IsMeant-anew rom cert a state y extended certificate means address bytes pairs held free mark covered =
     IsMeant-reached rom cert 0 a state (begun rom cert 0 (cert.region.last + 1) y) (cert.region.last + 1) y extended refl (record { kept = refl; mark = refl })
     (record {
       means = means;
@@ -90,6 +95,7 @@ IsMeant-anew rom cert a state y extended certificate means address bytes pairs h
       main = λ e. refl;
       based = main_based cert certificate;
       room = main_room cert certificate;
+      place = free_held (setting_of cert 0) cert.region (length state.items) state.relations.byte.address free;
     }) mark covered
 
 -- ---- a callee takes over

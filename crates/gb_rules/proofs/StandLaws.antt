@@ -27,6 +27,8 @@ use Rattle.gb_calls.specs.Below.gb_states.WholeRules.{IsCertificate}
 use Rattle.gb_ops.specs.Cartridge.{kind_of}
 use Rattle.gb_successors.specs.Below.gb_abs_memory.Windows.{known_kind}
 use Rattle.gb_rules.specs.Procedures.{ranges_of, mark_of, need_of, setting_of, stack_of, program_of}
+use Rattle.gb_successors.specs.Below.gb_product.Held.{stack_held}
+use Rattle.gb_successors.specs.Below.gb_relations.Sound.{IsBytePlaced}
 use Rattle.gb_rules.specs.Rules.{ways_of}
 use Rattle.gb_rules.specs.Safety.{HasReturnWord, Declares}
 use Rattle.gb_rules.proofs.NodeLaws.{IsNodeState, Passes, IsHoused, ruled, known_by}
@@ -47,6 +49,7 @@ pub record OnNode (rom : List ℕ) (cert : Certificate) (n : Node) (entry : Acti
   pub room : AreInRegion cert.region base (need_of cert n.procedure)
   pub based : IsBase (setting_of cert n.procedure) base
   pub held : AreInRegion cert.region base (length n.state.items)
+  pub place : IsBytePlaced (stack_held (setting_of cert n.procedure) cert.region (length n.state.items)) n.state.relations.byte.address
 
 -- the controller of which states may speak
 controller_known : (rom : List ℕ) (cert : Certificate) (procedure : ℕ) → (program_of rom cert).kind ≡ known_kind (setting_of cert procedure).is_whole (kind_of rom)
@@ -60,7 +63,7 @@ stands rom cert n entry base x k = record {
   is_region = k.state.is_region;
   core = k.state.core;
   placed = k.state.placed;
-  place = k.state.place;
+  place = k.place;
   pairs = k.state.pairs;
   vals = k.state.vals;
   items = k.state.items;
@@ -96,7 +99,7 @@ is_ruled rom cert n entry base x k = ruled rom cert n base k.passes k.cartridge 
 
 -- the states of its successors are such as states may be
 pub formed : (rom : List ℕ) (cert : Certificate) (n : Node) (entry : Activation) (base : ℕ) (x : MState) (k : OnNode rom cert n entry base x) (t : Successor) → IsOneOf (ways_of rom cert n k.passes.row) t
-    → IsFormed (setting_of cert n.procedure) cert.region t.state
+    → IsFormed (setting_of cert n.procedure) cert.region t
 unfolding ways_of stack_of
 formed rom cert n entry base x k t is =
     IsFormed-successor (whole_stack cert n.procedure) (program_of rom cert) rom k.passes.row n.address n.state t entry base x (stands rom cert n entry base x k) (is_ruled rom cert n entry base x k).operands is
@@ -159,6 +162,7 @@ on_unmarked rom cert n entry base x k = record {
   room = k.room;
   based = k.based;
   held = k.held;
+  place = k.place;
 }
 
 -- there is a successor

@@ -37,7 +37,7 @@ use Rattle.gb_rules.specs.Rules.{ways_of, callee_by, callee_at, is_over, calls_t
 use Rattle.gb_rules.specs.Safety.{Declares, HasReturnWord, IsMeant, Calls, Returns, LeadsBy, Leads}
 use Rattle.gb_rules.proofs.SearchLaws.{Contains-slice_get}
 use Rattle.gb_rules.proofs.CoveringLaws.{found_at}
-use Rattle.gb_rules.proofs.NodeLaws.{simple_at, covered_if, IsUnopposed, unopposed, followed}
+use Rattle.gb_rules.proofs.NodeLaws.{place_simply, simple_at, covered_if, IsUnopposed, unopposed, followed}
 use Rattle.gb_rules.proofs.StandLaws.{OnNode, quiet}
 use Rattle.gb_rules.specs.Rules.{setting_by}
 
@@ -148,8 +148,8 @@ pub record IsMarked (rom : List ℕ) (w : Target) (y : MState) : Type 0 where
 
 -- a successor leads on in the same procedure
 stays_at : (rom : List ℕ) (cert : Certificate) (n : Node) (entry : Activation) (base : ℕ) (x : MState) (k : OnNode rom cert n entry base x) (t : Successor) (a : ℕ) (y : MState)
-    → StaysAt cert.region a t entry base y → AreRelated t.state.relations y → IsSummarized t.state entry y → covered_at entry.program Simple cert n.procedure a t.state ≡ true → IsMarkHarmless rom y → IsMeant rom cert n.procedure entry base y
-stays_at rom cert n entry base x k t a y to related said covered mark =
+    → StaysAt cert.region a t entry base y → AreRelated t.state.relations y → IsSummarized t.state entry y → rules_of cert.version ≡ Simple → covered_at entry.program Simple cert n.procedure a t.state ≡ true → IsMarkHarmless rom y → IsMeant rom cert n.procedure entry base y
+stays_at rom cert n entry base x k t a y to related said simple covered mark =
     let f = found_at cert n.procedure a t.state entry base y covered (record { parts = to.means; related = related; summary = said }) in
     record {
       node = f.node;
@@ -166,6 +166,7 @@ stays_at rom cert n entry base x k t a y to related said covered mark =
         return_word = subst (λ m. HasReturnWord (rules_of cert.version) cert.region m base) (sym f.procedure_is) k.return_word;
         room = subst (λ m. AreInRegion cert.region base (need_of cert m)) (sym f.procedure_is) k.room;
         held = subst (λ c. AreInRegion cert.region base c) (sym f.count) to.room;
+        place = place_simply cert f.node k.certificate f.is_node simple;
       };
     }
 
@@ -192,7 +193,7 @@ Leads-simply rom cert n entry base x k t simple is y leads related_if said mark 
     by : (w : Target) → LeadsSimply cert.region w t entry base x y → is_followed Simple w ≡ true → is_uncovered_at entry.program (simple_at cert n) cert n.procedure w t.next t.state ≡ false
         → is_uncallable_at entry.program (simple_at cert n) cert n.procedure w t.state ≡ false → is_over Simple cert (need_of cert n.procedure) (length t.state.items) (callee_by entry.program cert (simple_at cert n) w t.state) ≡ false
         → is_unreturnable_at entry.program Simple cert n.procedure w t.state ≡ false → IsMarked rom w y → LeadsBy Simple rom cert n.procedure entry base x y
-    by (target.At a) to known covered callable shallow returnable marked = inl (stays_at rom cert n entry base x k t a y to related said (not-false _ covered) marked.harmless)
+    by (target.At a) to known covered callable shallow returnable marked = inl (stays_at rom cert n entry base x k t a y to related said simple (not-false _ covered) marked.harmless)
     by (target.Call a) to known covered callable shallow returnable marked = inr (inl (calls_at rom cert n t a entry base y k.certificate to related said still (marked.clear tt) callable shallow covered))
     by target.Return to known covered callable shallow returnable marked = inr (inr (inl (returns_to cert n t entry base x y to related said (marked.clear tt) returnable)))
     by (target.Main a) to known covered callable shallow returnable marked = not_so (sym known)

@@ -20,6 +20,9 @@ use Rattle.gb_calls.specs.Calls.{callee_of}
 use Rattle.gb_successors.specs.Below.gb_abs_effects.declared.targets.Target.{Target}
 use Rattle.gb_successors.specs.Below.gb_abs_effects.declared.targets.Target.TheVariants as target
 use Rattle.gb_successors.proofs.FormedLaws.{IsFormed}
+use Rattle.gb_successors.proofs.HoldingLaws.{IsPlacedBehind}
+use Rattle.gb_successors.specs.Below.gb_product.Held.{stack_held}
+use Rattle.gb_successors.specs.Below.gb_relations.Sound.{IsBytePlaced}
 use Rattle.gb_successors.specs.Way.{Successor}
 use Rattle.gb_successors.specs.Sound.{is_followed, IsFound, IsOneOf, StaysAt, CalledAt, ReturnsBy, BeginsAnew, LeadsSimply, LeadsWidely, LeadsTo}
 use Rattle.gb_successors.specs.Sound as successors
@@ -39,9 +42,9 @@ wide_at cert n = record (setting_of cert n.procedure) { rules = Extended }
 
 -- ---- in the same procedure
 
-reached : (rom : List ℕ) (cert : Certificate) (n : Node) (entry : Activation) (base : ℕ) (x : MState) (k : OnNode rom cert n entry base x) (t : Successor) (a : ℕ) (y : MState) → IsFormed (setting_of cert n.procedure) cert.region t.state
-    → MeansParts t.state entry base y → AreRelated t.state.relations y → IsSummarized t.state entry y → y.processor.pc ≡ a → AreInRegion cert.region base (length t.state.items) → IsReached cert n.procedure a t.state entry base y
-reached rom cert n entry base x k t a y f means related said goes held = record {
+reached : (rom : List ℕ) (cert : Certificate) (n : Node) (entry : Activation) (base : ℕ) (x : MState) (k : OnNode rom cert n entry base x) (t : Successor) (a : ℕ) (y : MState) → IsFormed (setting_of cert n.procedure) cert.region t
+    → IsBytePlaced (stack_held (setting_of cert n.procedure) cert.region (length t.state.items)) t.state.relations.byte.address → MeansParts t.state entry base y → AreRelated t.state.relations y → IsSummarized t.state entry y → y.processor.pc ≡ a → AreInRegion cert.region base (length t.state.items) → IsReached cert n.procedure a t.state entry base y
+reached rom cert n entry base x k t a y f place means related said goes held = record {
   means = record { parts = means; related = related; summary = said };
   address = goes;
   bytes = AreBytes-core t.state.core entry y f.core means.core;
@@ -50,6 +53,7 @@ reached rom cert n entry base x k t a y f means related said goes held = record 
   main = k.main;
   based = k.based;
   room = k.room;
+  place = place;
 }
 
 -- ---- calls, with a callee or inlined
@@ -58,12 +62,12 @@ rules_extended : (cert : Certificate) (procedure : ℕ) → rules_of cert.versio
 unfolding setting_of
 rules_extended cert procedure h = h
 
-calling : (rom : List ℕ) (cert : Certificate) (n : Node) (entry : Activation) (base : ℕ) (x : MState) (k : OnNode rom cert n entry base x) (t : Successor) (a : ℕ) (y : MState) → rules_of cert.version ≡ Extended → IsFormed (setting_of cert n.procedure) cert.region t.state
-    → CalledAt cert.region a t entry base y → AreRelated t.state.relations y → IsSummarized t.state entry y → y.processor.halt_mark ≡ false → IsCalling cert n.procedure a t.next t.state entry base y
-calling rom cert n entry base x k t a y extended f to related said mark = record {
-  reached = reached rom cert n entry base x k t a y f to.means related said to.goes to.room;
+calling : (rom : List ℕ) (cert : Certificate) (n : Node) (entry : Activation) (base : ℕ) (x : MState) (k : OnNode rom cert n entry base x) (t : Successor) (a : ℕ) (y : MState) → IsFormed (setting_of cert n.procedure) cert.region t
+    → IsBytePlaced (stack_held (setting_of cert n.procedure) cert.region (length t.state.items)) t.state.relations.byte.address → CalledAt cert.region a t entry base y → AreRelated t.state.relations y → IsSummarized t.state entry y → y.processor.halt_mark ≡ false → IsCalling cert n.procedure a t.next t.state entry base y
+calling rom cert n entry base x k t a y f place to related said mark = record {
+  reached = reached rom cert n entry base x k t a y f place to.means related said to.goes to.room;
   located = to.located;
-  placed = record { cells = to.placed; byte = f.place (rules_extended cert n.procedure extended); summary = f.apart };
+  placed = record { cells = to.placed; byte = place; summary = f.apart };
   back_small = to.next;
   return_word = to.top;
   mark = mark;
@@ -78,12 +82,12 @@ Leads-widely : (rom : List ℕ) (cert : Certificate) (n : Node) (entry : Activat
     → IsOneOf (ways_of rom cert n k.passes.row) t → (y : MState) → LeadsWidely (setting_of cert n.procedure) cert.region t.target t entry base y → (is_followed Extended t.target ≡ true → AreRelated t.state.relations y)
     → IsSummarized t.state entry y → IsMarked rom t.target y → LeadsBy Extended rom cert n.procedure entry base x y
 unfolding is_uncovered is_uncallable is_unreturnable calls_too_deep callee_at
-Leads-widely rom cert n entry base x k t extended is y leads related_if said mark = by t.target leads (found entry.program cert n t u) u.covered u.callable u.shallow u.returnable mark
+Leads-widely rom cert n entry base x k t extended is y leads related_if said mark = by t.target (f.place (rules_extended cert n.procedure extended)) leads (found entry.program cert n t u) u.covered u.callable u.shallow u.returnable mark
   where
     u : IsUnopposed entry.program Extended cert n t
     u = subst (λ p. IsUnopposed p Extended cert n t) (sym k.program) (unopposed Extended rom cert n k.passes t extended is)
 
-    f : IsFormed (setting_of cert n.procedure) cert.region t.state
+    f : IsFormed (setting_of cert n.procedure) cert.region t
     f = formed rom cert n entry base x k t is
 
     related : AreRelated t.state.relations y
@@ -96,23 +100,23 @@ Leads-widely rom cert n entry base x k t extended is y leads related_if said mar
     own : wide_at cert n ≡ setting_of cert n.procedure
     own = sym (ruled_by Extended cert n extended)
 
-    by : (w : Target) → LeadsWidely (setting_of cert n.procedure) cert.region w t entry base y → IsFound w → is_uncovered_at entry.program (wide_at cert n) cert n.procedure w t.next t.state ≡ false
+    by : (w : Target) → IsPlacedBehind (setting_of cert n.procedure) cert.region w t.state → LeadsWidely (setting_of cert n.procedure) cert.region w t entry base y → IsFound w → is_uncovered_at entry.program (wide_at cert n) cert n.procedure w t.next t.state ≡ false
         → is_uncallable_at entry.program (wide_at cert n) cert n.procedure w t.state ≡ false → is_over Extended cert (need_of cert n.procedure) (length t.state.items) (callee_by entry.program cert (wide_at cert n) w t.state) ≡ false
         → is_unreturnable_at entry.program Extended cert n.procedure w t.state ≡ false → IsMarked rom w y → LeadsBy Extended rom cert n.procedure entry base x y
-    by (target.At a) to known covered callable shallow returnable marked =
-        inl (IsMeant-reached rom cert n.procedure a t.state entry base y extended k.program k.names (reached rom cert n entry base x k t a y f to.means related said to.goes to.room) marked.harmless (not-false _ covered))
-    by (target.Call a) to known covered callable shallow returnable marked =
-        LeadsBy-called rom cert n.procedure a t.next t.state entry base x y (callee_of entry.program cert (wide_at cert n) a t.state) extended k.certificate k.program k.names (calling rom cert n entry base x k t a y extended f to related said (marked.clear tt))
+    by (target.At a) place to known covered callable shallow returnable marked =
+        inl (IsMeant-reached rom cert n.procedure a t.state entry base y extended k.program k.names (reached rom cert n entry base x k t a y f place to.means related said to.goes to.room) marked.harmless (not-false _ covered))
+    by (target.Call a) place to known covered callable shallow returnable marked =
+        LeadsBy-called rom cert n.procedure a t.next t.state entry base x y (callee_of entry.program cert (wide_at cert n) a t.state) extended k.certificate k.program k.names (calling rom cert n entry base x k t a y f place to related said (marked.clear tt))
         (ap (λ (z : Setting). callee_of entry.program cert z a t.state) (sym own)) (subst (λ (z : Setting). is_outside_of z cert n.procedure (callee_of entry.program cert (wide_at cert n) a t.state) ≡ false) own callable) shallow covered
-    by target.Return to known covered callable shallow returnable marked =
+    by target.Return place to known covered callable shallow returnable marked =
         let parts = or_parts _ _ returnable in
         inr (inr (inl (GoesBack-reached cert n.procedure t.state entry base y (not_main n.procedure parts.0) (record { parts = to.means; related = related; summary = said }) to.room to.goes (marked.clear tt) parts.1)))
-    by (target.Main a) to known covered callable shallow returnable marked =
+    by (target.Main a) place to known covered callable shallow returnable marked =
         let means = to.means (begun rom cert 0 (cert.region.last + 1) y) (sym k.program) in
-        inr (inr (inr (IsMeant-anew rom cert a t.state y extended k.certificate (record { parts = means; related = related; summary = anew }) to.goes (AreBytes-core t.state.core (begun rom cert 0 (cert.region.last + 1) y) y f.core means.core) f.pairs to.room marked.harmless
+        inr (inr (inr (IsMeant-anew rom cert a t.state y extended k.certificate (record { parts = means; related = related; summary = anew }) to.goes (AreBytes-core t.state.core (begun rom cert 0 (cert.region.last + 1) y) y f.core means.core) f.pairs to.room place marked.harmless
         (subst (λ p. covered_at p Extended cert 0 a t.state ≡ true) k.program (not-false _ covered)))))
-    by target.Unknown to known covered callable shallow returnable marked = absurd known
-    by target.Lost to known covered callable shallow returnable marked = absurd known
+    by target.Unknown place to known covered callable shallow returnable marked = absurd known
+    by target.Lost place to known covered callable shallow returnable marked = absurd known
 
 -- by either rules
 pub Leads-way : (rom : List ℕ) (cert : Certificate) (n : Node) (entry : Activation) (base : ℕ) (x : MState) (k : OnNode rom cert n entry base x) (t : Successor) → IsOneOf (ways_of rom cert n k.passes.row) t → (y : MState)

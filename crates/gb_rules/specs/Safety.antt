@@ -20,9 +20,11 @@ use Rattle.gb_successors.specs.Below.gb_domain.Certificate.{Certificate}
 use Rattle.gb_successors.specs.Below.gb_domain.Limits.{rules_of}
 use Rattle.gb_successors.specs.Below.gb_abs.Cells.{ArePlaced}
 use Rattle.gb_successors.specs.Below.gb_product.Covering.{covers}
+use Rattle.gb_successors.specs.Below.gb_product.Held.{stack_held}
 use Rattle.gb_successors.specs.Below.gb_abs.Mark.{IsMarkHarmless}
 use Rattle.gb_successors.specs.Below.gb_product.Meaning.{Means, IsApart}
 use Rattle.gb_successors.specs.Below.gb_abs.Stack.{AreInRegion, pushed}
+use Rattle.gb_successors.specs.Below.gb_relations.Sound.{IsBytePlaced}
 use Rattle.gb_successors.specs.Below.gb_abs.Storage.{peek}
 use Rattle.gb_successors.specs.Below.gb_abs_memory.Kept.{IsKept}
 use Rattle.gb_calls.specs.Calls.{entered_by, are_ranges_inside}
@@ -50,7 +52,7 @@ pub record Declares (cert : Certificate) (procedure base : ℕ) (entry : Activat
 
 -- the machine stands at a node, in a state that the node means: entry says how its procedure was entered, what that keeps, and which
 -- program it is part of, and base is the address above its items (main's is the one behind the region); those, and the bytes that it may need,
--- lie in the region
+-- lie in the region, and the one byte's place, if it is there, is one of those
 pub record IsAt (rom : List ℕ) (cert : Certificate) (n : Node) (entry : Activation) (base : ℕ) (s : MState) : Type 0 where
   pub address : s.processor.pc ≡ n.address
   pub program : entry.program ≡ program_of rom cert
@@ -62,6 +64,7 @@ pub record IsAt (rom : List ℕ) (cert : Certificate) (n : Node) (entry : Activa
   pub return_word : HasReturnWord (rules_of cert.version) cert.region n.procedure base
   pub room : AreInRegion cert.region base (need_of cert n.procedure)
   pub held : AreInRegion cert.region base (length n.state.items)
+  pub place : IsBytePlaced (stack_held (setting_of cert n.procedure) cert.region (length n.state.items)) n.state.relations.byte.address
 
 -- some node of the procedure stands where the machine is, and means its state
 pub record IsMeant (rom : List ℕ) (cert : Certificate) (procedure : ℕ) (entry : Activation) (base : ℕ) (s : MState) : Type 0 where

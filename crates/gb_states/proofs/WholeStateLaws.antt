@@ -36,7 +36,7 @@ use Rattle.gb_states.specs.declared.role.Role.TheVariants as role
 use Rattle.gb_states.specs.Reading.{Tested, to_vals, to_core, is_stack_right, item_count_at, to_cell}
 use Rattle.gb_states.specs.RelationReading.{is_present, present_at, is_somewhere, place_by, parts_at}
 use Rattle.gb_states.specs.Rules.{may_be_pushed}
-use Rattle.gb_states.specs.WholeRules.{IsValIn, IsWithin, IsSummary, IsFreeFrom, IsCoreIn, IsCellIn, IsStateIn, may_be_aside, stack_bytes}
+use Rattle.gb_states.specs.WholeRules.{IsValIn, IsWithin, IsSummary, IsFreeFrom, IsCoreIn, IsCellIn, IsStateIn, may_be_aside, item_base, stack_bytes}
 use Rattle.gb_states.specs.WholeReading.{val_at, kept_at, may_be_declared, may_be_item, declared_at, summary_at, ctl_at, vals_at, core_at, items_at, cell_at, cells_at, to_told, present_declared_at, place_of, told_at, to_state, behind_items, state_at}
 use Rattle.gb_states.specs.Spelling as simple
 use Rattle.gb_states.specs.RelationSpelling as told
@@ -270,7 +270,7 @@ from_state : AbsState → StateParts
 from_state s = ((s.core, compared s.relations.byte.test), (s.items, ((s.relations, s.summary), s.cells)))
 
 abbrev spelled_behind : Region → ℕ → Told × List Cell → List ℕ
-spelled_behind region base p = spelled.told region base p.0 ++ simple.counted spelled.cell p.1
+spelled_behind region base p = spelled.told region (item_base base region) p.0 ++ simple.counted spelled.cell p.1
 
 abbrev spelled_state : Region → ℕ → StateParts → List ℕ
 spelled_state region base p = spelled_core p.0 ++ (simple.counted spelled.val p.1.0 ++ spelled_behind region base p.1.1)
@@ -320,7 +320,7 @@ IsFormat-behind : (facts : ℕ) (form : ProcedureForm) (role : Role) (region : R
     → IsFormat (behind_items facts form role region k count) (spelled_behind region form.base) (AreBehind facts form role region k count)
 IsFormat-behind facts form role region k count small few items test =
     let stack = stack_bytes form role region count in
-    IsFormat-both (told_at facts stack (may_be_aside role k.0) k.1) (cells_at form.kept region) (spelled.told region form.base) (simple.counted spelled.cell) (IsToldIn facts stack (may_be_aside role k.0) k.1) (AreCellsIn form.kept region)
+    IsFormat-both (told_at facts stack (may_be_aside role k.0) k.1) (cells_at form.kept region) (spelled.told region (item_base form.base region)) (simple.counted spelled.cell) (IsToldIn facts stack (may_be_aside role k.0) k.1) (AreCellsIn form.kept region)
     (IsFormat-told facts stack (may_be_aside role k.0) k.1 small (named-few form role region count items) test) (IsFormat-cells form.kept region few)
 
 -- Exactly the states of version 4 are read where they are spelled.

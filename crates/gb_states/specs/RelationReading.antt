@@ -71,7 +71,7 @@ is_stack_byte region address = is_area address address && meets region address a
 abbrev pub item_address : ℕ → ℕ → ℕ
 item_address base number = base - 1 - number
 
--- There is an item with this number, and it lies in the region: where the base isn't known none does.
+-- There is an item with this number, and it lies in the region.
 abbrev pub is_item_number : StackBytes → ℕ → Bool
 is_item_number k number = nat_lt number k.count && is_stack_byte k.region (item_address k.base number)
 

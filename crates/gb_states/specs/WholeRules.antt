@@ -1,5 +1,5 @@
 -- Which values, facts, fills and shadows there are in version 4, which speaks of whole programs, and which certificates of any version (own format).
-use Rattle.std.specs.Prelude.{◌≡◌, ℕ, zero, suc, ◌+◌, ◌-◌, ◌%◌, ◌≤◌, ◌<◌, Bool, true, false, not, ◌&&◌, ◌||◌, ◌==◌, nat_le, nat_lt, List, [], length, map, slice_get, slice_index_or, Option, Some, None, IfSome, is_some}
+use Rattle.std.specs.Prelude.{◌≡◌, ℕ, zero, suc, ◌+◌, ◌-◌, ◌%◌, ◌≤◌, ◌<◌, Bool, true, false, not, ◌&&◌, ◌||◌, ◌==◌, nat_le, nat_lt, List, [], length, map, slice_get, slice_index_or, if◌then◌else◌, Option, Some, None, IfSome, is_some}
 use Rattle.std.specs.List.{AllByRecursion}
 use Rattle.gb_ops.specs.declared.machine.Region.{Region}
 use Rattle.gb_ops.specs.declared.op.Register.{Register}
@@ -176,9 +176,13 @@ named_items role.Main count = count
 named_items role.Other count = count
 named_items role.Exit count = 0
 
+-- the base from which items are counted: where it isn't known they are counted from the region's end
+unfoldable pub item_base : ℕ → Region → ℕ
+item_base base region = if base == 0 then (region.last + 1) % 65536 else base
+
 -- the stack of a state that has so many items
 abbrev pub stack_bytes : ProcedureForm → Role → Region → ℕ → StackBytes
-stack_bytes form role region count = record { region = region; base = form.base; count = named_items role count }
+stack_bytes form role region count = record { region = region; base = item_base form.base region; count = named_items role count }
 
 -- A state of a procedure of this form, in a certificate of so many facts. The one byte may be held by one of its items.
 pub record IsStateIn (facts : ℕ) (form : ProcedureForm) (role : Role) (region : Region) (s : AbsState) : Type 0 where

@@ -35,7 +35,7 @@ use Rattle.gb_states.specs.declared.form.ProcedureForm.{ProcedureForm}
 use Rattle.gb_states.specs.declared.relations.InMemory.{InMemory}
 use Rattle.gb_states.specs.declared.relations.InMemory.TheVariants.{Nowhere, Address, Item}
 use Rattle.gb_states.specs.Rules.{is_unshadowed}
-use Rattle.gb_states.specs.WholeRules.{is_said, procedure_forms, form_in, IsCertificate}
+use Rattle.gb_states.specs.WholeRules.{item_base, is_said, procedure_forms, form_in, IsCertificate}
 use Rattle.gb_states.specs.Numbers.{word, flag}
 use Rattle.gb_states.specs.Spelling as simple
 use Rattle.gb_states.specs.RelationSpelling.{where_there, optional, bounds, registers_number, present_by, present_number, parts_by}
@@ -187,13 +187,13 @@ memory region base (Some address) = memory_if (meets region address address) bas
 abbrev pub told_by : InMemory → List ℕ → Relations × SummaryParts → List ℕ
 told_by place bytes p = present_number (present_by (is_address place) p.0) ∷ declared_number (declared_in (is_item place) p.1) ∷ (parts_by bytes p.0 ++ summary p.1)
 
--- what is known of several parts together and what is said of the whole program, in a procedure with this base
+-- what is known of several parts together and what is said of the whole program, where items are counted from this base
 unfoldable pub told : Region → ℕ → Relations × SummaryParts → List ℕ
 told region base p = told_by (place_in region p.0.byte.address) (memory region base p.0.byte.address) p
 
--- a core with its test, items, what is known and said, and cells
+-- a core with its test, items, what is known and said, and cells, in a procedure with this base
 unfoldable pub state : Region → ℕ → AbsState → List ℕ
-state region base s = core s.core (compared s.relations.byte.test) ++ (simple.counted val s.items ++ (told region base (s.relations, s.summary) ++ simple.counted cell s.cells))
+state region base s = core s.core (compared s.relations.byte.test) ++ (simple.counted val s.items ++ (told region (item_base base region) (s.relations, s.summary) ++ simple.counted cell s.cells))
 
 -- ---- procedures and nodes
 

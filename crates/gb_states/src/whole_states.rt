@@ -7,7 +7,7 @@ ghost use Rattle.gb_domain.specs.Rules.{after_cell};
 ghost use Rattle.gb_fields.specs.Format.{Gives, both, several};
 ghost use Rattle.gb_fields.specs.Limits.{item_limit};
 ghost use Rattle.gb_states.specs.RelationReading.{parts_at};
-ghost use Rattle.gb_states.specs.WholeRules.{is_off_alone, may_be_aside, stack_bytes};
+ghost use Rattle.gb_states.specs.WholeRules.{is_off_alone, may_be_aside, item_base, stack_bytes};
 ghost use Rattle.gb_states.specs.WholeReading.{val_at, ctl_at, vals_at, core_at, items_at, cell_at, cells_at, may_be_item, present_declared_at, place_of, summary_at, told_at, state_at};
 
 use crate::fields::{banks_at, flg_at, ime_at, may_at, ordered_at, test_at};
@@ -199,6 +199,19 @@ pub fn may_be_aside(role: Role, core: &Core) -> bool
     }
 }
 
+/// The base from which items are counted: where it isn't known they are counted from the region's end.
+#[inline(always)]
+#[tactic(auto, unfolding(crate::specs::WholeRules::item_base))]
+pub fn item_base(base: u16, region: Region) -> u16
+    ensures { result ≡ item_base base region }
+{
+    if base == 0 {
+        region.last.wrapping_add(1)
+    } else {
+        base
+    }
+}
+
 /// The stack of a state that has so many items.
 #[inline(always)]
 pub fn stack_bytes(form: ProcedureForm, role: Role, region: Region, count: u8) -> StackBytes
@@ -206,7 +219,7 @@ pub fn stack_bytes(form: ProcedureForm, role: Role, region: Region, count: u8) -
 {
     StackBytes {
         region,
-        base: form.base,
+        base: item_base(form.base, region),
         count: role.named_items(count),
     }
 }

@@ -54,7 +54,7 @@ use Rattle.gb_domain.specs.declared.setting.Setting.{Setting}
 use Rattle.gb_successors.specs.declared.way.Told.{Told}
 use Rattle.gb_successors.specs.Behind.{told_behind}
 use Rattle.gb_successors.specs.Settled.{branch_outside, told_by, told_at_target, told_successor, relations_left, held_successor}
-use Rattle.gb_successors.proofs.HoldingLaws.{placed_left, settled_cases}
+use Rattle.gb_successors.proofs.HoldingLaws.{IsPlacedBehind, placed_behind, settled_cases}
 use Rattle.gb_product.specs.Reduced.{product_of, reduced}
 use Rattle.gb_product.specs.Sides.{taken_side, not_taken_side}
 use Rattle.gb_product.specs.Sound.{IsReduced, IsSideOf}
@@ -85,12 +85,13 @@ use Rattle.gb_successors.proofs.UntakenLaws.{untaken_simply}
 use Rattle.gb_successors.specs.StackMark.{marks, marked}
 use Rattle.gb_successors.proofs.StackMarkLaws.{IsCore-marked, IsWrite-marked}
 
--- what a certificate too asks of states
-pub record IsFormed (z : Setting) (region : Region) (s : AbsState) : Type 0 where
-  pub core : IsCore s.core
-  pub place : z.rules ≡ Extended → IsBytePlaced (stack_held z region (length s.items)) s.relations.byte.address
-  pub pairs : ArePairs s.relations.pairs
-  pub apart : IsFree region s.summary
+-- What a certificate too asks of the states of a successor. By the rules of version 3 their place is one of the procedure's, or none of an
+-- item's where main begins anew.
+pub record IsFormed (z : Setting) (region : Region) (t : Successor) : Type 0 where
+  pub core : IsCore t.state.core
+  pub place : z.rules ≡ Extended → IsPlacedBehind z region t.target t.state
+  pub pairs : ArePairs t.state.relations.pairs
+  pub apart : IsFree region t.state.summary
 
 -- so far, places may be among so many items
 record IsFormedAmong (z : Setting) (region : Region) (n : ℕ) (s : AbsState) : Type 0 where
@@ -201,13 +202,13 @@ formed_told : (z : Setting) (region : Region) (n : ℕ) (o : Option Told) (core 
 formed_told z region n None core s h = h
 formed_told z region n (Some t) core s h = record { core = h.core; place = h.place; pairs = h.pairs; apart = h.apart }
 
-formed_held : (k : Stack) (n : ℕ) (o : Option Told) (core : Core) (t : Successor) → IsFormedAmong k.setting k.region n t.state → IsFormed k.setting k.region (held_successor k (told_successor o core t)).state
+formed_held : (k : Stack) (n : ℕ) (o : Option Told) (core : Core) (t : Successor) → IsFormedAmong k.setting k.region n t.state → IsFormed k.setting k.region (held_successor k (told_successor o core t))
 formed_held k n o core t h =
     let s = told_behind (told_at_target t.target o) core t.state in
     let told = formed_told k.setting k.region n (told_at_target t.target o) core t.state h in
     record {
       core = told.core;
-      place = λ e. placed_left k t.target s n told.place;
+      place = λ e. placed_behind k t.target s n told.place;
       pairs = subst (λ p. ArePairs p) (sym (pairs_left k t.target s)) told.pairs;
       apart = told.apart;
     }
@@ -216,9 +217,9 @@ not_both : Simple ≡ Extended → ⊥
 not_both e = cc
 
 formed_settled :
-    (k : Stack) (n : ℕ) (cell : Option Cell) (core : Core) (t u : Successor) → settled_way k cell core t ≡ Some u → IsFormedAmong k.setting k.region n t.state → IsFormed k.setting k.region u.state
+    (k : Stack) (n : ℕ) (cell : Option Cell) (core : Core) (t u : Successor) → settled_way k cell core t ≡ Some u → IsFormedAmong k.setting k.region n t.state → IsFormed k.setting k.region u
 formed_settled k n cell core t u is h =
-    settled_cases (λ (w : Successor). IsFormed k.setting k.region w.state) k cell core t u is
+    settled_cases (λ (w : Successor). IsFormed k.setting k.region w) k cell core t u is
     (λ p e extended. formed_held k n (told_by Extended k cell) core (with_product t p) (formed_product k.setting.rules k.setting k.region n t p e h))
     (λ p e simple.
     let f = formed_product k.setting.rules k.setting k.region n t p e h in
@@ -320,7 +321,7 @@ untaken_formed k row next s b h apart =
       apart = subst (IsFree k.region) (sym (told_summary k.setting b.cell s)) apart;
     })
 
-staying_formed : (z : Setting) (region : Region) (a : ℕ) (s : AbsState) → IsFormedAmong z region (length s.items) s → IsFormed z region (staying_successor a s).state
+staying_formed : (z : Setting) (region : Region) (a : ℕ) (s : AbsState) → IsFormedAmong z region (length s.items) s → IsFormed z region (staying_successor a s)
 unfolding staying_successor ended
 staying_formed z region a s h =
     record {
@@ -338,56 +339,56 @@ stands_formed z rom region row a s entry base x h = record { core = h.core; plac
 
 formed_taken :
     (k : Stack) (program : Program) (rom : List ℕ) (row : Row) (a : ℕ) (s : AbsState) (t : Successor) (entry : Activation) (base : ℕ) (x : MState) → Stands k.setting rom k.region row a s entry base x → HasBytes row.op
-    → (successors_of k program rom row a s).taken ≡ Some t → IsFormed k.setting k.region t.state
+    → (successors_of k program rom row a s).taken ≡ Some t → IsFormed k.setting k.region t
 unfolding successors_of product_before
 formed_taken k program rom row a s t entry base x stands operands h =
     from (reduced k.setting.rules (core_settle s.core) s.relations) (reduced_cuts k.setting.rules (core_settle s.core) s.relations _ refl) h
   where
     at_side : (p : Product) → IsReduced (core_settle s.core) s.relations p → (o : Option Branch) → IfSome o (IsSideOf (memory_before k program s p) p.core p.relations)
-        → option_and_then (taken_by_side k program rom row (behind_row a row) s) o ≡ Some t → IsFormed k.setting k.region t.state
+        → option_and_then (taken_by_side k program rom row (behind_row a row) s) o ≡ Some t → IsFormed k.setting k.region t
     at_side p cut None is e = cc
     at_side p cut (Some b) is e =
         formed_settled k (length s.items) b.cell s.core (taken_successor k program rom row (behind_row a row) s (branch_outside k.region b)) t e
         (taken_formed k program rom row a s (branch_outside k.region b) entry base x stands operands
         (branch_formed k.setting k.region (length s.items) (memory_before k program s p) s p b (stands_formed k.setting rom k.region row a s entry base x stands) cut is))
 
-    from : (o : Option Product) → IfSome o (IsReduced (core_settle s.core) s.relations) → option_and_then (taken_from k program rom row (behind_row a row) s) o ≡ Some t → IsFormed k.setting k.region t.state
+    from : (o : Option Product) → IfSome o (IsReduced (core_settle s.core) s.relations) → option_and_then (taken_from k program rom row (behind_row a row) s) o ≡ Some t → IsFormed k.setting k.region t
     from None cut e = cc
     from (Some p) cut e = at_side p cut (taken_side row.op (memory_before k program s p) p.core p.relations) (taken_side_cuts row.op (memory_before k program s p) p.core p.relations _ refl) e
 
 formed_untaken :
     (k : Stack) (program : Program) (rom : List ℕ) (row : Row) (a : ℕ) (s : AbsState) (t : Successor) → IsFormedAmong k.setting k.region (length s.items) s → (successors_of k program rom row a s).not_taken ≡ Some t
-    → IsFormed k.setting k.region t.state
+    → IsFormed k.setting k.region t
 unfolding successors_of product_before
 formed_untaken k program rom row a s t formed h = from (reduced k.setting.rules (core_settle s.core) s.relations) (reduced_cuts k.setting.rules (core_settle s.core) s.relations _ refl) h
   where
     at_side : (p : Product) → IsReduced (core_settle s.core) s.relations p → (o : Option Branch) → IfSome o (IsSideOf (memory_before k program s p) p.core p.relations)
-        → option_and_then (not_taken_by_side k row (behind_row a row) s) o ≡ Some t → IsFormed k.setting k.region t.state
+        → option_and_then (not_taken_by_side k row (behind_row a row) s) o ≡ Some t → IsFormed k.setting k.region t
     at_side p cut None is e = cc
     at_side p cut (Some b) is e =
         formed_settled k (length s.items) b.cell s.core (untaken_successor k row (behind_row a row) s (branch_outside k.region b)) t e
         (untaken_formed k row (behind_row a row) s (branch_outside k.region b) (branch_formed k.setting k.region (length s.items) (memory_before k program s p) s p b formed cut is) formed.apart)
 
-    from : (o : Option Product) → IfSome o (IsReduced (core_settle s.core) s.relations) → option_and_then (not_taken_from k program row (behind_row a row) s) o ≡ Some t → IsFormed k.setting k.region t.state
+    from : (o : Option Product) → IfSome o (IsReduced (core_settle s.core) s.relations) → option_and_then (not_taken_from k program row (behind_row a row) s) o ≡ Some t → IsFormed k.setting k.region t
     from None cut e = cc
     from (Some p) cut e = at_side p cut (not_taken_side row.op (memory_before k program s p) p.core p.relations) (not_taken_side_cuts row.op (memory_before k program s p) p.core p.relations _ refl) e
 
-formed_staying : (k : Stack) (program : Program) (rom : List ℕ) (row : Row) (a : ℕ) (s : AbsState) (t : Successor) → IsFormedAmong k.setting k.region (length s.items) s → (successors_of k program rom row a s).stays ≡ Some t → IsFormed k.setting k.region t.state
+formed_staying : (k : Stack) (program : Program) (rom : List ℕ) (row : Row) (a : ℕ) (s : AbsState) (t : Successor) → IsFormedAmong k.setting k.region (length s.items) s → (successors_of k program rom row a s).stays ≡ Some t → IsFormed k.setting k.region t
 unfolding successors_of stays
 formed_staying k program rom row a s t formed h = from (product_before k.setting.rules s) h
   where
-    by : (b : Bool) → cond b (Some (staying_successor a s)) None ≡ Some t → IsFormed k.setting k.region t.state
-    by true e = subst (λ (w : Successor). IsFormed k.setting k.region w.state) (same_Some _ _ e) (staying_formed k.setting k.region a s formed)
+    by : (b : Bool) → cond b (Some (staying_successor a s)) None ≡ Some t → IsFormed k.setting k.region t
+    by true e = subst (λ (w : Successor). IsFormed k.setting k.region w) (same_Some _ _ e) (staying_formed k.setting k.region a s formed)
     by false e = cc
 
-    from : (o : Option Product) → option_and_then (λ (p : Product). stays row a s) o ≡ Some t → IsFormed k.setting k.region t.state
+    from : (o : Option Product) → option_and_then (λ (p : Product). stays row a s) o ≡ Some t → IsFormed k.setting k.region t
     from None e = cc
     from (Some p) e = by (may_stay row.op s.core) e
 
 -- the states of each successor are such as states may be
 pub IsFormed-successor :
     (k : Stack) (program : Program) (rom : List ℕ) (row : Row) (a : ℕ) (s : AbsState) (t : Successor) (entry : Activation) (base : ℕ) (x : MState) → Stands k.setting rom k.region row a s entry base x → HasBytes row.op
-    → IsOneOf (successors_of k program rom row a s) t → IsFormed k.setting k.region t.state
+    → IsOneOf (successors_of k program rom row a s) t → IsFormed k.setting k.region t
 IsFormed-successor k program rom row a s t entry base x stands operands (inl e) = formed_taken k program rom row a s t entry base x stands operands e
 IsFormed-successor k program rom row a s t entry base x stands operands (inr (inl e)) = formed_untaken k program rom row a s t (stands_formed k.setting rom k.region row a s entry base x stands) e
 IsFormed-successor k program rom row a s t entry base x stands operands (inr (inr e)) = formed_staying k program rom row a s t (stands_formed k.setting rom k.region row a s entry base x stands) e

@@ -23,7 +23,7 @@ use Rattle.gb_product.specs.Below.gb_abs.Storage.{peek}
 use Rattle.gb_product.specs.Below.gb_abs_effects.declared.targets.Target.{Target}
 use Rattle.gb_product.specs.Below.gb_abs_effects.declared.targets.Target.TheVariants as target
 use Rattle.gb_product.specs.Below.gb_relations.Items.{held_places}
-use Rattle.gb_product.specs.Below.gb_relations.Sound.{IsBytePlaced}
+use Rattle.gb_product.specs.Below.gb_relations.Sound.{IsByteFree, IsBytePlaced}
 use Rattle.gb_product.specs.declared.parts.Product.{Product}
 use Rattle.gb_product.specs.Held.{stack_held, held_relations, relations_outside}
 use Rattle.gb_product.proofs.HeldLaws.{free_held, related_held, related_outside, held_placed, outside_free}
@@ -73,6 +73,26 @@ placed_left k w s n h = by w
     by target.Return = items
     by target.Unknown = items
     by target.Lost = items
+
+-- where the place behind a successor may lie: outside the stack where main begins anew, else among the items too
+abbrev pub IsPlacedBehind : Setting → Region → Target → AbsState → Type 0
+IsPlacedBehind z region (target.Main a) s = IsByteFree region s.relations.byte.address
+IsPlacedBehind z region (target.At a) s = IsBytePlaced (stack_held z region (length s.items)) s.relations.byte.address
+IsPlacedBehind z region (target.Call a) s = IsBytePlaced (stack_held z region (length s.items)) s.relations.byte.address
+IsPlacedBehind z region target.Return s = IsBytePlaced (stack_held z region (length s.items)) s.relations.byte.address
+IsPlacedBehind z region target.Unknown s = IsBytePlaced (stack_held z region (length s.items)) s.relations.byte.address
+IsPlacedBehind z region target.Lost s = IsBytePlaced (stack_held z region (length s.items)) s.relations.byte.address
+
+-- There it lies, however many items there were.
+pub placed_behind :
+    (k : Stack) (w : Target) (s : AbsState) (n : ℕ) → IsBytePlaced (stack_held k.setting k.region n) s.relations.byte.address
+    → IsPlacedBehind k.setting k.region w (with_relations (relations_left k w s) s)
+placed_behind k (target.Main a) s n h = outside_free k.setting k.region n s.relations.byte h
+placed_behind k (target.At a) s n h = placed_left k (target.At a) s n h
+placed_behind k (target.Call a) s n h = placed_left k (target.Call a) s n h
+placed_behind k target.Return s n h = placed_left k target.Return s n h
+placed_behind k target.Unknown s n h = placed_left k target.Unknown s n h
+placed_behind k target.Lost s n h = placed_left k target.Lost s n h
 
 -- ---- an item that is told
 

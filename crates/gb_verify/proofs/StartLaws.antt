@@ -33,7 +33,10 @@ use Rattle.gb_rules.specs.Below.gb_vals.Meaning.{may_be}
 use Rattle.gb_rules.proofs.Below.gb_vals_laws.MeaningLaws.{known-may_be}
 use Rattle.gb_rules.specs.Below.gb_product.Covering.{covers}
 use Rattle.gb_rules.proofs.Below.gb_product_laws.Below.gb_summaries_laws.MeaningLaws.{nothing_holds}
+use Rattle.gb_rules.specs.Below.gb_product.Held.{stack_held}
 use Rattle.gb_rules.specs.Below.gb_product.Meaning.{Means}
+use Rattle.gb_rules.specs.Below.gb_product.Below.gb_relations.Sound.{IsBytePlaced}
+use Rattle.gb_rules.specs.Below.gb_domain.declared.places.StackBytes.{StackBytes}
 use Rattle.gb_rules.specs.Below.gb_abs.Stack.{AreInRegion}
 use Rattle.gb_rules.proofs.Below.gb_product_laws.CoveringLaws.{Means-covered}
 use Rattle.gb_rules.proofs.Below.gb_product_laws.MeaningLaws.{HoldRelations-nothing}
@@ -42,7 +45,7 @@ use Rattle.gb_rules.specs.Below.gb_domain.Settings.{IsBase}
 use Rattle.gb_rules.specs.Procedures.{kept_of, need_of, setting_of, program_of}
 use Rattle.gb_rules.specs.Safety.{Declares, begun, IsMeant}
 use Rattle.gb_rules.proofs.SearchLaws.{Contains-slice_get}
-use Rattle.gb_rules.proofs.CoveringLaws.{covered_items}
+use Rattle.gb_rules.proofs.CoveringLaws.{covered_items, covered_place, IsBytePlaced-among}
 use Rattle.gb_rules.proofs.ProcedureLaws.{HasReturnWord-main, main_based, main_room}
 use Rattle.gb_verify.specs.PowerUp.{core_at_power_up, state_at_power_up}
 use Rattle.gb_verify.specs.Verdict.{is_bad_entry, is_bad_node, main_entry, entry_of}
@@ -198,6 +201,10 @@ mark_start rom s h = ap (λ p. p.halt_mark) h.processor
 items_covered : (program : Program) (rom : List ℕ) (region : Region) (t : AbsState) → covers program (state_at_power_up rom region) t ≡ true → length t.items ≡ 0
 items_covered program rom region t h = covered_items program (state_at_power_up rom region) t h
 
+-- no byte has a place at power-up
+place_start : (k : StackBytes) (program : Program) (rom : List ℕ) (region : Region) (t : AbsState) → covers program (state_at_power_up rom region) t ≡ true → IsBytePlaced k t.relations.byte.address
+place_start k program rom region t h = IsBytePlaced-among k None t.relations.byte.address (covered_place program (state_at_power_up rom region) t h) tt
+
 -- main's stack has room for the bytes that it may need
 room_start : (cert : Certificate) (n : Node) → IsCertificate cert → n.procedure ≡ 0 → AreInRegion cert.region (main_base cert) (need_of cert n.procedure)
 room_start cert n c e = subst (λ p. AreInRegion cert.region (main_base cert) (need_of cert p)) (sym e) (main_room cert c)
@@ -243,6 +250,7 @@ IsMeant-entry rom cert (Some n) s c f g h i =
         return_word = HasReturnWord-main (rules_of cert.version) cert.region n.procedure (main_base cert) (g n refl);
         room = room_start cert n c (g n refl);
         held = no_items cert (need_of cert n.procedure) (length n.state.items) (items_covered (program_of rom cert) rom cert.region n.state covered) (room_start cert n c (g n refl));
+        place = place_start (stack_held (setting_of cert n.procedure) cert.region (length n.state.items)) (program_of rom cert) rom cert.region n.state covered;
       };
     }
 
