@@ -21,7 +21,7 @@ use gb_states::form::are_none;
 use gb_states::listed::{append_cells, append_items};
 use gb_states::relations::relations_by;
 use gb_states::role::Role;
-use gb_states::whole_states::{may_be_aside, stack_bytes, told_at};
+use gb_states::whole_states::{may_be_aside_in, stack_bytes, told_at};
 use gb_states::{CertFault, Form, counted, from_place};
 use std::marker::Model;
 
@@ -79,7 +79,7 @@ fn told_by<'b>(
         }
         Form::Fourth(facts, form) => {
             // Only this version asks whether the stack may be put aside, and names items.
-            let may_be_aside = may_be_aside(role, &core_in(true, core));
+            let may_be_aside = may_be_aside_in(role, core);
             let stack = stack_bytes(form, role, region, count);
             told_at(facts, stack, may_be_aside, test, bytes)
         }
