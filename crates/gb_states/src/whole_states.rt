@@ -270,7 +270,7 @@ fn both_parts_at(
 /// How many facts hold, where bytes say that and nothing else.
 #[inline(always)]
 #[tactic(auto, using(crate::proofs::LevelLaws::level_told))]
-fn level_at(facts: u16, test: Option<u8>, bytes: &[u8]) -> Option<(u16, &[u8])>
+pub fn level_at(facts: u16, test: Option<u8>, bytes: &[u8]) -> Option<(u16, &[u8])>
     ensures { IfSome result (λ x. (k : StackBytes) (may : Bool) → told_at facts k may test bytes.now ≡ Ok ((no_relations, level_alone x.0), x.1.now)) }
 {
     let [present, declared, low, high, fills, rest @ ..] = bytes else {
