@@ -335,6 +335,15 @@ told-is form role region bytes first second behind cells after r m s h f e g =
       older = λ said. are ∙ sym (again.older-cells Extended s.cells said);
     }
 
+-- of no bytes there are none
+pub none-of-three : {X : Type 0} (bytes : List ℕ) (xs : List X) → length bytes ≡ 0 → length bytes ≡ 3 * length xs → xs ≡ []
+none-of-three bytes [] none long = refl
+none-of-three bytes (x ∷ xs) none long = absurd (omega arith)
+
+pub none-of-five : {X : Type 0} (bytes : List ℕ) (xs : List X) → length bytes ≡ 0 → length bytes ≡ 5 * length xs → xs ≡ []
+none-of-five bytes [] none long = refl
+none-of-five bytes (x ∷ xs) none long = absurd (omega arith)
+
 -- ---- plain states
 
 -- some bytes that can be counted are some of what they are counted in

@@ -1,6 +1,8 @@
 //! A state of a certificate, in the bytes of its file.
 
-ghost use Rattle.std.specs.Prelude.{◌≡◌, ◌≤◌, ◌*◌, true, false, [], length};
+ghost use Rattle.std.specs.Prelude.{◌≡◌, ◌≤◌, ◌*◌, true, false, [], length, IfSome};
+ghost use Rattle.gb_domain.specs.Relations.{no_relations};
+ghost use Rattle.gb_domain.specs.Silent.{level_alone};
 ghost use Rattle.std.specs.List.{flat_map, list_all};
 ghost use Rattle.gb_domain.specs.declared.rules.Rules.TheVariants.{Extended};
 ghost use Rattle.gb_domain.specs.RelationRules.{compared, test_alone};
@@ -257,6 +259,25 @@ impl<'a> StateRef<'a> {
             };
         }
         self.told_in_full()
+    }
+
+    /// How many facts hold, where it says that and nothing else behind its core.
+    #[inline(always)]
+    pub fn level(&self) -> Option<u16>
+        ensures items { IfSome result (λ n. self.now.items ≡ []) }
+        ensures cells { IfSome result (λ n. self.now.cells ≡ []) }
+        ensures relations { IfSome result (λ n. self.now.relations ≡ no_relations) }
+        ensures summary { IfSome result (λ n. self.now.summary ≡ level_alone n) }
+    {
+        let (items, behind) = counted(from_place(self.bytes, CORE), item_width(self.form));
+        if let Form::Fourth(facts, _) = self.form
+            && items.len() == 0
+            && let Some((level, cells)) = level_at(facts, test_in(self.bytes), behind)
+            && counted(cells, CELL).0.len() == 0
+        {
+            return Some(level);
+        }
+        None
     }
 
     /// What is known of several of its parts together.
