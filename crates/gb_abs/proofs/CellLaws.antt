@@ -1,8 +1,9 @@
 -- The cells of a state as a list: what is kept when one gets a value and when some are dropped.
-use Rattle.std.proofs.Common.{◌≡◌, ℕ, zero, suc, ◌+◌, ◌≤◌, ◌<◌, Bool, true, false, ◌||◌, ◌==◌, nat_lt, cond, List, [], ◌∷◌, ◌++◌, length, drop, get_or, None, refl, sym, ap, subst, arith, length-append}
+use Rattle.std.proofs.Common.{◌≡◌, ℕ, zero, suc, ◌+◌, ◌≤◌, ◌<◌, Bool, true, false, ◌||◌, ◌==◌, nat_lt, cond, List, [], ◌∷◌, ◌++◌, length, drop, get_or, None, refl, sym, ◌∙◌, ap, subst, arith, length-append}
+use Rattle.std.proofs.lemmas.Bool.{and_parts}
 use Rattle.std.proofs.lemmas.Bool.Decides.{nat_tests}
 use Rattle.std.proofs.lemmas.List.Sums.{length-filter, count_by-le-length}
-use Rattle.std.specs.List.{AllByRecursion, filter, list_any}
+use Rattle.std.specs.List.{AllByRecursion, filter, list_all, list_any}
 use Rattle.gb_ops.specs.declared.machine.Region.{Region}
 use Rattle.gb_domain.specs.declared.types.Cell.{Cell}
 use Rattle.gb_domain.specs.Types.{AbsState}
@@ -24,6 +25,33 @@ AllByRecursion-where P Q R test f (x ∷ xs) p q = choose (test x) refl (AllByRe
 pub AllByRecursion-append : {X : Type 0} (P : X → Type 0) (xs ys : List X) → AllByRecursion P xs → AllByRecursion P ys → AllByRecursion P (xs ++ ys)
 AllByRecursion-append P [] ys p q = q
 AllByRecursion-append P (x ∷ xs) ys p q = (p.0, AllByRecursion-append P xs ys p.1 q)
+
+-- ---- a cell behind all others
+
+not_above : (a b : ℕ) → nat_lt b a ≡ true → nat_lt a b ≡ false
+not_above a b h = grind (arith, nat_tests)
+
+all_below : (a : ℕ) (cells : List Cell) → list_all (is_below a) cells ≡ true → filter (is_below a) cells ≡ cells
+all_below a [] h = refl
+all_below a (c ∷ cells) h = choose (nat_lt c.address a) (and_parts _ _ h).0 (all_below a cells (and_parts _ _ h).1)
+  where
+    choose : (b : Bool) → b ≡ true → filter (is_below a) cells ≡ cells → cond b (c ∷ filter (is_below a) cells) (filter (is_below a) cells) ≡ c ∷ cells
+    choose true e rest = ap (λ cs. c ∷ cs) rest
+    choose false e rest = cc
+
+none_above : (a : ℕ) (cells : List Cell) → list_all (is_below a) cells ≡ true → filter (is_above a) cells ≡ []
+none_above a [] h = refl
+none_above a (c ∷ cells) h = choose (nat_lt a c.address) (not_above a c.address (and_parts _ _ h).0) (none_above a cells (and_parts _ _ h).1)
+  where
+    choose : (b : Bool) → b ≡ false → filter (is_above a) cells ≡ [] → cond b (c ∷ filter (is_above a) cells) (filter (is_above a) cells) ≡ []
+    choose true e rest = cc
+    choose false e rest = rest
+
+-- all others are below it
+pub entered_last : (c : Cell) (cells : List Cell) → list_all (is_below c.address) cells ≡ true → entered c cells ≡ cells ++ c ∷ []
+unfolding entered
+entered_last c cells h =
+    ap (λ xs. xs ++ c ∷ filter (is_above c.address) cells) (all_below c.address cells h) ∙ ap (λ xs. cells ++ c ∷ xs) (none_above c.address cells h)
 
 -- ---- in their places
 

@@ -1,7 +1,7 @@
 //! The memory cells of abstract states: one gets a value, or some are dropped.
 
 ghost use Rattle.std.specs.Prelude.{◌≡◌, ◌+◌, ◌≤◌, ◌++◌, ◌||◌, nat_lt, length};
-ghost use Rattle.std.specs.List.{filter, list_any};
+ghost use Rattle.std.specs.List.{filter, list_all, list_any};
 ghost use Rattle.arrayvec.specs.ArrayVec.{array_vec_len};
 ghost use Rattle.gb_domain.specs.Limits.{cell_room};
 ghost use Rattle.gb_abs.specs.Cells.{is_below, is_above, is_at, is_outside, entered, with_cell, without_cells, common_origin, of_interval, widened, widened_at, widened_cells, IsEntryInOrder, IsDropInOrder, IsWideningInOrder};
@@ -13,6 +13,9 @@ use arrayvec::ArrayVec;
 use gb_domain::interval::{StridedInterval, join};
 use gb_domain::types::{Abs, Cell, Origin, Rules, Val};
 use gb_domain::values::interval_of;
+
+/// The most cells that a state holds by any rules.
+const CELLS: usize = 64;
 
 /// The state with other cells. All else stays.
 fn with_cells(state: &Abs, cells: ArrayVec<Cell, 64>) -> Abs
@@ -102,6 +105,29 @@ pub fn with_cell(rules: Rules, state: &Abs, address: u16, val: Val) -> Abs
     ensures ordered { IsEntryInOrder (record { address = address; val = val }) state.now.cells result.cells }
 {
     entered_or_same(rules, state, address, val)
+}
+
+/// Whether all of the cells are below an address.
+fn are_below(address: u16, held: &[Cell]) -> bool
+    ensures { result ≡ list_all (is_below address) held.now }
+{
+    held.iter().all(|cell| cell.address < address)
+}
+
+/// Does what `with_cell` does, in place.
+#[tactic(auto, using(crate::proofs::CellLaws::entered_fits, crate::proofs::CellLaws::entered_last), unfolding(crate::specs::Cells::with_cell))]
+pub fn put_cell(rules: Rules, address: u16, val: Val, state: &mut Abs)
+    ensures { state.new ≡ record state.old { cells = with_cell (cell_room rules) (record { address = address; val = val }) state.old.cells } }
+{
+    let cell = Cell { address, val };
+    if has_place(rules.cell_room(), address, state.cells()) {
+        if state.cells().len() < CELLS && are_below(address, state.cells()) {
+            state.push_cell(cell);
+        } else {
+            let cells = entered(cell, state.cells());
+            state.set_cells(cells);
+        }
+    }
 }
 
 fn is_outside(first: u16, last: u16, cell: &Cell) -> bool

@@ -24,7 +24,7 @@ pub use writes::{AbsEffect, AbsWrite};
 
 // What lies below, for the crates above.
 pub use gb_abs::bytes::{append_bytes, resize};
-pub use gb_abs::cells::with_cell;
+pub use gb_abs::cells::{put_cell, with_cell};
 pub use gb_abs::covering::{
     cell_at, covers_controller, covers_core, covers_ime, covers_items, covers_lists, covers_origin,
     covers_val,

@@ -1,10 +1,11 @@
 -- Items that are appended, and covered, from the front on.
-use Rattle.std.proofs.Common.{◌≡◌, ℕ, ◌-◌, ◌≤◌, ◌<◌, Bool, true, false, ◌&&◌, List, [], ◌∷◌, length, take, drop, slice_index, slice_index_or, refl, sym, ap, ◌∙◌, arith, None}
+use Rattle.std.proofs.Common.{◌≡◌, ℕ, ◌-◌, ◌≤◌, ◌<◌, Bool, true, false, ◌&&◌, List, [], ◌∷◌, ◌++◌, length, take, drop, slice_index, slice_index_or, refl, sym, ap, ◌∙◌, append_assoc, append-nil, arith, None}
 use Rattle.std.proofs.lemmas.List.{take_all}
+use Rattle.gb_domain.specs.declared.types.Cell.{Cell}
 use Rattle.gb_domain.specs.declared.types.Val.{Val}
 use Rattle.gb_cert.specs.Below.gb_states.WholeReading.{to_val}
-use Rattle.gb_cert.specs.Below.gb_states.Checked.{listed_items}
-use Rattle.gb_cert.proofs.Below.gb_states_laws.ListedLaws.{no_items, items_front}
+use Rattle.gb_cert.specs.Below.gb_states.Checked.{listed_items, cell_of, listed_cells}
+use Rattle.gb_cert.proofs.Below.gb_states_laws.ListedLaws.{no_items, items_front, no_cells, cells_front}
 use Rattle.gb_product.specs.Below.gb_abs.Covering.{covers_val, covers_items}
 use Rattle.gb_product.specs.Below.gb_abs.Origins.{without_origin}
 use Rattle.gb_calls.specs.TakenOver.{returning}
@@ -19,6 +20,20 @@ returning_front (a ∷ b ∷ c ∷ rest) x h is =
     let long : length (a ∷ b ∷ c ∷ rest) - 1 ≡ length (b ∷ c ∷ rest) = omega arith in
     ap (λ (y : Val). y ∷ returning (b ∷ c ∷ rest)) (sym is)
     ∙ ap (λ (ys : List Val). x ∷ returning ys) (sym (ap (λ (n : ℕ). take n (b ∷ c ∷ rest)) long ∙ take_all (length (b ∷ c ∷ rest)) (b ∷ c ∷ rest) (omega arith)))
+
+-- ---- cells in bytes
+
+pub no_cells_behind : (cells : List Cell) (bytes : List ℕ) → length bytes < 5 → cells ≡ cells ++ listed_cells bytes
+no_cells_behind cells bytes h = sym (ap (λ (xs : List Cell). cells ++ xs) (no_cells bytes h) ∙ append-nil cells)
+
+pub cells_behind :
+    (cells one all : List Cell) (bytes : List ℕ) (x : Cell) → 5 ≤ length bytes
+    → all ≡ one ++ listed_cells (take (length bytes - 5) (drop 5 bytes)) → one ≡ cells ++ x ∷ []
+    → x ≡ cell_of (slice_index bytes 0) (slice_index bytes 1) (slice_index bytes 2) (slice_index bytes 3) (slice_index bytes 4)
+    → all ≡ cells ++ listed_cells bytes
+cells_behind cells one all bytes x h rest first is =
+    rest ∙ (ap (λ (xs : List Cell). xs ++ listed_cells (take (length bytes - 5) (drop 5 bytes))) first
+    ∙ (append_assoc cells (x ∷ []) (listed_cells (take (length bytes - 5) (drop 5 bytes))) ∙ ap (λ (xs : List Cell). cells ++ xs) (sym (cells_front bytes x h is))))
 
 -- ---- covered in bytes
 

@@ -1,6 +1,6 @@
 //! Whether a state of a certificate stands for others, in its bytes.
 
-ghost use Rattle.std.specs.Prelude.{◌≡◌, ◌<◌, ◌&&◌, [], is_none};
+ghost use Rattle.std.specs.Prelude.{◌≡◌, ◌≤◌, ◌<◌, ◌&&◌, [], length, is_none};
 ghost use Rattle.gb_domain.specs.RelationRules.{test_alone};
 ghost use Rattle.gb_cert.specs.Below.gb_states.Checked.{listed_cells};
 ghost use Rattle.gb_product.specs.Below.gb_abs.Covering.{covers_items};
@@ -9,29 +9,42 @@ ghost use Rattle.gb_product.specs.Below.gb_summaries.Covering.{covers_summary};
 ghost use Rattle.gb_product.specs.Covering.{covers, covers_cells, covers_relations};
 ghost use Rattle.gb_calls.specs.Parts.{with_parts};
 
-use crate::in_bytes::{are_none, covers_core_in, covers_items_in};
-use gb_cert::{StateRef, test_alone};
+use crate::in_bytes::{append_cells, are_none, covers_core_in, covers_items_in};
+use arrayvec::ArrayVec;
+use gb_cert::{StateRef, Told, test_alone};
 use gb_domain::pairs::Pairs;
 use gb_domain::relations::Relations;
 use gb_domain::summary::Summary;
 use gb_product::covering::{covers_relations, covers_said};
-use gb_product::{Program, States, covers_lists};
+use gb_product::{Program, States, covers_cells};
 
-/// Whether all of a state but the core stands for that of others, where it has cells: kept out of line, so that a state is
-/// decoded only then.
+/// Whether all of a state but the core stands for that of others, where it has cells; what it tells after its items is given. Kept out
+/// of line, so that cells are decoded only then.
 #[inline(never)]
-fn covers_decoded(program: &Program<'_>, states: &States<'_>, claimed: &StateRef<'_>) -> bool
+fn covers_celled(
+    program: &Program<'_>,
+    states: &States<'_>,
+    claimed: &StateRef<'_>,
+    told: &Told<'_>,
+) -> bool
+    requires relations { told.now.relations ≡ claimed.now.relations }
+    requires summary { told.now.summary ≡ claimed.now.summary }
+    requires listed { listed_cells told.now.cells.now ≡ claimed.now.cells }
+    requires few { length told.now.cells.now ≤ 320 }
     ensures { result ≡ (((covers_items states.now.lists.now.items claimed.now.items && covers_cells program.now (values_of states.now.core.now.registers states.now.relations.now.pairs) states.now.lists.now.cells states.now.summary.now claimed.now.cells) && covers_relations program.now.is_whole states.now.core.now.registers states.now.relations.now claimed.now.relations) && covers_summary program.now (values_of states.now.core.now.registers states.now.relations.now.pairs) states.now.core.now.ctl states.now.lists.now.cells states.now.summary.now claimed.now.cells claimed.now.summary) }
 {
-    let claimed = claimed.state();
-    covers_lists(program, states, &claimed)
+    let mut cells = ArrayVec::new();
+    append_cells(&mut cells, told.cells);
+    let kept = cells.as_slice();
+    covers_items_in(states.lists.items(), claimed.items())
+        && covers_cells(program, states, kept)
         && covers_relations(
             program.is_whole,
             &states.core.registers,
             states.relations,
-            claimed.relations(),
+            &told.relations,
         )
-        && covers_said(program, states, claimed.cells(), claimed.summary())
+        && covers_said(program, states, kept, &told.summary)
 }
 
 /// Whether all of a state but the core stands for that of others, where it has no cells; what it tells after its items is given.
@@ -72,7 +85,7 @@ fn covers_read(program: &Program<'_>, states: &States<'_>, claimed: &StateRef<'_
     if told.cells.is_empty() {
         covers_uncelled(program, states, claimed, &told.relations, &told.summary)
     } else {
-        covers_decoded(program, states, claimed)
+        covers_celled(program, states, claimed, &told)
     }
 }
 
@@ -109,6 +122,24 @@ fn covers_bare(program: &Program<'_>, states: &States<'_>, test: Option<u8>) -> 
     are_none(states.lists.items()) && covers_test(program, states, test) && covers_nothing(states)
 }
 
+/// Whether all of a state but the core stands for that of others, where it may hold some. Mostly it is claimed alone that facts hold,
+/// which hold already.
+#[inline(always)]
+fn covers_listed(program: &Program<'_>, states: &States<'_>, claimed: &StateRef<'_>) -> bool
+    ensures { result ≡ (((covers_items states.now.lists.now.items claimed.now.items && covers_cells program.now (values_of states.now.core.now.registers states.now.relations.now.pairs) states.now.lists.now.cells states.now.summary.now claimed.now.cells) && covers_relations program.now.is_whole states.now.core.now.registers states.now.relations.now claimed.now.relations) && covers_summary program.now (values_of states.now.core.now.registers states.now.relations.now.pairs) states.now.core.now.ctl states.now.lists.now.cells states.now.summary.now claimed.now.cells claimed.now.summary) }
+{
+    holds_words(states.relations.pairs);
+    if let Some(level) = claimed.level()
+        && are_none(states.lists.items())
+        && states.lists.cells().len() == 0
+        && states.summary.aside().is_none()
+        && level <= states.summary.level()
+    {
+        return true;
+    }
+    covers_read(program, states, claimed)
+}
+
 /// Whether all of a state but the core stands for that of others.
 #[inline(always)]
 #[tactic(auto, using(crate::proofs::CoveringLaws::covers_bare))]
@@ -116,7 +147,7 @@ fn covers_rest(program: &Program<'_>, states: &States<'_>, claimed: &StateRef<'_
     ensures { result ≡ (((covers_items states.now.lists.now.items claimed.now.items && covers_cells program.now (values_of states.now.core.now.registers states.now.relations.now.pairs) states.now.lists.now.cells states.now.summary.now claimed.now.cells) && covers_relations program.now.is_whole states.now.core.now.registers states.now.relations.now claimed.now.relations) && covers_summary program.now (values_of states.now.core.now.registers states.now.relations.now.pairs) states.now.core.now.ctl states.now.lists.now.cells states.now.summary.now claimed.now.cells claimed.now.summary) }
 {
     if claimed.has_lists() {
-        covers_read(program, states, claimed)
+        covers_listed(program, states, claimed)
     } else {
         covers_bare(program, states, claimed.test())
     }

@@ -14,7 +14,7 @@ use arrayvec::ArrayVec;
 use gb_domain::types::{Abs, Cell, Core, Ctl, Flg, KeptBanks, Origin, Rules, Val};
 use gb_ops::machine::Region;
 use gb_ops::registers::Registers;
-use gb_product::{Program, cell_without_origin, own, relations_outside, with_cell, without_origin};
+use gb_product::{Program, cell_without_origin, own, put_cell, relations_outside, without_origin};
 
 /// Each register is a copy of what it held at entry.
 fn own_registers(registers: &Registers<Val>) -> Registers<Val>
@@ -112,7 +112,7 @@ fn put_kept_cell(
     ensures { entered.new ≡ record entered.old { cells = with_cell (cell_room rules) (Calls.kept_cell program.now state.now number address) entered.old.cells } }
 {
     let val = own(Origin::Kept(number), byte_there(program, state, address));
-    *entered = with_cell(rules, entered, address, val);
+    put_cell(rules, address, val, entered);
 }
 
 /// The state gets a cell for each kept address, as far as there is room.

@@ -1,12 +1,13 @@
 //! Covering by the core of a node's states, part by part in the certificate's bytes.
 
-ghost use Rattle.std.specs.Prelude.{◌≡◌, ◌+◌, ◌≤◌, ◌<◌, ◌==◌, [], length};
+ghost use Rattle.std.specs.Prelude.{◌≡◌, ◌+◌, ◌*◌, ◌≤◌, ◌<◌, ◌==◌, [], ◌++◌, length};
 ghost use Rattle.gb_product.specs.Below.gb_abs.Covering as Covering;
-ghost use Rattle.gb_cert.specs.Below.gb_states.Checked.{core_in, flg_in, val_in, vals_in, listed_items};
+ghost use Rattle.gb_cert.specs.Below.gb_states.Checked.{core_in, flg_in, val_in, vals_in, listed_items, cell_of, listed_cells};
 ghost use Rattle.gb_cert.specs.Below.gb_states.WholeReading.{to_val};
 
+use arrayvec::ArrayVec;
 use gb_cert::{ctl_in, ime_in, val_of};
-use gb_domain::types::{Core, Flg, Val};
+use gb_domain::types::{Cell, Core, Flg, Val};
 use gb_ops::machine::Kind;
 use gb_ops::registers::Registers;
 use gb_product::{covers_controller, covers_ime, covers_val};
@@ -66,6 +67,28 @@ pub(crate) fn covers_items_in(s: &[Val], bytes: &[u8]) -> bool
     match s {
         [] => false,
         [val, vals @ ..] => covers_val_of(val, *lo, *hi, *number) && covers_items_in(vals, rest),
+    }
+}
+
+/// A cell by its bytes: its address, the low byte first, and its value.
+#[inline(always)]
+fn cell_of(low: u8, high: u8, lo: u8, hi: u8, tag: u8) -> Cell
+    ensures { result ≡ cell_of low high lo hi tag }
+{
+    Cell {
+        address: u16::from_le_bytes([low, high]),
+        val: val_of(lo, hi, tag),
+    }
+}
+
+/// These cells and behind them those that stand in bytes, five each. There must be room.
+pub(crate) fn append_cells(cells: &mut ArrayVec<Cell, 64>, bytes: &[u8])
+    requires { 5 * length cells.old.items + length bytes.now ≤ 320 }
+    ensures { cells.new.items ≡ cells.old.items ++ listed_cells bytes.now }
+{
+    if let [low, high, lo, hi, tag, rest @ ..] = bytes {
+        cells.push(cell_of(*low, *high, *lo, *hi, *tag));
+        append_cells(cells, rest);
     }
 }
 

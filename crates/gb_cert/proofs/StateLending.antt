@@ -24,6 +24,8 @@ use Rattle.gb_states.specs.Below.gb_fields.Format.{go_on}
 use Rattle.gb_states.specs.Below.gb_fields.Limits.{unit, item_limit}
 use Rattle.gb_states.specs.RelationSpelling as told
 use Rattle.gb_states.specs.Rules.{is_whole, is_sayable, are_sayable, is_all_or_none, is_core_sayable, is_cell_sayable, is_silent, is_unshadowed, is_state_sayable, IsState}
+use Rattle.gb_domain.specs.declared.places.StackBytes.{StackBytes}
+use Rattle.gb_states.specs.WholeReading.{told_at}
 use Rattle.gb_states.specs.WholeRules.{may_be_aside, item_base, stack_bytes}
 use Rattle.gb_domain.specs.Areas.{is_free_byte, is_place_at}
 use Rattle.gb_states.specs.declared.form.ProcedureForm.{ProcedureForm}
@@ -292,6 +294,16 @@ told-lent form role region bytes first second s h f =
     ∙ ap (λ (b : List ℕ). told_by form role region (length s.items) s.core (compared s.relations.byte.test) b) (items-lent form role region bytes first second s h f).1
     ∙ told-again form role region s (cells_then s h.tail) h.fit h.is_state
 
+-- of version 4, what is read of it
+pub read-fourth :
+    (form : Form) (role : Role) (region : Region) (count facts : ℕ) (p : ProcedureForm) (bytes second rest : List ℕ) (test : Option ℕ) (r : Relations) (m : SummaryParts)
+    → form ≡ Fourth facts p → test ≡ test_in bytes → ((k : StackBytes) (may : Bool) → told_at facts k may test second ≡ Ok ((r, m), rest))
+    → told_by form role region count (core_in (is_fourth form) bytes) (test_in bytes) second ≡ Ok ((r, m), rest)
+read-fourth form role region count facts p bytes second rest test r m is same h =
+    ap (λ (f : Form). told_by f role region count (core_in (is_fourth f) bytes) (test_in bytes) second) is
+    ∙ (ap (λ (t : Option ℕ). told_at facts (stack_bytes p role region count) (may_be_aside role (core_in true bytes)) t second) (sym same)
+    ∙ h (stack_bytes p role region count) (may_be_aside role (core_in true bytes)))
+
 pub told-right : (form : Form) (role : Role) (region : Region) (bytes first second : List ℕ) (s : AbsState) (e : CertFault) → StateStands form role region bytes s → CountsOff (item_width form) (drop 40 bytes) first second
     → told_by form role region (length first / 3) (core_in (is_fourth form) bytes) (test_in bytes) second ≡ Err e → ⊥
 told-right form role region bytes first second s e h f wrong = not_both (told_by form role region (length first / 3) (core_in (is_fourth form) bytes) (test_in bytes) second) (told-lent form role region bytes first second s h f) wrong
@@ -322,6 +334,15 @@ told-is form role region bytes first second behind cells after r m s h f e g =
       few = k.few_cells;
       older = λ said. are ∙ sym (again.older-cells Extended s.cells said);
     }
+
+-- of no bytes there are none
+pub none-of-three : {X : Type 0} (bytes : List ℕ) (xs : List X) → length bytes ≡ 0 → length bytes ≡ 3 * length xs → xs ≡ []
+none-of-three bytes [] none long = refl
+none-of-three bytes (x ∷ xs) none long = absurd (omega arith)
+
+pub none-of-five : {X : Type 0} (bytes : List ℕ) (xs : List X) → length bytes ≡ 0 → length bytes ≡ 5 * length xs → xs ≡ []
+none-of-five bytes [] none long = refl
+none-of-five bytes (x ∷ xs) none long = absurd (omega arith)
 
 -- ---- plain states
 

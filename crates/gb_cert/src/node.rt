@@ -3,9 +3,13 @@
 ghost use Rattle.std.specs.Prelude.{◌≡◌, false, []};
 ghost use Rattle.gb_domain.specs.Types.{state_of};
 ghost use Rattle.gb_domain.specs.RelationRules.{compared, test_alone};
+ghost use Rattle.gb_domain.specs.Relations.{no_relations};
+ghost use Rattle.gb_domain.specs.Silent.{level_alone};
 ghost use Rattle.gb_domain.specs.Summaries.{no_summary};
 
 use crate::state::StateRef;
+use gb_domain::relations::Relations;
+use gb_domain::summary::Summary;
 use gb_domain::types::{Abs, Core};
 use gb_ops::machine::Region;
 use gb_states::Form;
@@ -134,12 +138,25 @@ impl<'a> NodeRef<'a> {
         state.clear_lists(test_alone(self.test()));
     }
 
-    /// Reads the state of a node with items or cells: out of line, so that a state is cleared and copied only then.
+    /// Reads the state of a node that says alone how many facts hold.
+    fn read_level(&self, level: u16, state: &mut Abs)
+        ensures { state.new ≡ record (state_of self.now.state.core) { relations = no_relations; summary = level_alone level } }
+    {
+        self.lent().put_core(state.core_mut());
+        state.clear_lists(Relations::default());
+        state.set_summary(Summary::of_level(level));
+    }
+
+    /// Reads the state of a node with items or cells, or that says something of the whole program: out of line, so that a state is
+    /// cleared and copied only then.
     #[inline(never)]
     fn read_lists(&self, state: &mut Abs)
         ensures { state.new ≡ self.now.state }
     {
-        self.lent().read(state);
+        match self.lent().level() {
+            Some(level) => self.read_level(level, state),
+            None => self.lent().read(state),
+        }
     }
 
     /// Its state. It takes no memory.

@@ -1,6 +1,8 @@
 //! A state of a certificate, in the bytes of its file.
 
-ghost use Rattle.std.specs.Prelude.{◌≡◌, ◌≤◌, ◌*◌, true, false, [], length};
+ghost use Rattle.std.specs.Prelude.{◌≡◌, ◌≤◌, ◌*◌, true, false, [], length, IfSome};
+ghost use Rattle.gb_domain.specs.Relations.{no_relations};
+ghost use Rattle.gb_domain.specs.Silent.{level_alone};
 ghost use Rattle.std.specs.List.{flat_map, list_all};
 ghost use Rattle.gb_domain.specs.declared.rules.Rules.TheVariants.{Extended};
 ghost use Rattle.gb_domain.specs.RelationRules.{compared, test_alone};
@@ -21,7 +23,7 @@ use gb_states::form::are_none;
 use gb_states::listed::{append_cells, append_items};
 use gb_states::relations::relations_by;
 use gb_states::role::Role;
-use gb_states::whole_states::{may_be_aside, stack_bytes, told_at};
+use gb_states::whole_states::{level_at, may_be_aside_in, stack_bytes, told_at};
 use gb_states::{CertFault, Form, counted, from_place};
 use std::marker::Model;
 
@@ -79,7 +81,7 @@ fn told_by<'b>(
         }
         Form::Fourth(facts, form) => {
             // Only this version asks whether the stack may be put aside, and names items.
-            let may_be_aside = may_be_aside(role, &core_in(true, core));
+            let may_be_aside = may_be_aside_in(role, core);
             let stack = stack_bytes(form, role, region, count);
             told_at(facts, stack, may_be_aside, test, bytes)
         }
@@ -209,8 +211,9 @@ impl<'a> StateRef<'a> {
         (self.items().len() / VAL) as u8
     }
 
-    /// What is known of several of its parts together, what it says of the whole program, and the bytes of its memory cells.
-    pub fn told(&self) -> Told<'a>
+    /// What it says after its items, whatever that is.
+    #[inline(never)]
+    fn told_in_full(&self) -> Told<'a>
         ensures relations { result.relations ≡ self.now.relations }
         ensures summary { result.summary ≡ self.now.summary }
         ensures listed { checked.listed_cells result.cells.now ≡ self.now.cells }
@@ -232,6 +235,49 @@ impl<'a> StateRef<'a> {
             summary,
             cells,
         }
+    }
+
+    /// What is known of several of its parts together, what it says of the whole program, and the bytes of its memory cells. Mostly
+    /// it is said alone how many facts hold.
+    pub fn told(&self) -> Told<'a>
+        ensures relations { result.relations ≡ self.now.relations }
+        ensures summary { result.summary ≡ self.now.summary }
+        ensures listed { checked.listed_cells result.cells.now ≡ self.now.cells }
+        ensures long { length result.cells.now ≡ 5 * length self.now.cells }
+        ensures few { length self.now.cells ≤ 64 }
+        // What versions 1 to 3 can say has the same bytes in all versions.
+        ensures older { list_all (is_cell_sayable Extended) self.now.cells ≡ true → result.cells.now ≡ flat_map spelled.cell self.now.cells }
+    {
+        let (_items, behind) = counted(from_place(self.bytes, CORE), item_width(self.form));
+        if let Form::Fourth(facts, _) = self.form
+            && let Some((level, cells)) = level_at(facts, test_in(self.bytes), behind)
+        {
+            return Told {
+                relations: Relations::default(),
+                summary: Summary::of_level(level),
+                cells: counted(cells, CELL).0,
+            };
+        }
+        self.told_in_full()
+    }
+
+    /// How many facts hold, where it says that and nothing else behind its core.
+    #[inline(always)]
+    pub fn level(&self) -> Option<u16>
+        ensures items { IfSome result (λ n. self.now.items ≡ []) }
+        ensures cells { IfSome result (λ n. self.now.cells ≡ []) }
+        ensures relations { IfSome result (λ n. self.now.relations ≡ no_relations) }
+        ensures summary { IfSome result (λ n. self.now.summary ≡ level_alone n) }
+    {
+        let (items, behind) = counted(from_place(self.bytes, CORE), item_width(self.form));
+        if let Form::Fourth(facts, _) = self.form
+            && items.len() == 0
+            && let Some((level, cells)) = level_at(facts, test_in(self.bytes), behind)
+            && counted(cells, CELL).0.len() == 0
+        {
+            return Some(level);
+        }
+        None
     }
 
     /// What is known of several of its parts together.

@@ -3,7 +3,7 @@
 //! States of versions 1 to 3 say nothing of it.
 
 ghost use Rattle.std.specs.Prelude.{◌≡◌, ◌≤◌, length};
-ghost use Rattle.gb_domain.specs.Silent.{is_unshadowed, is_silent};
+ghost use Rattle.gb_domain.specs.Silent.{is_unshadowed, is_silent, is_level_alone, level_alone};
 ghost use Rattle.gb_domain.specs.Summaries.{no_shadows, no_bank_shadows, no_summary, zero_fill};
 
 use crate::interval::StridedInterval;
@@ -193,6 +193,30 @@ impl Summary {
             && is_unshadowed(&self.shadows.first)
             && is_unshadowed(&self.shadows.second)
             && self.aside.is_none()
+    }
+
+    /// Whether nothing is said but how many facts hold.
+    #[inline(always)]
+    pub fn is_level_alone(&self) -> bool
+        ensures { result ≡ is_level_alone self.now }
+    {
+        self.fills.as_slice().len() == 0
+            && is_unshadowed(&self.shadows.first)
+            && is_unshadowed(&self.shadows.second)
+            && self.aside.is_none()
+    }
+
+    /// That so many facts hold, and nothing else.
+    #[inline(always)]
+    pub fn of_level(level: u16) -> Summary
+        ensures { result ≡ level_alone level }
+    {
+        Summary {
+            level,
+            fills: ArrayVec::new(),
+            shadows: BankShadows::default(),
+            aside: None,
+        }
     }
 
     /// A copy: a summary owns a list, and no list is copied unseen.

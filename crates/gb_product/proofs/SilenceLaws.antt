@@ -1,7 +1,8 @@
 -- What covering asks where nothing is said: of bytes cells alone, and of the stack that it isn't put aside.
-use Rattle.std.proofs.Common.{◌≡◌, ℕ, zero, suc, ◌==◌, Bool, true, false, not, ◌&&◌, ◌||◌, cond, List, [], ◌∷◌, length, take, drop, Option, Some, None, is_none, refl, sym, ◌∙◌, ap}
+use Rattle.std.proofs.Common.{◌≡◌, ℕ, zero, suc, ◌==◌, Bool, true, false, not, ◌&&◌, ◌||◌, cond, nat_le, List, [], ◌∷◌, length, take, drop, Option, Some, None, is_none, refl, sym, ◌∙◌, ap, arith}
 use Rattle.std.proofs.Math.Nat.{suc-ne-zero}
 use Rattle.std.proofs.lemmas.Bool.{and_parts, not-true, eqb-true}
+use Rattle.std.proofs.lemmas.Bool.Decides.{nat_tests}
 use Rattle.std.specs.List.{list_all}
 use Rattle.gb_ops.specs.declared.machine.Kind.{Kind}
 use Rattle.gb_ops.specs.declared.registers.Registers.{Registers}
@@ -30,7 +31,7 @@ use Rattle.gb_summaries.specs.Below.gb_ram_bounds.Covering.{cell_or, byte_at, gi
 use Rattle.gb_summaries.specs.Below.gb_ram_bounds.Facts.{is_given_back, keeps_facts}
 use Rattle.gb_summaries.specs.Covering.{covers_facts, covers_fills, known_of, covers_aside, covers_summary}
 use Rattle.gb_summaries.specs.Known.{pointer_bounds}
-use Rattle.gb_product.specs.Covering.{has_cells_alone, uncopied, byte_in, covers_cells}
+use Rattle.gb_product.specs.Covering.{has_cells_alone, uncopied, byte_in, covers_cells, are_kept, says_less}
 
 both : (a b : Bool) → a ≡ true → b ≡ true → (a && b) ≡ true
 both true b h k = k
@@ -197,3 +198,59 @@ covers_silence program v c cells s kept t h =
     (shadows_covered program.kind First (known_of program First v c cells s t.shadows.first) s.shadows.first t.shadows.first first.0)
     (shadows_covered program.kind Second (known_of program Second v c cells s t.shadows.second) s.shadows.second t.shadows.second second.0)
     ∙ aside_covered s.aside t.aside second.1)
+
+-- ---- facts that hold already
+
+least_first : (m n : ℕ) → nat_le (suc m) (suc n) ≡ true → nat_le m n ≡ true
+least_first m n h = grind (arith, nat_tests)
+
+none_least : (n : ℕ) → nat_le (suc n) 0 ≡ true → true ≡ false
+none_least n h = grind (arith, nat_tests)
+
+behind_more : (m n : ℕ) (facts : List Fact) → nat_le n m ≡ true → drop m (take n facts) ≡ []
+behind_more m zero facts h = drop_none m
+behind_more m (suc n) [] h = drop_none m
+behind_more zero (suc n) (f ∷ facts) h = not_so (none_least n h)
+behind_more (suc m) (suc n) (f ∷ facts) h = behind_more m n facts (least_first n m h)
+
+or_first : (a b : Bool) → a ≡ true → (a || b) ≡ true
+or_first true b h = refl
+or_first false b h = cc
+
+all_given_back : (known : List Fact) (kept cells : List Cell) → list_all (λ c. has_cell kept c.address) cells ≡ true → list_all (is_given_back known kept) cells ≡ true
+unfolding is_given_back
+all_given_back known kept [] h = refl
+all_given_back known kept (c ∷ cells) h =
+    let parts = and_parts _ _ h in both _ _ (or_first _ _ parts.0) (all_given_back known kept cells parts.1)
+
+none_goes : (known : List Fact) (cells kept : List Cell) → are_kept cells kept ≡ true → keeps_facts known cells kept ≡ true
+unfolding keeps_facts
+none_goes known cells kept h = all_given_back known kept cells h
+
+level_covered :
+    (facts : List Fact) (v : Values) (cells : List Cell) (s : SummaryParts) (kept : List Cell) (level : ℕ)
+    → are_kept cells kept ≡ true → nat_le level s.level ≡ true → covers_facts facts v cells s kept level ≡ true
+unfolding covers_facts
+level_covered facts v cells s kept level kept_all h =
+    both _ _
+    (none_goes (take level (take s.level facts)) cells kept kept_all)
+    (facts_given (take s.level facts) cells s.fills (pointer_bounds v) kept (drop s.level (take level facts)) (behind_more s.level level facts h))
+
+-- where no cell goes they hold still
+pub covers_level :
+    (program : Program) (v : Values) (c : Ctl) (cells : List Cell) (s : SummaryParts) (kept : List Cell) (t : SummaryParts)
+    → says_less s t ≡ true → are_kept cells kept ≡ true → true ≡ covers_summary program v c cells s kept t
+unfolding covers_summary
+covers_level program v c cells s kept t h kept_all =
+    let aside = and_parts _ _ h in
+    let level = and_parts _ _ aside.1 in
+    let fills = and_parts _ _ level.1 in
+    let first = and_parts _ _ fills.1 in
+    let second = and_parts _ _ first.1 in
+    sym
+    (all_but_last _ _ _ _ (covers_aside s.aside t.aside)
+    (level_covered program.facts v cells s kept t.level kept_all level.0)
+    (fills_covered program.facts v cells s kept t.fills fills.0)
+    (shadows_covered program.kind First (known_of program First v c cells s t.shadows.first) s.shadows.first t.shadows.first first.0)
+    (shadows_covered program.kind Second (known_of program Second v c cells s t.shadows.second) s.shadows.second t.shadows.second second.0)
+    ∙ (aside_covered s.aside t.aside second.1 ∙ aside.0))

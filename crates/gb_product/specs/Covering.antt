@@ -1,6 +1,6 @@
 -- Covering of whole states: part by part, by what is known together, and by what is said of the whole program (abstract
 -- interpretation: inclusion; own).
-use Rattle.std.specs.Prelude.{ℕ, ◌==◌, Bool, true, false, not, ◌&&◌, if◌then◌else◌, List, length, take, Option, Some, None, is_none}
+use Rattle.std.specs.Prelude.{ℕ, ◌==◌, Bool, true, false, not, ◌&&◌, nat_le, if◌then◌else◌, List, length, take, Option, Some, None, is_none}
 use Rattle.std.specs.List.{list_all}
 use Rattle.gb_ops.specs.declared.registers.Registers.{Registers}
 use Rattle.gb_domain.specs.declared.interval.StridedInterval.{StridedInterval}
@@ -9,6 +9,7 @@ use Rattle.gb_domain.specs.declared.relations.Relations.{Relations}
 use Rattle.gb_domain.specs.declared.types.Cell.{Cell}
 use Rattle.gb_domain.specs.declared.types.Val.{Val}
 use Rattle.gb_domain.specs.RelationRules.{has_place, are_unknown}
+use Rattle.gb_domain.specs.Silent.{is_level_alone}
 use Rattle.gb_domain.specs.Summaries.{SummaryParts, Program}
 use Rattle.gb_domain.specs.Types.{AbsState}
 use Rattle.gb_abs_effects.specs.Below.gb_abs.Covering.{cell_at, covers_val, covers_core, covers_items}
@@ -64,6 +65,14 @@ has_cells_alone s = s.level == 0 && length s.fills == 0
 -- each of the kept cells holds the byte at its address
 unfoldable pub covers_cells : Program → Values → List Cell → SummaryParts → List Cell → Bool
 covers_cells program v cells s kept = list_all (λ c. covers_val (byte_in program v cells s c.address) c.val) kept
+
+-- each cell is kept
+abbrev pub are_kept : List Cell → List Cell → Bool
+are_kept cells kept = list_all (λ c. has_cell kept c.address) cells
+
+-- t says nothing but that facts hold which hold by s too, by which the stack isn't put aside
+abbrev pub says_less : SummaryParts → SummaryParts → Bool
+says_less s t = is_none s.aside && (nat_le t.level s.level && is_level_alone t)
 
 -- ---- all of it
 

@@ -58,7 +58,7 @@ pub fn byte_of(program: &Program<'_>, states: &States<'_>, address: u16) -> Val
 }
 
 #[tactic(auto, unfolding(crate::specs::Covering::covers_cells))]
-fn covers_cells(
+fn covers_cells_of(
     program: &Program<'_>,
     values: &Values,
     cells: &[Cell],
@@ -73,6 +73,19 @@ fn covers_cells(
             &cell.val,
         )
     })
+}
+
+/// Whether cells stand for what states know of bytes.
+pub fn covers_cells(program: &Program<'_>, states: &States<'_>, kept: &[Cell]) -> bool
+    ensures { result ≡ Covering.covers_cells program.now (values_of states.now.core.now.registers states.now.relations.now.pairs) states.now.lists.now.cells states.now.summary.now kept.now }
+{
+    covers_cells_of(
+        program,
+        &states.values(),
+        states.lists.cells(),
+        states.summary,
+        kept,
+    )
 }
 
 /// Whether nothing is said of bytes but by cells.
@@ -93,12 +106,6 @@ pub fn covers_lists(program: &Program<'_>, states: &States<'_>, claimed: &Abs) -
         gb_abs_effects::covers_lists(lists, claimed)
     } else {
         covers_items(lists.items(), claimed.items())
-            && covers_cells(
-                program,
-                &states.values(),
-                lists.cells(),
-                summary,
-                claimed.cells(),
-            )
+            && covers_cells(program, states, claimed.cells())
     }
 }

@@ -18,7 +18,7 @@ use gb_domain::summary::Summary;
 use gb_domain::types::{Abs, Cell, Val};
 use gb_ops::registers::Registers;
 use gb_summaries::covering::covers_summary;
-use gb_summaries::{Values, covers_byte, covers_pairs, has_place, is_same_pair};
+use gb_summaries::{Values, covers_byte, covers_pairs, has_cell, has_place, is_same_pair};
 
 fn covers_zero(s: Option<WordPair>, t: Option<WordPair>) -> bool
     ensures { result ≡ Covering.covers_zero s t }
@@ -94,8 +94,23 @@ pub fn covers_relations(
     is_nothing(t) || covers_each(is_whole, registers, s, t)
 }
 
+/// Whether nothing is said but that facts hold which hold by another summary too, by which the stack isn't put aside.
+fn says_less(summary: &Summary, claimed: &Summary) -> bool
+    ensures { result ≡ Covering.says_less summary.now claimed.now }
+{
+    summary.aside().is_none() && claimed.level() <= summary.level() && claimed.is_level_alone()
+}
+
+/// Whether no cell goes.
+fn are_kept(cells: &[Cell], kept: &[Cell]) -> bool
+    ensures { result ≡ Covering.are_kept cells.now kept.now }
+{
+    cells.iter().all(|cell| has_cell(kept, cell.address))
+}
+
 /// Whether what is said of the whole program with these cells holds of states. Where nothing is said, only the stack is asked about.
-#[tactic(auto, using(crate::proofs::SilenceLaws::covers_silence))]
+/// Facts that held hold still where no cell goes.
+#[tactic(auto, using(crate::proofs::SilenceLaws::covers_silence, crate::proofs::SilenceLaws::covers_level))]
 pub fn covers_said(
     program: &Program<'_>,
     states: &States<'_>,
@@ -107,6 +122,9 @@ pub fn covers_said(
     let summary = states.summary;
     if claimed.is_silent() {
         return summary.aside().is_none();
+    }
+    if says_less(summary, claimed) && are_kept(states.lists.cells(), kept) {
+        return true;
     }
     covers_summary(
         program,

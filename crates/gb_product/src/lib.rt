@@ -14,7 +14,7 @@ pub mod reduced;
 pub mod sides;
 pub mod states;
 
-pub use bytes::{byte_in, byte_of, covers_lists, uncopied};
+pub use bytes::{byte_in, byte_of, covers_cells, covers_lists, uncopied};
 pub use held::{held_relations, relations_outside, stack_held};
 pub use parts::{Branch, Branches, Product};
 pub use states::States;
@@ -29,8 +29,8 @@ pub use gb_abs_effects::writes::{AbsEffect, AbsWrite, quiet};
 pub use gb_abs_effects::{
     Span, any, append_bytes, cell_at, cell_without_origin, cells_without_origins,
     core_without_origins, covers_controller, covers_ime, covers_origin, covers_val, end, flags_val,
-    is_own, known, left_of, may_enable, may_have_bit, own, pass, push, resize, settle, single,
-    sp_bounds, sp_halves, with_cell, without_origin,
+    is_own, known, left_of, may_enable, may_have_bit, own, pass, push, put_cell, resize, settle,
+    single, sp_bounds, sp_halves, with_cell, without_origin,
 };
 pub use gb_domain::program::Program;
 pub use gb_summaries::instruction::{InstructionStore, summary_after};

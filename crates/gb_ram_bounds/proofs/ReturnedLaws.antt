@@ -1,5 +1,5 @@
 -- Facts and fills where a routine returns hold.
-use Rattle.std.proofs.Common.{◌≡◌, ℕ, zero, suc, ◌+◌, ◌-◌, ◌<◌, ◌≤◌, Bool, true, false, not, ◌&&◌, ◌||◌, nat_le, nat_lt, cond, List, [], ◌∷◌, take, Option, Some, None, inl, inr, refl, sym, ◌∙◌, ap, subst, arith}
+use Rattle.std.proofs.Common.{◌≡◌, ℕ, zero, suc, ◌+◌, ◌-◌, ◌<◌, ◌≤◌, Bool, true, false, not, ◌&&◌, ◌||◌, nat_le, nat_lt, min, cond, List, [], ◌∷◌, length, take, Option, Some, None, inl, inr, refl, sym, ◌∙◌, ap, subst, arith}
 use Rattle.std.proofs.lemmas.Bool.{and_parts, or_cases}
 use Rattle.std.proofs.lemmas.Bool.Decides.{nat_tests}
 use Rattle.std.specs.List.{list_any, list_all}
@@ -94,6 +94,37 @@ stays_by_both ranges exit cells in_exit in_caller f x c =
     at : (a : ℕ) → stays_at ranges exit cells true true f a ≡ true
     at a = passes (has_address f a) (has_cell cells a) (claims (is_in_ranges ranges a) true true (has_cell exit a))
         (claimed-by-both (is_in_ranges ranges a) (has_cell exit a))
+
+none_stays : (ranges : List Range) (exit cells : List Cell) (f : Fact) → stays ranges exit cells false false f ≡ false
+unfolding stays
+none_stays ranges exit cells f = refl
+
+-- where as many hold at the exit and in the caller, so many stay
+pub staying_alike :
+    (ranges : List Range) (exit cells : List Cell) (facts : List Fact) (n m : ℕ) → n ≡ m → staying ranges exit cells facts n m ≡ min n (length facts)
+staying_alike ranges exit cells facts n m e = ap (λ k. staying ranges exit cells facts n k) (sym e) ∙ by facts n
+  where
+    some : (k : ℕ) → nat_lt 0 (suc k) ≡ true
+    some k = grind (arith, nat_tests)
+
+    before : (k : ℕ) → suc k - 1 ≡ k
+    before k = omega arith
+
+    none_first : (k : ℕ) → 0 ≡ min 0 (suc k)
+    none_first k = omega arith
+
+    one_more : (j k : ℕ) → suc (min j k) ≡ min (suc j) (suc k)
+    one_more j k = omega arith
+
+    none_left : (k : ℕ) → 0 ≡ min k 0
+    none_left k = omega arith
+
+    by : (facts : List Fact) (n : ℕ) → staying ranges exit cells facts n n ≡ min n (length facts)
+    by [] n = none_left n
+    by (f ∷ facts) zero = ap (λ b. cond b (suc (staying ranges exit cells facts (0 - 1) (0 - 1))) 0) (none_stays ranges exit cells f) ∙ none_first (length facts)
+    by (f ∷ facts) (suc k) =
+        ap (λ b. cond b (suc (staying ranges exit cells facts (suc k - 1) (suc k - 1))) 0) (stays_by_both ranges exit cells (nat_lt 0 (suc k)) (nat_lt 0 (suc k)) f (some k) (some k))
+        ∙ (ap (λ j. suc (staying ranges exit cells facts j j)) (before k) ∙ (ap suc (by facts k) ∙ one_more k (length facts)))
 
 first-holds : (n : ℕ) (f : Fact) (facts : List Fact) (cells : List Cell) (memory : ℕ → ℕ) → HoldFacts (take n (f ∷ facts)) cells memory → nat_lt 0 n ≡ true → HoldsFact cells memory f
 first-holds zero f facts cells memory h some = cc

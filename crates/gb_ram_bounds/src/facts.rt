@@ -18,8 +18,8 @@ use gb_domain::values::interval_of;
 pub fn has_address(fact: &Fact, address: u16) -> bool
     ensures { result ≡ Facts.has_address fact.now address }
 {
-    fact.first <= address
-        && address <= fact.last
+    address <= fact.last
+        && fact.first <= address
         && 0 < fact.step
         && (address - fact.first) % u16::from(fact.step) == 0
 }

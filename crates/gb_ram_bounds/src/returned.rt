@@ -110,6 +110,25 @@ fn staying(
     facts.len()
 }
 
+/// The same. Where as many facts held at the exit and where it was called, none is asked.
+#[tactic(auto, using(crate::proofs::ReturnedLaws::staying_alike))]
+fn staying_soon(
+    ranges: &[Range],
+    exit: &[Cell],
+    cells: &[Cell],
+    facts: &[Fact],
+    in_exit: usize,
+    in_caller: usize,
+) -> usize
+    ensures { result ≡ Returned.staying ranges.now exit.now cells.now facts.now in_exit in_caller }
+{
+    if in_exit == in_caller {
+        in_exit.min(facts.len())
+    } else {
+        staying(ranges, exit, cells, facts, in_exit, in_caller)
+    }
+}
+
 /// How many of the facts hold where a routine returns, if so many held at its exit, and so many where it was called: at each of a
 /// fact's addresses without a cell it is the exit that says so, or outside the routine's ranges the caller. The cells are those where
 /// it returns; the exit's count inside the ranges, the caller's outside.
@@ -125,7 +144,7 @@ pub fn returned_level(
     ensures exact { result ≡ Returned.staying ranges.now exit.now cells.now facts.now in_exit in_caller }
     ensures sound { Returned.IsSoundReturnedLevel ranges.now exit.now cells.now facts.now in_exit in_caller result }
 {
-    staying(ranges, exit, cells, facts, in_exit, in_caller)
+    staying_soon(ranges, exit, cells, facts, in_exit, in_caller)
 }
 
 #[tactic(auto, unfolding(crate::specs::Returned::lies_in_one))]

@@ -1,6 +1,7 @@
 pub mod CheckedLaws
 pub mod FieldLaws
 pub mod Formats
+pub mod LevelLaws
 pub mod ListedLaws
 pub mod PlaceLaws
 pub mod RelationLaws

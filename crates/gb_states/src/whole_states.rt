@@ -1,6 +1,10 @@
 //! Reading states of version 4, which speaks of whole programs.
 
-ghost use Rattle.std.specs.Prelude.{◌≡◌, ◌≤◌, IfOk, true};
+ghost use Rattle.std.specs.Prelude.{◌≡◌, ◌≤◌, Bool, true, length, Ok, IfOk, IfSome};
+ghost use Rattle.gb_domain.specs.declared.places.StackBytes.{StackBytes};
+ghost use Rattle.gb_domain.specs.Relations.{no_relations};
+ghost use Rattle.gb_domain.specs.Silent.{level_alone};
+ghost use Rattle.gb_states.specs.Checked.{core_in};
 ghost use Rattle.gb_domain.specs.declared.rules.Rules.TheVariants.{Extended};
 ghost use Rattle.gb_domain.specs.Limits.{cell_room};
 ghost use Rattle.gb_domain.specs.Rules.{after_cell};
@@ -10,7 +14,7 @@ ghost use Rattle.gb_states.specs.RelationReading.{parts_at};
 ghost use Rattle.gb_states.specs.WholeRules.{is_off_alone, may_be_aside, item_base, stack_bytes};
 ghost use Rattle.gb_states.specs.WholeReading.{val_at, ctl_at, vals_at, core_at, items_at, cell_at, cells_at, may_be_item, present_declared_at, place_of, summary_at, told_at, state_at};
 
-use crate::fields::{banks_at, flg_at, ime_at, may_at, ordered_at, test_at};
+use crate::fields::{banks_at, flg_at, ime_at, ime_in, may_at, ordered_at, test_at};
 use crate::form::ProcedureForm;
 use crate::relations::{InMemory, Parts, Present, parts_at, present_at};
 use crate::role::Role;
@@ -212,6 +216,18 @@ pub fn item_base(base: u16, region: Region) -> u16
     }
 }
 
+/// The same, of a core that stands in bytes.
+#[inline(always)]
+pub fn may_be_aside_in(role: Role, bytes: &[u8]) -> bool
+    requires { 40 ≤ length bytes.now }
+    ensures { result ≡ may_be_aside role (core_in true bytes.now) }
+{
+    if matches!(role, Role::Exit) {
+        return false;
+    }
+    bytes[2] == 1 && is_off_alone(ime_in(bytes[0]))
+}
+
 /// The stack of a state that has so many items.
 #[inline(always)]
 pub fn stack_bytes(form: ProcedureForm, role: Role, region: Region, count: u8) -> StackBytes
@@ -264,7 +280,31 @@ fn both_parts_at(
     Ok(((parts, summary), rest))
 }
 
-/// What is known of several parts together, and what is said of the whole program; the test is the state's.
+/// How many facts hold, where bytes say that and nothing else.
+#[inline(always)]
+#[tactic(auto, using(crate::proofs::LevelLaws::level_told))]
+pub fn level_at(facts: u16, test: Option<u8>, bytes: &[u8]) -> Option<(u16, &[u8])>
+    ensures { IfSome result (λ x. (k : StackBytes) (may : Bool) → told_at facts k may test bytes.now ≡ Ok ((no_relations, level_alone x.0), x.1.now)) }
+{
+    let [present, declared, low, high, fills, rest @ ..] = bytes else {
+        return None;
+    };
+    let level = u16::from_le_bytes([*low, *high]);
+    if *present == 0
+        && *declared == 2
+        && *fills == 0
+        && test.is_none()
+        && 0 < level
+        && level <= facts
+    {
+        Some((level, rest))
+    } else {
+        None
+    }
+}
+
+/// What is known of several parts together, and what is said of the whole program; the test is the state's. Mostly it is said alone
+/// how many facts hold.
 #[tactic(auto, unfolding(crate::specs::WholeReading::told_at))]
 pub fn told_at(
     facts: u16,
@@ -275,6 +315,9 @@ pub fn told_at(
 ) -> Result<((Relations, Summary), &[u8]), CertFault>
     ensures { Gives (λ x. ((x.0.0, x.0.1), x.1.now)) result (told_at facts stack may_be_aside test bytes.now) }
 {
+    if let Some((level, rest)) = level_at(facts, test, bytes) {
+        return Ok(((Relations::default(), Summary::of_level(level)), rest));
+    }
     let (there, rest) = present_declared_at(stack, may_be_aside, test, bytes)?;
     let (((byte, (zero, pairs)), summary), rest) = both_parts_at(facts, stack, test, there, rest)?;
     Ok(((Relations { byte, zero, pairs }, summary), rest))

@@ -22,9 +22,11 @@ use Rattle.gb_domain.specs.declared.rules.Rules.TheVariants.{Simple, Extended}
 use Rattle.gb_domain.specs.declared.summary.Fact.{Fact}
 use Rattle.gb_domain.specs.declared.summary.Shadows.{Shadows}
 use Rattle.gb_domain.specs.declared.types.Cell.{Cell}
+use Rattle.gb_domain.specs.declared.types.Val.{Val}
+use Rattle.gb_ops.specs.declared.registers.Registers.{Registers}
 use Rattle.gb_domain.specs.Places.{no_place, no_byte}
 use Rattle.gb_domain.specs.RelationRules.{is_some_register}
-use Rattle.gb_domain.specs.Silent.{is_unshadowed, is_silent}
+use Rattle.gb_domain.specs.Silent.{is_unshadowed, is_silent, is_level_alone, level_alone}
 use Rattle.gb_domain.specs.Summaries.{SummaryParts, Program, no_shadows, no_bank_shadows, no_summary}
 use Rattle.gb_domain.specs.Types.{AbsState}
 use Rattle.gb_product.specs.Below.gb_copies.Shadows.{is_shadow, without_register, without_addresses, copied_to_register, copied_to_address}
@@ -44,13 +46,14 @@ use Rattle.gb_product.specs.Below.gb_summaries.Moves.{fills_moved}
 use Rattle.gb_product.specs.Below.gb_summaries.Stores.{without_stored, shadows_by, shadows_stored, stored_in_ram, switched_window, switched}
 use Rattle.gb_product.specs.Below.gb_summaries.Transfer.{without_registers, loaded, moved_byte, shadows_after, after_registers}
 use Rattle.gb_product.specs.Below.gb_abs_effects.declared.writes.AbsWrite.{AbsWrite}
+use Rattle.gb_product.specs.Below.gb_abs_effects.declared.writes.AbsWrite.TheVariants as write
 use Rattle.gb_product.specs.Below.gb_abs.Located.{sp_bounds}
 use Rattle.gb_product.specs.Below.gb_relations.Transfer.{values_of}
 use Rattle.gb_product.specs.declared.parts.Product.{Product}
 use Rattle.gb_successors.specs.declared.stacks.StackMove.{StackMove}
 use Rattle.gb_successors.specs.declared.stacks.StackMove.TheVariants as move
 use Rattle.gb_successors.specs.declared.stacks.Stack.{Stack}
-use Rattle.gb_successors.specs.Summaries.{aside_behind, with_aside, puts_aside, stored_by, tells_nothing, stays_silent, summary_by}
+use Rattle.gb_successors.specs.Summaries.{aside_behind, with_aside, puts_aside, stored_by, tells_nothing, stays_silent, stores_nothing, keeps_level, summary_by}
 
 -- ---- what is silent
 
@@ -267,3 +270,56 @@ silent_behind rules k program o s p m what cells h =
     by : (r : Rules) → tells_nothing r program.kind ≡ true → puts_aside m ≡ false → s.summary ≡ no_summary → summary_by r k program o s p m what cells ≡ s.summary
     by Simple e none quiet = silent_simply k program o s p m what cells ∙ sym quiet
     by Extended e none quiet = silent_by Extended k program o s p m what cells (rom program.kind e) none quiet ∙ sym quiet
+
+-- ---- where it is said alone how many facts hold
+
+level_is : (m : SummaryParts) → is_level_alone m ≡ true → m ≡ level_alone m.level
+level_is m h =
+    let fills = both_of (length m.fills == 0) _ h in
+    let first = both_of (is_unshadowed m.shadows.first) _ fills.1 in
+    let second = both_of (is_unshadowed m.shadows.second) _ first.1 in
+    ap (λ fs. record m { fills = fs }) (no_length m.fills (eqb-true (length m.fills) 0 fills.0))
+    ∙ (ap (λ s. record { level = m.level; fills = []; shadows = record m.shadows { first = s }; aside = m.aside }) (unshadowed_is m.shadows.first first.0)
+    ∙ (ap (λ s. record { level = m.level; fills = []; shadows = record { first = no_shadows; second = s }; aside = m.aside }) (unshadowed_is m.shadows.second second.0)
+    ∙ ap (λ o. record { level = m.level; fills = []; shadows = no_bank_shadows; aside = o }) (none_is m.aside second.1)))
+
+level_registers : (region : Region) (o : Op) (sp : Bounds) (v : Values) (n : ℕ) → after_registers region o sp v (level_alone n) ≡ level_alone n
+unfolding after_registers fills_moved
+level_registers region o sp v n = ap (λ s. record { level = n; fills = []; shadows = record { first = s; second = s }; aside = None }) (none_after region o v)
+
+level_after_none :
+    (program : Program) (region : Region) (cells : List Cell) (o : Op) (sp : Bounds) (v : Values) (b : OneByte) (w : InstructionStore) (n : ℕ)
+    → w ≡ stored.Nothing → summary_after program region cells o sp v b w (level_alone n) ≡ level_alone n
+unfolding summary_after
+level_after_none program region cells o sp v b w n e =
+    ap (λ w. after_registers region o sp v (after_write program region cells o b w (level_alone n))) e ∙ level_registers region o sp v n
+
+nothing_stored : (o : Op) (r : Registers Val) (what : AbsWrite) → stores_nothing what ≡ true → stored_by o r what ≡ stored.Nothing
+unfolding stored_by
+nothing_stored o r (write.Byte span v) h = cc
+nothing_stored o r (write.Word a low high) h = cc
+nothing_stored o r what h = refl
+
+level_by :
+    (k : Stack) (program : Program) (o : Op) (s : AbsState) (p : Product) (m : StackMove) (what : AbsWrite) (cells : List Cell) (n : ℕ)
+    → stores_nothing what ≡ true → puts_aside m ≡ false → s.summary ≡ level_alone n → summary_by Extended k program o s p m what cells ≡ level_alone n
+unfolding summary_by
+level_by k program o s p m what cells n nothing none is =
+    let sp = sp_bounds k.setting s in
+    let values = values_of p.core.registers p.relations.pairs in
+    let byte = places_outside k.region p.relations.byte in
+    let stores = stored_by o p.core.registers what in
+    ap (λ (t : SummaryParts). with_aside (aside_behind m t.aside) (summary_after program k.region cells o sp values byte stores (with_aside None t))) is
+    ∙ (ap (λ a. with_aside a (summary_after program k.region cells o sp values byte stores (level_alone n))) (silent_aside m none)
+    ∙ ap (with_aside None) (level_after_none program k.region cells o sp values byte stores n (nothing_stored o p.core.registers what nothing)))
+
+pub level_behind :
+    (rules : Rules) (k : Stack) (program : Program) (o : Op) (s : AbsState) (p : Product) (m : StackMove) (what : AbsWrite) (cells : List Cell)
+    → keeps_level rules m what s.summary ≡ true → summary_by rules k program o s p m what cells ≡ s.summary
+unfolding keeps_level
+level_behind Simple k program o s p m what cells h = cc
+level_behind Extended k program o s p m what cells h =
+    let stores = both_of (stores_nothing what) (not (puts_aside m) && is_level_alone s.summary) h in
+    let more = both_of (not (puts_aside m)) (is_level_alone s.summary) stores.1 in
+    let is = level_is s.summary more.1 in
+    level_by k program o s p m what cells s.summary.level stores.0 (not_of (puts_aside m) more.0) is ∙ sym is

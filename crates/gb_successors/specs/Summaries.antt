@@ -10,7 +10,7 @@ use Rattle.gb_domain.specs.declared.rules.Rules.{Rules}
 use Rattle.gb_domain.specs.declared.rules.Rules.TheVariants.{Simple, Extended}
 use Rattle.gb_domain.specs.declared.types.Cell.{Cell}
 use Rattle.gb_domain.specs.declared.types.Val.{Val}
-use Rattle.gb_domain.specs.Silent.{is_silent}
+use Rattle.gb_domain.specs.Silent.{is_silent, is_level_alone}
 use Rattle.gb_domain.specs.Summaries.{SummaryParts, Program, no_summary}
 use Rattle.gb_domain.specs.Types.{AbsState}
 use Rattle.gb_domain.specs.Values.{interval_of}
@@ -82,3 +82,14 @@ tells_nothing Extended k = false
 -- nothing was said, and nothing will be
 unfoldable pub stays_silent : Rules → Program → StackMove → SummaryParts → Bool
 stays_silent rules program m s = tells_nothing rules program.kind && (not (puts_aside m) && is_silent s)
+
+-- nothing is stored but on the stack
+abbrev pub stores_nothing : AbsWrite → Bool
+stores_nothing (write.Byte span v) = false
+stores_nothing (write.Word a low high) = false
+stores_nothing what = true
+
+-- By the rules of versions 3 and 4: nothing was said but how many facts hold, and as many do behind the instruction.
+unfoldable pub keeps_level : Rules → StackMove → AbsWrite → SummaryParts → Bool
+keeps_level Simple m what s = false
+keeps_level Extended m what s = stores_nothing what && (not (puts_aside m) && is_level_alone s)

@@ -171,9 +171,30 @@ fn stays_silent(
     tells_nothing(rules, program.kind) && !puts_aside(stack_move) && summary.is_silent()
 }
 
+/// Whether nothing is stored but on the stack.
+fn stores_nothing(write: AbsWrite) -> bool
+    ensures { result ≡ Summaries.stores_nothing write }
+{
+    matches!(write, AbsWrite::Nothing | AbsWrite::Push { .. })
+}
+
+/// Whether nothing was said but how many facts hold, and as many do behind it.
+#[inline(always)]
+#[tactic(auto, unfolding(crate::specs::Summaries::keeps_level))]
+fn keeps_level(rules: Rules, stack_move: StackMove, write: AbsWrite, summary: &Summary) -> bool
+    ensures { result ≡ Summaries.keeps_level rules stack_move write summary.now }
+{
+    match rules {
+        Rules::Simple => false,
+        Rules::Extended => {
+            stores_nothing(write) && !puts_aside(stack_move) && summary.is_level_alone()
+        }
+    }
+}
+
 /// What is said behind an instruction that is taken, where it isn't what was said before.
 #[inline(always)]
-#[tactic(auto, using(crate::proofs::SilentLaws::silent_behind), unfolding(crate::specs::Summaries::summary_by))]
+#[tactic(auto, using(crate::proofs::SilentLaws::silent_behind, crate::proofs::SilentLaws::level_behind), unfolding(crate::specs::Summaries::summary_by))]
 pub(crate) fn summary_behind(
     rules: Rules,
     stack: &Stack,
@@ -188,7 +209,9 @@ pub(crate) fn summary_behind(
 ) -> Option<Summary>
     ensures { summary_or result state.now.summary ≡ Summaries.summary_by rules stack.now program.now op state.now (record { core = core.now; relations = relations.now }) stack_move write (Behind.moved_by moved write state.now).cells }
 {
-    if stays_silent(rules, program, stack_move, state.summary()) {
+    if stays_silent(rules, program, stack_move, state.summary())
+        || keeps_level(rules, stack_move, write, state.summary())
+    {
         return None;
     }
     match rules {

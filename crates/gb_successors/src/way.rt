@@ -16,7 +16,7 @@ use gb_domain::types::{Abs, Cell, Core, Rules, Setting, Val};
 use gb_ops::machine::{Kind, Region};
 use gb_product::reduced::reduce;
 use gb_product::{
-    AbsRead, AbsWrite, Span, Target, held_relations, relations_outside, stack_held, with_cell,
+    AbsRead, AbsWrite, Span, Target, held_relations, put_cell, relations_outside, stack_held,
 };
 use std::marker::Model;
 
@@ -215,7 +215,7 @@ fn copy_state(from: &Abs, state: &mut Abs)
 fn tell_cell(rules: Rules, cell: Cell, state: &mut Abs)
     ensures { state.new ≡ record state.old { cells = with_cell (cell_room rules) cell state.old.cells } }
 {
-    *state = with_cell(rules, state, cell.address, cell.val);
+    put_cell(rules, cell.address, cell.val, state);
 }
 
 /// Sets the cell that a condition bounds, if it bounds one.

@@ -5,6 +5,7 @@ pub mod CoveringLaws
 pub mod StoreLaws
 pub mod MoveLaws
 pub mod TransferLaws
+pub mod UnfilledLaws
 pub mod ReducingLaws
 pub mod ElsewhereLaws
 pub mod InstructionLaws

@@ -8,12 +8,13 @@ ghost use Rattle.gb_summaries.specs.Known.{IsPartOf, pointer_bounds};
 use crate::known::{behind, first_of, pointer_bounds, window_bounds};
 use gb_domain::StridedInterval;
 use gb_domain::interval::bounds;
-use gb_domain::pairs::Bounds;
+use gb_domain::pairs::{ANY_BOUNDS, Bounds};
 use gb_domain::program::Program;
 use gb_domain::summary::{Fact, Fill, Shadows, Summary};
 use gb_domain::types::{Cell, Ctl, Val};
 use gb_domain::values::interval_of;
 use gb_ops::registers::Registers;
+use gb_ram_bounds::Pointers;
 use gb_ram_bounds::covering::{byte_at, gives_facts, gives_fills};
 use gb_ram_bounds::facts::keeps_facts;
 use gb_relations::{BankWindow, Known, Values, covers_shadows};
@@ -77,7 +78,16 @@ fn intervals_of(registers: &Registers<Val>) -> Registers<StridedInterval>
     }
 }
 
-/// What is known of the byte at an address, where as many facts hold as the summary says.
+/// Bounds of pointers of which nothing is known.
+const ANY_POINTERS: Pointers<Bounds> = Pointers {
+    bc: ANY_BOUNDS,
+    de: ANY_BOUNDS,
+    hl: ANY_BOUNDS,
+    high_c: ANY_BOUNDS,
+};
+
+/// What is known of the byte at an address, where as many facts hold as the summary says. Without fills no pointer is asked.
+#[tactic(auto, using(crate::proofs::UnfilledLaws::byte_unfilled))]
 pub fn known_byte(
     facts: &[Fact],
     values: &Values,
@@ -87,13 +97,13 @@ pub fn known_byte(
 ) -> StridedInterval
     ensures { result ≡ byte_at (take summary.now.level facts.now) cells.now summary.now.fills (pointer_bounds values.now) address }
 {
-    byte_at(
-        first_of(facts, summary.level()),
-        cells,
-        summary.fills(),
-        &pointer_bounds(values),
-        address,
-    )
+    let known = first_of(facts, summary.level());
+    let fills = summary.fills();
+    if fills.is_empty() {
+        byte_at(known, cells, fills, &ANY_POINTERS, address)
+    } else {
+        byte_at(known, cells, fills, &pointer_bounds(values), address)
+    }
 }
 
 /// What is known of the byte at an address; any byte where there is no address.
