@@ -294,11 +294,17 @@ impl Differences {
     }
 
     /// What is known of several parts together; the registers are those of s.
-    fn note_relations(&mut self, registers: &Registers<Val>, s: &Relations, t: &Relations)
-        ensures { IsNoted self.old.count self.new.count (covers_relations registers.now s.now t.now) }
+    fn note_relations(
+        &mut self,
+        is_whole: bool,
+        registers: &Registers<Val>,
+        s: &Relations,
+        t: &Relations,
+    )
+        ensures { IsNoted self.old.count self.new.count (covers_relations is_whole registers.now s.now t.now) }
     {
         let (part, known) = known_together(s, t);
-        self.note(covers_relations(registers, s, t), part, known);
+        self.note(covers_relations(is_whole, registers, s, t), part, known);
     }
 
     /// A part is one of them, unless there is none.
@@ -366,7 +372,12 @@ impl Differences {
     {
         let states = States::of(s);
         self.note_core(program.kind, s.core(), t.core());
-        self.note_relations(&s.core().registers, s.relations(), t.relations());
+        self.note_relations(
+            program.is_whole,
+            &s.core().registers,
+            s.relations(),
+            t.relations(),
+        );
         self.note_items(rules, 0, s.items(), t.items());
         self.note_cells(program, &states, t.cells());
         self.note_summary(program, &states, t);

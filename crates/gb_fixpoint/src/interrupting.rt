@@ -152,6 +152,7 @@ impl<'a> Run<'a> {
             && are_items_known(state.items(), &return_word(node.key.address))
             && self.are_cells_entered(state.cells(), node.state.cells())
             && covers_relations(
+                program.is_whole,
                 &entered.registers,
                 node.state.relations(),
                 state.relations(),
