@@ -3,7 +3,7 @@
 
 use crate::facts::KnownFact;
 use crate::facts::StateFact::{
-    self, At, Bits, Byte, Compared, Each, Link, Memory, Same, Word, Zero,
+    self, At, Bits, Byte, Compared, Each, Link, Memory, Same, Wide, Word, Zero,
 };
 use gb_copies::sides::{PlaceContents, narrowed};
 use gb_domain::pairs::WordPair::{Bc, De, Hl};
@@ -40,9 +40,11 @@ pub enum RelatedStep {
     Carries(u16, u16, Facts, Option<bool>),
     /// What is known of one state and of another, and whether that stands for all that the first does.
     Covers(Facts, Facts, bool),
+    /// The same by the rules of version 4.
+    CoversWhole(Facts, Facts, bool),
 }
 
-use RelatedStep::{Carries, Covers, Meets, Passes, Points, Reduces};
+use RelatedStep::{Carries, Covers, CoversWhole, Meets, Passes, Points, Reduces};
 
 /// The cell that says this of memory, where it says something.
 fn told_cell(known: &KnownFact) -> Option<Cell> {
@@ -160,6 +162,19 @@ fn reduces(before: Facts, after: Option<Facts>) -> bool {
     }
 }
 
+/// Whether a state stands for all that another one does, by the rules of version 4 or without what these add.
+fn covers_all(is_whole: bool, s: Facts, t: Facts) -> bool {
+    let program = Program {
+        is_whole,
+        ..Program::unknown()
+    };
+    covers(
+        &program,
+        &KnownFact::new(s).state(),
+        &KnownFact::new(t).state(),
+    )
+}
+
 /// Whether a step comes out so.
 fn agrees(step: &RelatedStep) -> bool {
     match *step {
@@ -168,11 +183,8 @@ fn agrees(step: &RelatedStep) -> bool {
         Points(op, before, within) => points(op, before, within),
         Reduces(before, after) => reduces(before, after),
         Carries(first, last, before, carry) => carries(first, last, before, carry),
-        Covers(s, t, is_so) => covers(
-            &Program::unknown(),
-            &KnownFact::new(s).state(),
-            &KnownFact::new(t).state(),
-        ) == is_so,
+        Covers(s, t, is_so) => covers_all(false, s, t) == is_so,
+        CoversWhole(s, t, is_so) => covers_all(true, s, t) == is_so,
     }
 }
 
@@ -365,6 +377,16 @@ const REDUCED: &[RelatedStep] = &[
             Link(De, LESS_ONE, OF_A, 0x0200),
         ]),
     ),
+    // HL + A is from C100 to C110.
+    Reduces(
+        &[Byte(A, 0x01, 0x10), Wide(Hl, 1, OF_A, 0xC100, 0x0010)],
+        Some(&[
+            Byte(A, 0x01, 0x10),
+            Byte(H, 0xC0, 0xC1),
+            Word(Hl, 0xC0F0, 0xC10F),
+            Wide(Hl, 1, OF_A, 0xC100, 0x0010),
+        ]),
+    ),
     // A register by its pair, rounded to what the factor divides: HL + 2 * A = 1000. The second time HL is cut by A.
     Reduces(
         &[Word(Hl, 0x0FF1, 0x0FFC), Link(Hl, 2, OF_A, 0x1000)],
@@ -516,6 +538,9 @@ const PLACES: Facts = &[Same(&[A, B]), At(0xC123), Compared(7), Zero(De)];
 /// HL + B = C100.
 const LINKED: Facts = &[Link(Hl, 1, OF_B, 0xC100)];
 
+/// HL + B is from C100 to C120.
+const WIDE: Facts = &[Wide(Hl, 1, OF_B, 0xC100, 0x0020)];
+
 const COVERED: &[RelatedStep] = &[
     // Fewer places and no test stand for more; others don't.
     Covers(PLACES, PLACES, true),
@@ -562,6 +587,28 @@ const COVERED: &[RelatedStep] = &[
         &[Word(Hl, 0xFFFF, 0xFFFF), Word(De, 0x0001, 0x0001)],
         &[Link(Hl, 2, OF_DE, 0x0001)],
         true,
+    ),
+    // A link with a width: one of whose sums each is among its own, or bounds of both, by the rules of version 4 alone.
+    CoversWhole(WIDE, WIDE, true),
+    CoversWhole(LINKED, WIDE, true),
+    CoversWhole(WIDE, LINKED, false),
+    CoversWhole(&[Wide(Hl, 1, OF_B, 0xC101, 0x001F)], WIDE, true),
+    CoversWhole(&[Wide(Hl, 1, OF_B, 0xC101, 0x0020)], WIDE, false),
+    CoversWhole(
+        &[Wide(Hl, 1, OF_B, 0xFFF0, 0x0020)],
+        &[Wide(Hl, 1, OF_B, 0xFFE0, 0x0030)],
+        true,
+    ),
+    CoversWhole(&[Word(Hl, 0xC0F0, 0xC0FF), Byte(B, 0x10, 0x21)], WIDE, true),
+    CoversWhole(
+        &[Word(Hl, 0xC0F0, 0xC0FF), Byte(B, 0x10, 0x22)],
+        WIDE,
+        false,
+    ),
+    Covers(
+        &[Word(Hl, 0xC0F0, 0xC0FF), Byte(B, 0x10, 0x21)],
+        WIDE,
+        false,
     ),
 ];
 

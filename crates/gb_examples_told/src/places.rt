@@ -370,6 +370,60 @@ fn an_item_that_holds_the_one_byte_is_found(rt: HostRuntime) {
     play(&rt, rt.alloc(), &mut bytes, ITEM_STEPS);
 }
 
+/// A link of BC with A in the last node of version 4, behind BC's bounds at 186, which are 0 to 1: its form is at 190, its factor at
+/// 191, its sum at 192 and its width at 194. The width is 0; no link has one; a form has bit 6, or bit 5, or reads an eleventh other, with
+/// a width or without; and the factor is 0. With a right width what is left over begins behind the number of cells, and so it does
+/// without one.
+const WIDE_LINKS: &[Step] = &[
+    (
+        &[(184, 0x10), (188, 0x01), (190, 0x81), (191, 0x01)],
+        (FIELD, NODE, Field::ToldWhole, 184, 196),
+    ),
+    (&[(190, 0x80)], (FIELD, NODE, Field::ToldWhole, 184, 191)),
+    (&[(190, 0x41)], (FIELD, NODE, Field::ToldWhole, 184, 191)),
+    (&[(190, 0x21)], (FIELD, NODE, Field::ToldWhole, 184, 191)),
+    (&[(190, 0x8B)], (FIELD, NODE, Field::ToldWhole, 184, 191)),
+    (&[(190, 0x0B)], (FIELD, NODE, Field::ToldWhole, 184, 191)),
+    (
+        &[(190, 0x8A), (191, 0x00)],
+        (FIELD, NODE, Field::ToldWhole, 184, 192),
+    ),
+    (
+        &[(191, 0x01), (194, 0x01)],
+        (LEFT_OVER, Part::End, Field::LeftOver, 197, 197),
+    ),
+    (
+        &[(190, 0x01), (194, 0x00)],
+        (LEFT_OVER, Part::End, Field::LeftOver, 195, 195),
+    ),
+];
+
+#[test]
+fn widths_of_links_are_found(rt: HostRuntime) {
+    let mut bytes = [0; 200];
+    put(&mut bytes, 0, &least_in_version_4());
+    play(&rt, rt.alloc(), &mut bytes, WIDE_LINKS);
+}
+
+/// The same link in the last node of version 3, behind BC's bounds at 167: the form of one with a width isn't one there.
+const THIRD_LINKS: &[Step] = &[
+    (
+        &[(166, 0x10), (169, 0x01), (171, 0x81), (172, 0x01)],
+        (FIELD, NODE, Field::Told, 166, 172),
+    ),
+    (
+        &[(171, 0x01)],
+        (LEFT_OVER, Part::End, Field::LeftOver, 176, 176),
+    ),
+];
+
+#[test]
+fn version_3_has_no_widths(rt: HostRuntime) {
+    let mut bytes = [0; 200];
+    put(&mut bytes, 0, &least_in_version_3());
+    play(&rt, rt.alloc(), &mut bytes, THIRD_LINKS);
+}
+
 /// A second procedure at 37: entry 1, no base, no need, no range; it keeps C010 and C020, at 47, has the mark 2, and an
 /// exit, at 53.
 const SECOND_IN_VERSION_4: [u8; 16] = [

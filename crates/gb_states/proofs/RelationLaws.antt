@@ -877,6 +877,10 @@ is-alone r h =
     let b = and_both (is_none r.zero) (are_unknown r.pairs) a.1 in
     relations-same r.byte (test_byte (compared r.byte.test)) r.zero None r.pairs no_pairs (byte-alone r.byte.registers r.byte.address r.byte.test a.0) (none_is r.zero b.0) (pairs-unknown r.pairs b.1)
 
+-- What versions 1 and 2 can say, version 3 can.
+pub alone_known : (r : Relations) → is_test_alone r ≡ true → may_be_known Extended r ≡ true
+alone_known r h = ap (λ (s : Relations). are_exact s.pairs) (is-alone r h)
+
 -- ---- all versions
 
 -- what there may be beside a state's test, by the rules

@@ -19,6 +19,7 @@ use Rattle.gb_rules.specs.Below.gb_fields.Limits.{unit, node_limit, range_room}
 use Rattle.gb_rules.specs.Below.gb_states.declared.role.Role.{Role}
 use Rattle.gb_rules.specs.Below.gb_states.declared.role.Role.TheVariants as role
 use Rattle.gb_rules.specs.Below.gb_states.Rules.{is_whole, may_be_pushed, is_return_origin, is_declared_origin, is_all_or_none, may_be_of, is_sayable, are_sayable, is_core_sayable, is_cell_sayable, is_silent, is_state_sayable, IsState, IsProcedure, IsNode, IsCertificate, is_of, have_entries, is_after, key}
+use Rattle.gb_rules.proofs.Below.gb_states_laws.RelationLaws.{alone_known}
 use Rattle.gb_rules.proofs.Below.gb_states_laws.StateLaws.{limit_bound}
 use Rattle.gb_verify.specs.Widened.{return_word, above_return_word, widened_node, widened_need, widened_procedure, widened_procedures, widened_by, widened}
 
@@ -97,7 +98,7 @@ state_extended role region s h = record {
   cells = h.cells;
   cell_count = cells_fit (length s.cells) h.cell_count;
   relations = h.relations;
-  known = refl;
+  known = alone_known s.relations h.known;
   sayable = sayable s h.sayable;
 }
 
@@ -121,7 +122,7 @@ state_entered region s h =
       cells = e.cells;
       cell_count = e.cell_count;
       relations = e.relations;
-      known = refl;
+      known = e.known;
       sayable = e.sayable;
     }
 
