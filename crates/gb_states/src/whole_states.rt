@@ -200,6 +200,7 @@ pub fn may_be_aside(role: Role, core: &Core) -> bool
 }
 
 /// The base from which items are counted: where it isn't known they are counted from the region's end.
+#[inline(always)]
 #[tactic(auto, unfolding(crate::specs::WholeRules::item_base))]
 pub fn item_base(base: u16, region: Region) -> u16
     ensures { result ≡ item_base base region }
