@@ -49,6 +49,7 @@ pub fn is_covered(basis: &Basis<'_>, other: &Abs, state: &Abs) -> bool {
         && are_items_known(state.items(), other.items())
         && are_cells_known(state.cells(), other.cells())
         && covers_relations(
+            basis.program.is_whole,
             &other.core().registers,
             other.relations(),
             state.relations(),

@@ -170,10 +170,10 @@ pub fn known_of(state: &Abs) -> KnownRelations<'_> {
 }
 
 /// What is known of several parts together in both.
-pub fn join_all_relations(rules: Rules, a: &Abs, b: &Abs) -> Relations {
-    match rules {
+pub fn join_all_relations(edition: Edition, a: &Abs, b: &Abs) -> Relations {
+    match edition.rules() {
         Rules::Simple => join_tests(a.relations(), b.relations()),
-        Rules::Extended => join_relations(known_of(a), known_of(b)),
+        Rules::Extended => join_relations(edition, known_of(a), known_of(b)),
     }
 }
 
@@ -218,7 +218,7 @@ pub fn join(basis: &Basis<'_>, a: &Abs, b: &Abs) -> Abs {
         join_core(basis, a.core(), b.core()),
         join_items(basis.edition, a.items(), b.items()),
         join_cells(basis.edition, a.cells(), b.cells()),
-        join_all_relations(basis.rules(), a, b),
+        join_all_relations(basis.edition, a, b),
         join_summaries(basis, a, b),
     )
 }

@@ -31,6 +31,7 @@ pub mod seen;
 pub mod shadowing;
 pub mod steps;
 pub mod stop;
+mod sums;
 pub mod tracking;
 
 // What lies below, for the crates above.

@@ -80,6 +80,9 @@ pub const POINT_STEPS: u32 = 12;
 /// The greatest factor of a link.
 pub const FACTOR: u16 = 127;
 
+/// How wide the sums of a link may be: wider ones say little.
+pub const LINK_WIDTH: u16 = 3_000;
+
 /// The most values of H or D that a page is taken by.
 pub const PAGES: u8 = 8;
 

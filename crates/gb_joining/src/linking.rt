@@ -3,56 +3,66 @@
 //! each of its values.
 
 use crate::bounds::{WORD_PAIRS, facts_of, halves_of, set_facts};
-use crate::limits::FACTOR;
+use crate::configuration::Edition;
+use crate::limits::{FACTOR, LINK_WIDTH};
 use crate::register_set::REGISTERS;
 use crate::relating::{KnownRelations, are_same_pairs};
+use crate::sums::{Sums, hull_of, sums_in};
 use gb_verify::gb_ops::op::Register;
-use gb_verify::{Link, Other, PairFacts, Pairs, WordPair};
+use gb_verify::{
+    ANY_BOUNDS, Bounds, Link, Other, PairFacts, Pairs, Relations, WordPair, covers_relations,
+};
 
-pub fn are_same_links(a: &Link, b: &Link) -> bool {
-    let are_same_others = match (a.other, b.other) {
+/// Whether two links read the same.
+fn are_same_others(a: Other, b: Other) -> bool {
+    match (a, b) {
         (Other::Register(x), Other::Register(y)) => x == y,
         (Other::Pair(x), Other::Pair(y)) => are_same_pairs(x, y),
         _ => false,
+    }
+}
+
+/// Whether two links of a pair speak of the same sum.
+fn are_same_terms(a: &Link, b: &Link) -> bool {
+    are_same_others(a.other, b.other) && a.factor == b.factor
+}
+
+pub fn are_same_links(a: &Link, b: &Link) -> bool {
+    are_same_terms(a, b) && a.sum == b.sum && a.width == b.width
+}
+
+/// Whether the checker finds a link of a pair in what is known of a state.
+fn is_found(pair: WordPair, link: &Link, state: KnownRelations<'_>) -> bool {
+    let mut pairs = Pairs::default();
+    let facts = PairFacts {
+        bounds: ANY_BOUNDS,
+        link: Some(*link),
     };
-    are_same_others && a.factor == b.factor && a.sum == b.sum && a.width == b.width
+    set_facts(pair, facts, &mut pairs);
+    let wanted = Relations {
+        pairs,
+        ..Relations::default()
+    };
+    covers_relations(true, state.registers, state.relations, &wanted)
 }
 
-/// The value of a pair that has one alone.
-fn word_in(pair: WordPair, state: KnownRelations<'_>) -> Option<u16> {
-    let bounds = state.bounds(pair);
-    if bounds.first == bounds.last {
-        Some(bounds.first)
-    } else {
-        None
+/// Whether a link holds in a state: by versions 1 to 3 where the pair and what it reads are known, and meet it.
+pub fn holds_link(
+    edition: Edition,
+    pair: WordPair,
+    link: &Link,
+    state: KnownRelations<'_>,
+) -> bool {
+    if edition.is_fourth() {
+        return is_found(pair, link, state);
     }
-}
-
-/// The value of what a link reads, where it has one alone.
-fn other_in(other: Other, state: KnownRelations<'_>) -> Option<u16> {
-    match other {
-        Other::Pair(pair) => word_in(pair, state),
-        Other::Register(register) => {
-            let val = state.registers.get(register);
-            if val.lo == val.hi {
-                Some(u16::from(val.lo))
-            } else {
-                None
-            }
-        }
-    }
-}
-
-fn sum_of(pair: u16, factor: u16, other: u16) -> u16 {
-    pair.wrapping_add(factor.wrapping_mul(other))
-}
-
-/// Whether a link holds in a state in which the pair and what it reads are known.
-pub fn holds_link(pair: WordPair, link: &Link, state: KnownRelations<'_>) -> bool {
-    match (word_in(pair, state), other_in(link.other, state)) {
-        (Some(word), Some(other)) => sum_of(word, link.factor, other) == link.sum,
-        _ => false,
-    }
+    let (word, other) = (state.bounds(pair), state.other_bounds(link.other));
+    word.first == word.last
+        && other.first == other.last
+        && word
+            .first
+            .wrapping_add(link.factor.wrapping_mul(other.first))
+            == link.sum
 }
 
 /// The factor by which the pair's step is the other's, turned round.
@@ -70,35 +80,48 @@ fn factor_of(pair_step: u16, other_step: u16) -> Option<u16> {
     }
 }
 
+/// How far an interval moved from one state to the next, where it stayed as long; by versions 1 to 3 it is a single value.
+fn moved_by(edition: Edition, before: Bounds, behind: Bounds) -> Option<u16> {
+    let length = before.last.checked_sub(before.first)?;
+    let is_as_long = behind.last.checked_sub(behind.first) == Some(length);
+    if is_as_long && (length == 0 || edition.is_fourth()) {
+        Some(behind.first.wrapping_sub(before.first))
+    } else {
+        None
+    }
+}
+
 /// A link of a pair that holds in both states, where the pair steps by a constant as the other by one.
 fn link_by(
+    edition: Edition,
     pair: WordPair,
     other: Other,
     before: KnownRelations<'_>,
     behind: KnownRelations<'_>,
 ) -> Option<Link> {
-    let pair_before = word_in(pair, before)?;
-    let pair_behind = word_in(pair, behind)?;
-    let other_before = other_in(other, before)?;
-    let other_behind = other_in(other, behind)?;
     let factor = factor_of(
-        pair_behind.wrapping_sub(pair_before),
-        other_behind.wrapping_sub(other_before),
+        moved_by(edition, before.bounds(pair), behind.bounds(pair))?,
+        moved_by(
+            edition,
+            before.other_bounds(other),
+            behind.other_bounds(other),
+        )?,
     )?;
+    let Sums { first, width } = sums_in(before.bounds(pair), factor, before.other_bounds(other))?;
+    if width > LINK_WIDTH {
+        return None;
+    }
     Some(Link {
         other,
         factor,
-        sum: sum_of(pair_before, factor, other_before),
-        width: 0,
+        sum: first,
+        width,
     })
 }
 
 /// Whether what a link reads gets smaller from one state to the other.
 fn is_counted_down(other: Other, before: KnownRelations<'_>, behind: KnownRelations<'_>) -> bool {
-    match (other_in(other, before), other_in(other, behind)) {
-        (Some(first), Some(second)) => second < first,
-        _ => false,
-    }
+    behind.other_bounds(other).first < before.other_bounds(other).first
 }
 
 /// Whether a register is one of a pair's.
@@ -117,6 +140,7 @@ fn reads(pair: WordPair, read: WordPair, pairs: &Pairs) -> bool {
 
 /// A link of a pair with another pair that isn't linked with it.
 fn link_to_pair(
+    edition: Edition,
     pair: WordPair,
     linked: &Pairs,
     before: KnownRelations<'_>,
@@ -127,7 +151,7 @@ fn link_to_pair(
         if !are_same_pairs(other, pair)
             && !reads(other, pair, linked)
             && is_counted_down(Other::Pair(other), before, behind) == is_down
-            && let Some(link) = link_by(pair, Other::Pair(other), before, behind)
+            && let Some(link) = link_by(edition, pair, Other::Pair(other), before, behind)
         {
             return Some(link);
         }
@@ -137,6 +161,7 @@ fn link_to_pair(
 
 /// A link of a pair with a register that isn't one of its own.
 fn link_to_register(
+    edition: Edition,
     pair: WordPair,
     before: KnownRelations<'_>,
     behind: KnownRelations<'_>,
@@ -146,7 +171,7 @@ fn link_to_register(
         let other = Other::Register(register);
         if !is_half(register, pair)
             && is_counted_down(other, before, behind) == is_down
-            && let Some(link) = link_by(pair, other, before, behind)
+            && let Some(link) = link_by(edition, pair, other, before, behind)
         {
             return Some(link);
         }
@@ -154,38 +179,86 @@ fn link_to_register(
     None
 }
 
-/// Whether a pair has one value in each state, and moved from one to the other: else no link is sought.
-fn has_moved(pair: WordPair, before: KnownRelations<'_>, behind: KnownRelations<'_>) -> bool {
-    match (word_in(pair, before), word_in(pair, behind)) {
-        (Some(first), Some(second)) => first != second,
-        _ => false,
-    }
+/// Whether a pair moved from one state to the other: else no link is sought.
+fn has_moved(
+    edition: Edition,
+    pair: WordPair,
+    before: KnownRelations<'_>,
+    behind: KnownRelations<'_>,
+) -> bool {
+    moved_by(edition, before.bounds(pair), behind.bounds(pair)).is_some_and(|step| step != 0)
 }
 
 /// A link of a pair that holds in both states: with what is counted down first, and with another pair before its bytes,
 /// since a byte goes round where its pair goes on: a copy may end by either pointer, and the other one is known by it.
 fn inferred(
+    edition: Edition,
     pair: WordPair,
     linked: &Pairs,
     before: KnownRelations<'_>,
     behind: KnownRelations<'_>,
 ) -> Option<Link> {
-    if !has_moved(pair, before, behind) {
+    if !has_moved(edition, pair, before, behind) {
         return None;
     }
-    link_to_pair(pair, linked, before, behind, true)
-        .or(link_to_register(pair, before, behind, true))
-        .or(link_to_pair(pair, linked, before, behind, false))
-        .or(link_to_register(pair, before, behind, false))
+    link_to_pair(edition, pair, linked, before, behind, true)
+        .or(link_to_register(edition, pair, before, behind, true))
+        .or(link_to_pair(edition, pair, linked, before, behind, false))
+        .or(link_to_register(edition, pair, before, behind, false))
+}
+
+/// The link of the first state with the sums of both, by the rules of version 4. Where the second one has it with other sums, the way
+/// there changed them: then no link is left.
+fn widened(
+    edition: Edition,
+    pair: WordPair,
+    before: KnownRelations<'_>,
+    behind: KnownRelations<'_>,
+) -> Option<Link> {
+    if !edition.is_fourth() {
+        return None;
+    }
+    let link = before.link(pair)?;
+    let here = Sums {
+        first: link.sum,
+        width: link.width,
+    };
+    if behind
+        .link(pair)
+        .is_some_and(|other| are_same_terms(&other, &link))
+    {
+        return None;
+    }
+    let there = sums_in(
+        behind.bounds(pair),
+        link.factor,
+        behind.other_bounds(link.other),
+    )?;
+    let Sums { first, width } = hull_of(here, there)?;
+    if width > LINK_WIDTH {
+        return None;
+    }
+    Some(Link {
+        sum: first,
+        width,
+        ..link
+    })
 }
 
 /// What is known of pairs in both states, with links that hold in both where none is known yet.
-pub fn with_links(pairs: &Pairs, before: KnownRelations<'_>, behind: KnownRelations<'_>) -> Pairs {
+pub fn with_links(
+    edition: Edition,
+    pairs: &Pairs,
+    before: KnownRelations<'_>,
+    behind: KnownRelations<'_>,
+) -> Pairs {
     let mut linked = *pairs;
     for pair in WORD_PAIRS {
         let facts = facts_of(pair, pairs);
         if facts.link.is_none() {
-            let link = inferred(pair, &linked, before, behind);
+            let link = inferred(edition, pair, &linked, before, behind).or_else(|| widened(
+                edition, pair, before, behind,
+            ));
             set_facts(pair, PairFacts { link, ..facts }, &mut linked);
         }
     }

@@ -1,6 +1,7 @@
 //! What is known of several parts together in two states.
 
 use crate::bounds::{WORD_PAIRS, bounds_of, box_of, facts_of, set_facts};
+use crate::configuration::Edition;
 use crate::linking::{are_same_links, holds_link};
 use crate::register_set::REGISTERS;
 use gb_verify::gb_ops::registers::Registers;
@@ -98,27 +99,29 @@ pub fn hull(a: Bounds, b: Bounds) -> Bounds {
 }
 
 /// The link of a pair that holds in both: one that both have, or that one has and the other's single values meet.
-fn join_link(pair: WordPair, a: KnownRelations<'_>, b: KnownRelations<'_>) -> Option<Link> {
+fn join_link(
+    edition: Edition,
+    pair: WordPair,
+    a: KnownRelations<'_>,
+    b: KnownRelations<'_>,
+) -> Option<Link> {
     match (a.link(pair), b.link(pair)) {
         (Some(x), Some(y)) if are_same_links(&x, &y) => Some(x),
-        (Some(x), _) if holds_link(pair, &x, b) => Some(x),
-        (_, Some(y)) if holds_link(pair, &y, a) => Some(y),
+        (Some(x), _) if holds_link(edition, pair, &x, b) => Some(x),
+        (_, Some(y)) if holds_link(edition, pair, &y, a) => Some(y),
         _ => None,
     }
 }
 
-fn join_facts(pair: WordPair, a: KnownRelations<'_>, b: KnownRelations<'_>) -> PairFacts {
-    PairFacts {
-        bounds: hull(a.bounds(pair), b.bounds(pair)),
-        link: join_link(pair, a, b),
-    }
-}
-
 /// What is known of pairs in both.
-fn join_pairs(a: KnownRelations<'_>, b: KnownRelations<'_>) -> Pairs {
+fn join_pairs(edition: Edition, a: KnownRelations<'_>, b: KnownRelations<'_>) -> Pairs {
     let mut pairs = Pairs::default();
     for pair in WORD_PAIRS {
-        set_facts(pair, join_facts(pair, a, b), &mut pairs);
+        let facts = PairFacts {
+            bounds: hull(a.bounds(pair), b.bounds(pair)),
+            link: join_link(edition, pair, a, b),
+        };
+        set_facts(pair, facts, &mut pairs);
     }
     pairs
 }
@@ -140,11 +143,11 @@ pub fn without_boxes(registers: &Registers<Val>, relations: &Relations) -> Relat
     }
 }
 
-/// What is known of several parts together in both, by the rules of version 3.
-pub fn join_relations(a: KnownRelations<'_>, b: KnownRelations<'_>) -> Relations {
+/// What is known of several parts together in both, by the rules of versions 3 and 4.
+pub fn join_relations(edition: Edition, a: KnownRelations<'_>, b: KnownRelations<'_>) -> Relations {
     Relations {
         byte: join_byte(&a.relations.byte, &b.relations.byte),
         zero: join_zero(a.relations.zero, b.relations.zero),
-        pairs: join_pairs(a, b),
+        pairs: join_pairs(edition, a, b),
     }
 }

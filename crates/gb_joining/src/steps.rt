@@ -2,6 +2,7 @@
 
 use crate::basis::Basis;
 use crate::bounds::{WORD_PAIRS, facts_of, set_facts};
+use crate::configuration::Edition;
 use crate::covering::{are_cells_known, are_items_known};
 use crate::joining::{
     join, join_all_relations, join_cells, join_core, join_items, known_of, val_of,
@@ -299,12 +300,12 @@ fn without_pairs(mut state: Abs) -> Abs {
 }
 
 /// What is known of several parts together in both states, with links that hold in both.
-fn linked_relations(rules: Rules, old: &Abs, added: &Abs) -> Relations {
-    let joined = join_all_relations(rules, old, added);
-    match rules {
+fn linked_relations(edition: Edition, old: &Abs, added: &Abs) -> Relations {
+    let joined = join_all_relations(edition, old, added);
+    match edition.rules() {
         Rules::Simple => joined,
         Rules::Extended => Relations {
-            pairs: with_links(&joined.pairs, known_of(old), known_of(added)),
+            pairs: with_links(edition, &joined.pairs, known_of(old), known_of(added)),
             ..joined
         },
     }
@@ -314,7 +315,7 @@ fn linked_relations(rules: Rules, old: &Abs, added: &Abs) -> Relations {
 pub fn link_in(basis: &Basis<'_>, state: &mut Abs, added: &Abs) {
     let edition = basis.edition;
     let core = join_core(basis, state.core(), added.core());
-    let relations = linked_relations(basis.rules(), state, added);
+    let relations = linked_relations(edition, state, added);
     if edition.is_fourth() {
         let summary = join_summaries(basis, state, added);
         state.set_summary(summary);
