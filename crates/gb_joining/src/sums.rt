@@ -1,0 +1,61 @@
+//! Sums of a pair and what its link reads, times the factor: words that stand one after another, modulo 65,536.
+
+use crate::relating::KnownRelations;
+use gb_verify::{Bounds, Other};
+
+/// The first word, and how many stand after it.
+#[derive(Clone, Copy, PartialEq, Eq)]
+pub struct Sums {
+    pub first: u16,
+    pub width: u16,
+}
+
+/// Sums where the pair and what is read lie in bounds.
+pub fn sums_in(pair: Bounds, factor: u16, other: Bounds) -> Option<Sums> {
+    let is_rising = factor < 0x8000;
+    let (size, end) = if is_rising {
+        (factor, other.first)
+    } else {
+        (factor.wrapping_neg(), other.last)
+    };
+    let length = pair.last.checked_sub(pair.first)?;
+    let spread = size.checked_mul(other.last.checked_sub(other.first)?)?;
+    Some(Sums {
+        first: pair.first.wrapping_add(factor.wrapping_mul(end)),
+        width: length.checked_add(spread)?,
+    })
+}
+
+/// From the first sums on, as far as it takes to hold the others too.
+fn from_first(a: Sums, b: Sums) -> Option<Sums> {
+    let width = b.first.wrapping_sub(a.first).checked_add(b.width)?;
+    Some(Sums {
+        first: a.first,
+        width: width.max(a.width),
+    })
+}
+
+/// The least sums that hold both.
+pub fn hull_of(a: Sums, b: Sums) -> Option<Sums> {
+    match (from_first(a, b), from_first(b, a)) {
+        (Some(x), Some(y)) if y.width < x.width => Some(y),
+        (Some(x), _) => Some(x),
+        (None, y) => y,
+    }
+}
+
+impl KnownRelations<'_> {
+    /// The bounds of what a link reads.
+    pub fn other_bounds(&self, other: Other) -> Bounds {
+        match other {
+            Other::Pair(pair) => self.bounds(pair),
+            Other::Register(register) => {
+                let val = self.registers.get(register);
+                Bounds {
+                    first: u16::from(val.lo),
+                    last: u16::from(val.hi),
+                }
+            }
+        }
+    }
+}
