@@ -94,7 +94,7 @@ abbrev no_parts : OneByte × (Option WordPair × Pairs)
 no_parts = (no_byte, (None, no_pairs))
 
 abbrev parts_behind : ℕ → StackBytes → Present × Declared → Read ((OneByte × (Option WordPair × Pairs)) × SummaryParts)
-parts_behind facts k d = both (parts_at k None (place_of d) d.0) (summary_at facts k.region d.1)
+parts_behind facts k d = both (parts_at true k None (place_of d) d.0) (summary_at facts k.region d.1)
 
 told_is :
     (facts low high : ℕ) (k : StackBytes) (may : Bool) (rest : List ℕ) → 0 < word_of (low, high) → word_of (low, high) ≤ facts
@@ -104,7 +104,7 @@ told_is facts low high k may rest some few =
     mapped_is to_told (followed (present_declared_at k may None) (parts_behind facts k)) (0 ∷ 2 ∷ low ∷ high ∷ 0 ∷ rest) rest ((to_present 0, to_declared 2), (no_parts, level_alone (word_of (low, high))))
     (followed_is (present_declared_at k may None) (parts_behind facts k) (0 ∷ 2 ∷ low ∷ high ∷ 0 ∷ rest) (low ∷ high ∷ 0 ∷ rest) rest (to_present 0, to_declared 2) (no_parts, level_alone (word_of (low, high)))
     (followed_is (present_at None) (λ p. declared_at may (may_be_item k p)) (0 ∷ 2 ∷ low ∷ high ∷ 0 ∷ rest) (2 ∷ low ∷ high ∷ 0 ∷ rest) (low ∷ high ∷ 0 ∷ rest) (to_present 0) (to_declared 2) (present_is (2 ∷ low ∷ high ∷ 0 ∷ rest)) (declared_is may (low ∷ high ∷ 0 ∷ rest)))
-    (followed_is (parts_at k None Nowhere (to_present 0)) (λ x. summary_at facts k.region (to_declared 2)) (low ∷ high ∷ 0 ∷ rest) (low ∷ high ∷ 0 ∷ rest) rest no_parts (level_alone (word_of (low, high))) refl (summary_is facts low high k.region rest some few)))
+    (followed_is (parts_at true k None Nowhere (to_present 0)) (λ x. summary_at facts k.region (to_declared 2)) (low ∷ high ∷ 0 ∷ rest) (low ∷ high ∷ 0 ∷ rest) rest no_parts (level_alone (word_of (low, high))) refl (summary_is facts low high k.region rest some few)))
 
 pub level_told :
     (facts : ℕ) (test : Option ℕ) (bytes : List ℕ) (level : ℕ) → 5 ≤ length bytes
