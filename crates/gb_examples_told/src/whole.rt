@@ -491,6 +491,44 @@ const BANKS: &[WholeExample] = &[
     },
 ];
 
+/// HL + B is from C050 to C120, and both may be any.
+const LINKED: WholeState = WholeState {
+    changes: &[
+        (22, 0),
+        (23, 0xFF),
+        (24, 0),
+        (34, 0),
+        (35, 0xFF),
+        (36, 0),
+        (37, 0),
+        (38, 0xFF),
+        (39, 0),
+    ],
+    held: &[
+        0x40, 0, 0x00, 0x00, 0xFF, 0xFF, 0x82, 0x01, 0x50, 0xC0, 0xD0, 0x00, 0,
+    ],
+    ..EMPTY
+};
+
+/// What is known together.
+const RELATED: &[WholeExample] = &[
+    // HL is C04D, and B is 00.
+    WholeExample {
+        nodes: &[
+            AT_0100,
+            AT_0101,
+            AT_0150,
+            WholeNode {
+                state: LINKED,
+                ..AT_0152
+            },
+        ],
+        text: "  The program goes on at $0152. Node 3 is nearest, but differs:\n    known together: HL $C04D; node 3 has HL + $0001 * B = $C050 to $C120",
+        fix: WIDEN_IT,
+        ..OF_MAIN
+    },
+];
+
 /// Whether a certificate is refused so, and this is printed of what it lacks, with this fix.
 fn agrees(alloc: Global, example: &WholeExample) -> Result<bool, Fail> {
     let cert = whole_certificate(example.facts, example.procedures, example.nodes);
@@ -505,7 +543,7 @@ fn agrees(alloc: Global, example: &WholeExample) -> Result<bool, Fail> {
 
 #[test]
 fn what_a_certificate_of_version_4_lacks(rt: HostRuntime) -> Result<(), Fail> {
-    for examples in [BYTES, BANKS] {
+    for examples in [BYTES, BANKS, RELATED] {
         for (i, example) in examples.iter().enumerate() {
             assert!(rt; agrees(rt.alloc(), example)?, "example {i}");
         }
