@@ -245,6 +245,24 @@ fn widened(
     })
 }
 
+/// What is known of pairs in both states, with links of the first one whose sums hold those of both, where none is known.
+pub fn with_wider_links(
+    edition: Edition,
+    pairs: &Pairs,
+    before: KnownRelations<'_>,
+    behind: KnownRelations<'_>,
+) -> Pairs {
+    let mut linked = *pairs;
+    for pair in WORD_PAIRS {
+        let facts = facts_of(pair, pairs);
+        if facts.link.is_none() {
+            let link = widened(edition, pair, before, behind);
+            set_facts(pair, PairFacts { link, ..facts }, &mut linked);
+        }
+    }
+    linked
+}
+
 /// What is known of pairs in both states, with links that hold in both where none is known yet.
 pub fn with_links(
     edition: Edition,
@@ -262,5 +280,5 @@ pub fn with_links(
             set_facts(pair, PairFacts { link, ..facts }, &mut linked);
         }
     }
-    linked
+    with_wider_links(edition, &linked, before, behind)
 }

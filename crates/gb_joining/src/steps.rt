@@ -7,7 +7,7 @@ use crate::covering::{are_cells_known, are_items_known};
 use crate::joining::{
     join, join_all_relations, join_cells, join_core, join_items, known_of, val_of,
 };
-use crate::linking::with_links;
+use crate::linking::{with_links, with_wider_links};
 use crate::relating::without_boxes;
 use crate::shadowing::join_summaries;
 use arrayvec::ArrayVec;
@@ -218,9 +218,9 @@ impl Steps {
     }
 
     /// Bounds of pairs that grew go on to the next page that is a step.
-    fn widen_pairs(&self, old: &Abs, new: &Abs) -> Pairs {
+    fn widen_pairs(&self, edition: Edition, old: &Abs, added: &Abs, new: &Abs) -> Pairs {
         let before = known_of(old);
-        let mut pairs = new.relations().pairs;
+        let mut pairs = with_wider_links(edition, &new.relations().pairs, before, known_of(added));
         for pair in WORD_PAIRS {
             let facts = facts_of(pair, &pairs);
             let bounds = self.widen_bounds(before.bounds(pair), facts.bounds);
@@ -236,7 +236,7 @@ impl Steps {
         let relations = match rules {
             Rules::Simple => *new.relations(),
             Rules::Extended => Relations {
-                pairs: self.widen_pairs(old, &new),
+                pairs: self.widen_pairs(basis.edition, old, added, &new),
                 ..*new.relations()
             },
         };
