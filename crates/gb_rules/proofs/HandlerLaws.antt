@@ -1,5 +1,5 @@
 -- An interrupt's dispatch by the rules of version 3: its handler takes over, or without one the procedure goes on at the vector.
-use Rattle.std.proofs.Common.{◌≡◌, ℕ, ◌+◌, ◌≤◌, Bool, true, false, cond, ◌&&◌, nat_lt, ◌∷◌, [], List, length, Option, Some, None, refl, sym, ◌∙◌, ap, subst, arith, length-append, ◌||◌, nat_le, not}
+use Rattle.std.proofs.Common.{◌≡◌, ℕ, ◌+◌, ◌≤◌, Bool, true, false, cond, ◌&&◌, nat_lt, ◌∷◌, [], List, length, Option, Some, None, refl, sym, ◌∙◌, ap, subst, arith, length-append}
 use Rattle.std.proofs.lemmas.Bool.{not-false, or_parts}
 use Rattle.std.proofs.lemmas.Bool.Decides.{nat_tests}
 use Rattle.std.specs.List.{Contains}

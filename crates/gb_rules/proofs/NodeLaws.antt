@@ -23,7 +23,7 @@ use Rattle.gb_successors.specs.Below.gb_domain.Summaries.{Program, no_summary, S
 use Rattle.gb_successors.specs.Below.gb_product.Below.gb_summaries.Elsewhere.{IsFree}
 use Rattle.gb_successors.proofs.Below.gb_abs_laws.LocationLaws.{is_located-of}
 use Rattle.gb_rules.proofs.CertificateLaws.{HasStateParts, node_parts}
-use Rattle.gb_successors.specs.Below.gb_domain.Types.{ProcedureParts, AbsState, Node}
+use Rattle.gb_successors.specs.Below.gb_domain.Types.{AbsState, Node}
 use Rattle.gb_successors.specs.Below.gb_domain.Certificate.{Certificate}
 use Rattle.gb_successors.specs.Below.gb_domain.Areas.{IsRegion}
 use Rattle.gb_successors.specs.Below.gb_domain.Pairs.{ArePairs}
