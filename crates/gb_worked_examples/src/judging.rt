@@ -1,5 +1,6 @@
 //! The checker's verdicts.
 
+use gb_refine::Edition;
 use gb_console::{UpgradeTo, Upgraded, upgrade_bytes, verify_bytes};
 use gb_text::kept_bytes::KeptBytes;
 use gb_text::line::Line;
@@ -82,12 +83,14 @@ pub fn tell_upgrades<W: Write>(out: &mut W, upgrades: &Upgrades) -> io::Result<(
     )
 }
 
-/// The most nodes and procedures that a certificate may have which is made, and the most rounds that its maker may take.
+/// The most nodes and procedures that a certificate may have which is made, and the most rounds that its maker may take; and the
+/// rules by which alone it is made, where they are named.
 #[derive(Clone, Copy)]
 pub struct Ceiling {
     pub nodes: usize,
     pub procedures: usize,
     pub rounds: usize,
+    pub edition: Option<Edition>,
 }
 
 /// The number that follows a word of a line.

@@ -10,7 +10,8 @@
 //! that lie there, beside the start at 0100 and the header; `fill` with the byte that the whole file has, or `length` with the
 //! file's own; `cert` with bytes that follow one another, as often as it takes; `symbol` with a line of its file of symbols,
 //! `line` with one of its file of the sources' lines;
-//! `keys` with the bytes of a script; `most` with the nodes and the procedures that a certificate which is made may have, and the rounds that may be taken;
+//! `keys` with the bytes of a script; `most` with the nodes and the procedures that a certificate which is made may have, the rounds that may be taken, and the
+//! version by whose rules alone it is made, if one is named;
 //! and what is to be done: `verdict`, `certify`, `report`, which tells facts or the way to the first finding
 //! as well, `json`, and `frames` with a number. `upgrades` tells how many certificates so
 //! far were accepted in version 1 or 2, and how many of them in version 3 too.
@@ -94,14 +95,20 @@ fn resized(alloc: Global, bytes: &[u8], length: usize) -> io::Result<Vec<u8>> {
     Ok(resized)
 }
 
-/// The ceiling of three numbers.
+/// The ceiling of three numbers, and of a version behind them.
 fn ceiling_of(rest: &str) -> Ceiling {
     let (nodes, rest) = word_of(rest);
-    let (procedures, rounds) = word_of(rest);
+    let (procedures, rest) = word_of(rest);
+    let (rounds, version) = word_of(rest);
     Ceiling {
         nodes: number_of(nodes),
         procedures: number_of(procedures),
         rounds: number_of(rounds),
+        edition: match version {
+            "3" => Some(Edition::Third),
+            "4" => Some(Edition::Fourth),
+            _ => None,
+        },
     }
 }
 

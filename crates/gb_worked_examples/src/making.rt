@@ -128,7 +128,11 @@ pub fn certify<W: Write>(
         return writeln!(out, "no lines");
     }
     let mut rounds = Rounds { begun: 0 };
-    match (make(alloc, &rom, LIMITS, &mut rounds)?, telling) {
+    let limits = SearchLimits {
+        edition: ceiling.and_then(|ceiling| ceiling.edition),
+        ..LIMITS
+    };
+    match (make(alloc, &rom, limits, &mut rounds)?, telling) {
         (Made::Certificate(cert), telling) => {
             let cert = cert.as_slice();
             let begun = rounds.begun;
