@@ -1,7 +1,7 @@
 //! The checker's verdicts.
 
-use gb_refine::Edition;
 use gb_console::{UpgradeTo, Upgraded, upgrade_bytes, verify_bytes};
+use gb_refine::Edition;
 use gb_text::kept_bytes::KeptBytes;
 use gb_text::line::Line;
 use gb_text::sink::Plain;
