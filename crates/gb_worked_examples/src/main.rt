@@ -23,6 +23,7 @@ mod making;
 mod reporting;
 mod running;
 
+use gb_refine::Edition;
 use gb_samples::cartridges::put;
 use gb_samples::spelled::{Example, bytes_of, number_of, word_of};
 use judging::{Ceiling, Upgrades, judge, tell_upgrades};
