@@ -222,7 +222,7 @@ pub const LOADED_POINTER: Advice = Advice {
 /// An access to cartridge RAM by a pointer that comes from RAM.
 pub const KEPT_TO_CARTRIDGE_RAM: Advice = Advice {
     problem: "A pointer that comes from RAM can hold any address, and while cartridge RAM is disabled, $A000-$BFFF returns garbage.",
-    remedy: "Mask the high byte after it is loaded: `and $7F` for ROM, `and $0F` / `add $C0` for $C000-$CFFF. Or keep an index in RAM.",
+    remedy: "Mask the high byte after it is loaded: `and $7F` if it only points to ROM, `and $0F` / `add $C0` if only to $C000-$CFFF. If to both, keep an index in RAM.",
     remedy_in_c: Some(
         "Keep a `uint8_t` index in RAM, not the pointer, and bound it: `if (i < 32) x = table[i];`.",
     ),
@@ -246,8 +246,10 @@ pub const POINTER_IN_LOOP: Advice = Advice {
 
 /// An unbounded pointer that the instruction itself moves, as a loop does.
 pub const POINTER_OF_LOOP: Advice = Advice {
-    remedy: "End the loop by a counter in b or c, or by its page: `ld a, h` / `cp HIGH(buffer_end)` / `jr nz, .loop`.",
-    remedy_in_c: Some("Count the loop down to 0: `for (n = 32; n != 0; n--) *p++ = 0;`."),
+    remedy: "Start the pointer at a known address, and end the loop by a counter with a known start, or by its page: `ld a, h` / `cp HIGH(buffer_end)` / `jr nz, .loop`.",
+    remedy_in_c: Some(
+        "Count the loop down to 0 from a number that is known: `for (n = 32; n != 0; n--) *p++ = 0;`.",
+    ),
     ..POINTER
 };
 
