@@ -1,5 +1,5 @@
 -- What a caller goes on with holds of the machine, whatever its callee did.
-use Rattle.std.proofs.Common.{◌≡◌, ℕ, ◌+◌, ◌-◌, ◌*◌, ◌/◌, ◌%◌, ◌≤◌, ◌<◌, Bool, true, false, nat_le, ◌&&◌, ◌||◌, not, cond, List, [], ◌∷◌, length, map, Option, Some, None, inl, inr, refl, sym, ◌∙◌, ap, subst, arith}
+use Rattle.std.proofs.Common.{◌≡◌, ℕ, ◌+◌, ◌-◌, ◌/◌, ◌%◌, ◌≤◌, ◌<◌, Bool, true, false, nat_le, ◌&&◌, ◌||◌, not, cond, List, [], ◌∷◌, length, map, Option, Some, None, inl, inr, refl, sym, ◌∙◌, ap, subst, arith}
 use Rattle.std.proofs.lemmas.Bool.{and_parts, or_cases, or_from}
 use Rattle.std.proofs.lemmas.List.{length-map}
 use Rattle.std.proofs.lemmas.Option.{same_Some}
@@ -15,7 +15,6 @@ use Rattle.gb_ops.specs.declared.registers.Flags.{Flags}
 use Rattle.gb_ops.specs.Registers.{get}
 use Rattle.gb_ops.specs.Memory.{Storage}
 use Rattle.gb_ops.specs.Play.{MState}
-use Rattle.gb_domain.specs.declared.types.Origin.{Origin}
 use Rattle.gb_domain.specs.declared.types.Origin.TheVariants as origin
 use Rattle.gb_domain.specs.declared.types.Val.{Val}
 use Rattle.gb_domain.specs.declared.types.Flg.{Flg}
@@ -93,7 +92,7 @@ use Rattle.gb_calls.specs.Sound.{ComesBack, HandsBack, ComesBackBy, MeansIf, Mea
 use Rattle.gb_calls.specs.TakenOver.{base_below, given_back_items}
 use Rattle.gb_calls.proofs.EnteringLaws.{MeansCore-with_word}
 use Rattle.gb_calls.proofs.TakenOverLaws.{given_back-items, given_back-pointer, given_back-count}
-use Rattle.gb_calls.proofs.ToldLaws.{IsCaller, IsTold, IsTold-exit, Tells, own-value, Holds-place_back, AreItems-back, AreCells-back, IsGiven-back}
+use Rattle.gb_calls.proofs.ToldLaws.{IsCaller, IsTold-exit, Tells, own-value, Holds-place_back, AreItems-back, AreCells-back, IsGiven-back}
 use Rattle.gb_calls.proofs.CellLaws.{AllByRecursion-merged, AllByRecursion-take}
 use Rattle.gb_product.specs.Covering.{values_in}
 use Rattle.gb_product.specs.Reduced.{reduced_controller}

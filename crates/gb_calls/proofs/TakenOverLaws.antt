@@ -8,7 +8,6 @@ use Rattle.gb_domain.specs.Types.{AbsState}
 use Rattle.gb_product.specs.Below.gb_abs.Meaning.{Activation, AreItems, MeansParts, is_located}
 use Rattle.gb_product.specs.Below.gb_abs.Storage.{peek}
 use Rattle.gb_product.proofs.Below.gb_abs_laws.StorageLaws.{AreItems-same}
-use Rattle.gb_product.specs.Below.gb_abs.Origins.{without_origin}
 use Rattle.gb_product.proofs.Below.gb_abs_laws.OriginLaws.{Holds-own, Holds-without_origin}
 use Rattle.gb_calls.specs.TakenOver.{newest, waiting, returning, taken_over, base_below, given_back_items}
 

@@ -1,13 +1,9 @@
 -- What the caller's state says of what an exit's copies are copies of holds of the machine.
-use Rattle.std.proofs.Common.{◌≡◌, ℕ, zero, suc, ◌+◌, ◌-◌, ◌≤◌, ◌<◌, Bool, true, false, ◌==◌, nat_lt, cond, List, [], ◌∷◌, length, map, slice_get, slice_index, slice_index_or, Option, Some, None, is_some, inl, inr, refl, sym, ◌∙◌, ap, subst, arith}
+use Rattle.std.proofs.Common.{◌≡◌, ℕ, suc, ◌+◌, ◌-◌, ◌≤◌, Bool, true, false, ◌==◌, cond, List, [], ◌∷◌, map, slice_get, slice_index, Option, Some, None, is_some, inl, inr, refl, sym, ◌∙◌, ap, subst, arith}
 use Rattle.std.proofs.lemmas.Bool.{eqb-true, or_cases}
-use Rattle.std.proofs.lemmas.Bool.Decides.{nat_tests}
 use Rattle.std.proofs.lemmas.Option.{get_or_from_slice_get}
-use Rattle.std.specs.List.{AllByRecursion, list_all, list_any}
-use Rattle.gb_ops.specs.declared.op.Register.{Register}
 use Rattle.gb_ops.specs.declared.op.Register.TheVariants as register
 use Rattle.gb_ops.specs.Memory.{Storage}
-use Rattle.gb_ops.specs.Registers.{get}
 use Rattle.gb_domain.specs.declared.types.Origin.{Origin}
 use Rattle.gb_domain.specs.declared.types.Origin.TheVariants as origin
 use Rattle.gb_domain.specs.declared.types.Cell.{Cell}
@@ -15,26 +11,25 @@ use Rattle.gb_domain.specs.declared.types.Halves.{Halves}
 use Rattle.gb_domain.specs.declared.types.Val.{Val}
 use Rattle.gb_domain.specs.declared.interval.StridedInterval.{StridedInterval}
 use Rattle.gb_domain.specs.Interval.{cut}
-use Rattle.gb_domain.specs.Meaning.{In, AreIn, InSome}
+use Rattle.gb_domain.specs.Meaning.{In, InSome}
 use Rattle.gb_domain.specs.Summaries.{Program}
-use Rattle.gb_domain.specs.Types.{AbsState, origin_of_register}
+use Rattle.gb_domain.specs.Types.{AbsState}
 use Rattle.gb_domain.specs.Values.{interval_of}
 use Rattle.gb_domain.proofs.IntervalLaws.{cut_leaves}
 use Rattle.gb_domain.proofs.ValueLaws.{Has-same, same-Has}
 use Rattle.gb_product.specs.Below.gb_vals.Flags.{flags_val}
 use Rattle.gb_product.specs.Below.gb_vals.Strided.{left_of}
-use Rattle.gb_product.specs.Below.gb_vals.Vals.{any_val}
 use Rattle.gb_product.specs.Below.gb_abs.Covering.{covers_origin, cell_at}
 use Rattle.gb_product.specs.Below.gb_abs.Meaning.{Activation, origin_value, Holds, AreItems, IsMemory, is_located}
 use Rattle.gb_product.specs.Below.gb_abs.Origins.{without_origin, is_own}
-use Rattle.gb_product.specs.Below.gb_abs.Stack.{youngest, last_word}
+use Rattle.gb_product.specs.Below.gb_abs.Stack.{youngest}
 use Rattle.gb_product.specs.Below.gb_abs.Storage.{peek}
 use Rattle.gb_product.specs.Below.gb_summaries.Returning.{is_given}
 use Rattle.gb_product.specs.Meaning.{Means}
 use Rattle.gb_product.proofs.CoveringLaws.{Holds-byte}
 use Rattle.gb_product.proofs.Below.gb_abs_laws.CoveringLaws.{AreCells, Holds-any, Holds-cell, same_origin}
 use Rattle.gb_product.proofs.Below.gb_abs_laws.OriginLaws.{Holds-without_origin}
-use Rattle.gb_product.proofs.Below.gb_abs_laws.StackLaws.{AreTop, AreTop-youngest, youngest_is}
+use Rattle.gb_product.proofs.Below.gb_abs_laws.StackLaws.{AreTop-youngest}
 use Rattle.gb_product.specs.Below.gb_abs_effects.Pairs.{word_or_any}
 use Rattle.gb_product.proofs.Below.gb_abs_effects_laws.PairLaws.{Holds-pushed}
 use Rattle.gb_calls.specs.Parts.{byte_there}
