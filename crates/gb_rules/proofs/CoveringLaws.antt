@@ -70,9 +70,9 @@ address_among s None h = tt
 address_among None (Some a) h = cc
 address_among (Some b) (Some a) h = ap Some (eqb-true b a h)
 
-covered_byte : (registers : Registers Val) (s t : Relations) → covers_relations registers s t ≡ true → covers_byte s.byte t.byte ≡ true
+covered_byte : (whole : Bool) (registers : Registers Val) (s t : Relations) → covers_relations whole registers s t ≡ true → covers_byte s.byte t.byte ≡ true
 unfolding covers_relations
-covered_byte registers s t h = first _ _ _ h
+covered_byte whole registers s t h = first _ _ _ h
   where
     first : (a b c : Bool) → (a && b && c) ≡ true → a ≡ true
     first true b c h = refl
@@ -87,7 +87,7 @@ covered_address s t h = second _ _ _ h
     second true false c h = cc
     second false false c h = cc
 
-covered_relations : (program : Program) (s t : AbsState) → covers program s t ≡ true → covers_relations s.core.registers s.relations t.relations ≡ true
+covered_relations : (program : Program) (s t : AbsState) → covers program s t ≡ true → covers_relations program.is_whole s.core.registers s.relations t.relations ≡ true
 unfolding covers
 covered_relations program s t h =
     let p = and_parts _ _ h in
@@ -97,7 +97,7 @@ covered_relations program s t h =
 -- the place of what covers is among those that are covered
 pub covered_place : (program : Program) (s t : AbsState) → covers program s t ≡ true → IsAmong s.relations.byte.address t.relations.byte.address
 covered_place program s t h =
-    address_among s.relations.byte.address t.relations.byte.address (covered_address s.relations.byte t.relations.byte (covered_byte s.core.registers s.relations t.relations (covered_relations program s t h)))
+    address_among s.relations.byte.address t.relations.byte.address (covered_address s.relations.byte t.relations.byte (covered_byte program.is_whole s.core.registers s.relations t.relations (covered_relations program s t h)))
 
 -- where one may lie the other does
 pub IsBytePlaced-among : (k : StackBytes) (s t : Option ℕ) → IsAmong s t → IsBytePlaced k s → IsBytePlaced k t

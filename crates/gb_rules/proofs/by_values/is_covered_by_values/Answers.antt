@@ -1,4 +1,4 @@
-use Rattle.std.proofs.Common.{◌≡◌, ℕ, Bool, true, false, sym, ap, arith, ◌∙◌}
+use Rattle.std.proofs.Common.{◌≡◌, ℕ, Bool, sym, ap, arith}
 use Rattle.gb_successors.specs.Below.gb_domain.declared.types.Val.{Val}
 use Rattle.gb_rules.specs.Covered.{with_parts, is_value_covered, is_covered_by_values, count_of, known_of}
 use Rattle.gb_rules.proofs.CoveredLaws.{all_from-more, all_from-stopped}
