@@ -280,5 +280,5 @@ pub fn with_links(
             set_facts(pair, PairFacts { link, ..facts }, &mut linked);
         }
     }
-    with_wider_links(edition, &linked, before, behind)
+    linked
 }

@@ -15,7 +15,6 @@ use Rattle.gb_successors.specs.Below.gb_domain.declared.types.Val.{Val}
 use Rattle.gb_successors.specs.Below.gb_domain.Areas.{are_in_ram, is_area, is_free_byte, is_item, is_place_at, meets}
 use Rattle.gb_successors.specs.Below.gb_domain.Certificate.{Certificate}
 use Rattle.gb_successors.specs.Below.gb_domain.Limits.{rules_of}
-use Rattle.gb_successors.specs.Below.gb_domain.RelationRules.{IsRelations}
 use Rattle.gb_successors.specs.Below.gb_domain.Rules.{IsVal, IsCell, IsChain, IsCore, after_cell}
 use Rattle.gb_successors.specs.Below.gb_domain.declared.pairs.Bounds.{Bounds}
 use Rattle.gb_successors.specs.Below.gb_domain.Summaries.{SummaryParts, no_summary}

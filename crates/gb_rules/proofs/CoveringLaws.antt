@@ -12,7 +12,6 @@ use Rattle.gb_successors.specs.Below.gb_domain.declared.places.StackBytes.{Stack
 use Rattle.gb_successors.specs.Below.gb_domain.declared.relations.Relations.{Relations}
 use Rattle.gb_successors.specs.Below.gb_domain.declared.rules.Rules.TheVariants.{Simple, Extended}
 use Rattle.gb_successors.specs.Below.gb_domain.declared.types.Cell.{Cell}
-use Rattle.gb_successors.specs.Below.gb_domain.declared.types.Core.{Core}
 use Rattle.gb_successors.specs.Below.gb_domain.Limits.{cell_room}
 use Rattle.gb_successors.specs.Below.gb_domain.Values.{has_low_bits}
 use Rattle.gb_successors.specs.Below.gb_domain.declared.types.Val.{Val}
@@ -36,7 +35,7 @@ use Rattle.gb_successors.specs.Below.gb_product.Held.{stack_held}
 use Rattle.gb_rules.specs.Procedures.{setting_of}
 use Rattle.gb_successors.specs.Below.gb_product.Meaning.{AreRelated, IsSummarized, Means}
 use Rattle.gb_successors.specs.Below.gb_product.Reduced.{reduced, reduced_wholly}
-use Rattle.gb_successors.specs.Below.gb_abs.Meaning.{Activation, Holds, MeansCore, MeansParts}
+use Rattle.gb_successors.specs.Below.gb_abs.Meaning.{Activation, Holds, MeansParts}
 use Rattle.gb_successors.proofs.Below.gb_product_laws.CoveringLaws.{Holds-byte, HoldsKnown-means, Means-covered}
 use Rattle.gb_successors.proofs.Below.gb_product_laws.SummaryLaws.{has_cells_with_cell, HoldSummary-with_cells}
 use Rattle.gb_successors.proofs.ToldLaws.{AllByRecursion-with_cell}

@@ -29,7 +29,7 @@ use Rattle.gb_successors.specs.Below.gb_domain.declared.types.Core.{Core}
 use Rattle.gb_successors.specs.Below.gb_domain.Areas.{meets, is_place_at}
 use Rattle.gb_successors.specs.Below.gb_domain.Limits.{rules_of}
 use Rattle.gb_successors.specs.Below.gb_relations.Meaning.{HoldRelations}
-use Rattle.gb_successors.specs.Below.gb_relations.Places.{is_ram, is_free}
+use Rattle.gb_successors.specs.Below.gb_relations.Places.{is_ram}
 use Rattle.gb_successors.specs.Below.gb_relations.Sound.{IsBytePlaced}
 use Rattle.gb_successors.specs.Below.gb_product.Below.gb_summaries.Elsewhere.{AreFreeFacts, IsFree, IsLeft}
 use Rattle.gb_successors.specs.Below.gb_product.Below.gb_summaries.Meaning.{IsAside, HoldSummary}

@@ -19,7 +19,7 @@ use Rattle.gb_successors.proofs.Below.gb_product_laws.CoveringLaws.{Means-covere
 use Rattle.gb_successors.proofs.Below.gb_abs_laws.StorageLaws.{region_in_ram}
 use Rattle.gb_successors.specs.Below.gb_abs_memory.Kept.{keeps, keeps_by, IsKept}
 use Rattle.gb_calls.specs.Calls.{entered_by, are_ranges_inside}
-use Rattle.gb_calls.specs.Resuming.{resumed_alone, resumed_by, resumed}
+use Rattle.gb_calls.specs.Resuming.{resumed_alone, resumed_by}
 use Rattle.std.specs.Prelude.{◌==◌}
 use Rattle.gb_calls.specs.Sound.{without_word, ComesBack}
 use Rattle.gb_calls.proofs.EnteringLaws.{Means-entered}

@@ -1,7 +1,7 @@
 -- Where the successors of an instruction go on: by the rules of versions 1 and 2 where its row says.
 use Rattle.std.proofs.Common.{◌≡◌, ℕ, ◌+◌, ◌%◌, Bool, true, false, cond, List, Option, Some, None, inl, inr, refl, sym, ◌∙◌, ap, subst}
 use Rattle.std.proofs.lemmas.Option.{same_Some}
-use Rattle.std.specs.Prelude.{option_map, option_and_then}
+use Rattle.std.specs.Prelude.{option_and_then}
 use Rattle.gb_ops.specs.declared.op.Pair.TheVariants as pair
 use Rattle.gb_ops.specs.declared.op.Op.{Op}
 use Rattle.gb_ops.specs.declared.op.Op.TheVariants as op
@@ -17,7 +17,7 @@ use Rattle.gb_successors.specs.Below.gb_domain.declared.types.Halves.{Halves}
 use Rattle.gb_successors.specs.Below.gb_domain.Types.{AbsState}
 use Rattle.gb_successors.specs.Below.gb_product.declared.parts.Branch.{Branch}
 use Rattle.gb_successors.specs.Below.gb_product.declared.parts.Product.{Product}
-use Rattle.gb_successors.specs.Below.gb_product.Reduced.{product_of, reduced}
+use Rattle.gb_successors.specs.Below.gb_product.Reduced.{product_of}
 use Rattle.gb_successors.specs.Below.gb_product.Sides.{taken_side, not_taken_side}
 use Rattle.gb_successors.specs.Below.gb_abs_effects.declared.writes.AbsWrite.{AbsWrite}
 use Rattle.gb_successors.specs.Below.gb_abs_effects.declared.targets.Target.{Target}
