@@ -159,17 +159,35 @@ fn link_to_pair(
     None
 }
 
+/// Whether a register is a byte of a pair that is linked with this one.
+fn is_read_back(register: Register, pair: WordPair, linked: &Pairs) -> bool {
+    WORD_PAIRS.iter().any(|other| is_half(register, *other) && reads(*other, pair, linked))
+}
+
+/// Whether a link of a pair with a register is looked for. Where the pair isn't known, no byte of one that is known by it says more.
+fn may_read(
+    register: Register,
+    pair: WordPair,
+    linked: &Pairs,
+    before: KnownRelations<'_>,
+) -> bool {
+    let bounds = before.bounds(pair);
+    let is_known = bounds.first == bounds.last;
+    !is_half(register, pair) && (is_known || !is_read_back(register, pair, linked))
+}
+
 /// A link of a pair with a register that isn't one of its own.
 fn link_to_register(
     edition: Edition,
     pair: WordPair,
+    linked: &Pairs,
     before: KnownRelations<'_>,
     behind: KnownRelations<'_>,
     is_down: bool,
 ) -> Option<Link> {
     for register in REGISTERS {
         let other = Other::Register(register);
-        if !is_half(register, pair)
+        if may_read(register, pair, linked, before)
             && is_counted_down(other, before, behind) == is_down
             && let Some(link) = link_by(edition, pair, other, before, behind)
         {
@@ -202,9 +220,9 @@ fn inferred(
         return None;
     }
     link_to_pair(edition, pair, linked, before, behind, true)
-        .or(link_to_register(edition, pair, before, behind, true))
+        .or(link_to_register(edition, pair, linked, before, behind, true))
         .or(link_to_pair(edition, pair, linked, before, behind, false))
-        .or(link_to_register(edition, pair, before, behind, false))
+        .or(link_to_register(edition, pair, linked, before, behind, false))
 }
 
 /// The link of the first state with the sums of both, by the rules of version 4. Where the second one has it with other sums, the way
