@@ -80,14 +80,37 @@ fn factor_of(pair_step: u16, other_step: u16) -> Option<u16> {
     }
 }
 
-/// How far an interval moved from one state to the next, where it stayed as long; by versions 1 to 3 it is a single value.
-fn moved_by(edition: Edition, before: Bounds, behind: Bounds) -> Option<u16> {
+/// How far an interval moved from one state to the next, where it stayed as long.
+fn moved_by(before: Bounds, behind: Bounds) -> Option<u16> {
     let length = before.last.checked_sub(before.first)?;
-    let is_as_long = behind.last.checked_sub(behind.first) == Some(length);
-    if is_as_long && (length == 0 || edition.is_fourth()) {
+    if behind.last.checked_sub(behind.first) == Some(length) {
         Some(behind.first.wrapping_sub(before.first))
     } else {
         None
+    }
+}
+
+/// How far a single value moved.
+fn stepped_by(before: Bounds, behind: Bounds) -> Option<u16> {
+    if before.first == before.last {
+        moved_by(before, behind)
+    } else {
+        None
+    }
+}
+
+/// How far a pair moved: by the rules of version 4 it may lie anywhere in an interval.
+fn pair_moved_by(
+    edition: Edition,
+    pair: WordPair,
+    before: KnownRelations<'_>,
+    behind: KnownRelations<'_>,
+) -> Option<u16> {
+    let (before, behind) = (before.bounds(pair), behind.bounds(pair));
+    if edition.is_fourth() {
+        moved_by(before, behind)
+    } else {
+        stepped_by(before, behind)
     }
 }
 
@@ -100,12 +123,8 @@ fn link_by(
     behind: KnownRelations<'_>,
 ) -> Option<Link> {
     let factor = factor_of(
-        moved_by(edition, before.bounds(pair), behind.bounds(pair))?,
-        moved_by(
-            edition,
-            before.other_bounds(other),
-            behind.other_bounds(other),
-        )?,
+        pair_moved_by(edition, pair, before, behind)?,
+        stepped_by(before.other_bounds(other), behind.other_bounds(other))?,
     )?;
     let Sums { first, width } = sums_in(before.bounds(pair), factor, before.other_bounds(other))?;
     if width > LINK_WIDTH {
@@ -159,35 +178,17 @@ fn link_to_pair(
     None
 }
 
-/// Whether a register is a byte of a pair that is linked with this one.
-fn is_read_back(register: Register, pair: WordPair, linked: &Pairs) -> bool {
-    WORD_PAIRS.iter().any(|other| is_half(register, *other) && reads(*other, pair, linked))
-}
-
-/// Whether a link of a pair with a register is looked for. Where the pair isn't known, no byte of one that is known by it says more.
-fn may_read(
-    register: Register,
-    pair: WordPair,
-    linked: &Pairs,
-    before: KnownRelations<'_>,
-) -> bool {
-    let bounds = before.bounds(pair);
-    let is_known = bounds.first == bounds.last;
-    !is_half(register, pair) && (is_known || !is_read_back(register, pair, linked))
-}
-
 /// A link of a pair with a register that isn't one of its own.
 fn link_to_register(
     edition: Edition,
     pair: WordPair,
-    linked: &Pairs,
     before: KnownRelations<'_>,
     behind: KnownRelations<'_>,
     is_down: bool,
 ) -> Option<Link> {
     for register in REGISTERS {
         let other = Other::Register(register);
-        if may_read(register, pair, linked, before)
+        if !is_half(register, pair)
             && is_counted_down(other, before, behind) == is_down
             && let Some(link) = link_by(edition, pair, other, before, behind)
         {
@@ -204,7 +205,7 @@ fn has_moved(
     before: KnownRelations<'_>,
     behind: KnownRelations<'_>,
 ) -> bool {
-    moved_by(edition, before.bounds(pair), behind.bounds(pair)).is_some_and(|step| step != 0)
+    pair_moved_by(edition, pair, before, behind).is_some_and(|step| step != 0)
 }
 
 /// A link of a pair that holds in both states: with what is counted down first, and with another pair before its bytes,
@@ -220,9 +221,9 @@ fn inferred(
         return None;
     }
     link_to_pair(edition, pair, linked, before, behind, true)
-        .or(link_to_register(edition, pair, linked, before, behind, true))
+        .or(link_to_register(edition, pair, before, behind, true))
         .or(link_to_pair(edition, pair, linked, before, behind, false))
-        .or(link_to_register(edition, pair, linked, before, behind, false))
+        .or(link_to_register(edition, pair, before, behind, false))
 }
 
 /// The link of the first state with the sums of both, by the rules of version 4. Where the second one has it with other sums, the way

@@ -42,7 +42,7 @@ use Rattle.gb_rules.proofs.Below.gb_product_laws.CoveringLaws.{Means-covered}
 use Rattle.gb_rules.proofs.Below.gb_product_laws.MeaningLaws.{HoldRelations-nothing}
 use Rattle.gb_rules.specs.Below.gb_domain.Limits.{rules_of}
 use Rattle.gb_rules.specs.Below.gb_domain.Settings.{IsBase}
-use Rattle.gb_rules.specs.Procedures.{kept_of, need_of, setting_of, program_of}
+use Rattle.gb_rules.specs.Procedures.{need_of, setting_of, program_of}
 use Rattle.gb_rules.specs.Safety.{Declares, begun, IsMeant}
 use Rattle.gb_rules.proofs.SearchLaws.{Contains-slice_get}
 use Rattle.gb_rules.proofs.CoveringLaws.{covered_items, covered_place, IsBytePlaced-among}
