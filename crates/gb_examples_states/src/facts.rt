@@ -100,15 +100,23 @@ impl KnownFact {
                 facts_of(pair, &mut relations.pairs).bounds = Bounds { first, last };
             }
             StateFact::Link(pair, factor, other, sum) => {
-                self.learn(StateFact::Wide(pair, factor, other, sum, 0));
-            }
-            StateFact::Wide(pair, factor, other, sum, width) => {
-                facts_of(pair, &mut relations.pairs).link = Some(Link {
+                let width = 0;
+                let link = Link {
                     other,
                     factor,
                     sum,
                     width,
-                });
+                };
+                facts_of(pair, &mut relations.pairs).link = Some(link);
+            }
+            StateFact::Wide(pair, factor, other, sum, width) => {
+                let link = Link {
+                    other,
+                    factor,
+                    sum,
+                    width,
+                };
+                facts_of(pair, &mut relations.pairs).link = Some(link);
             }
         }
     }
