@@ -185,7 +185,7 @@ Means-entered program region k kept s entry base begun is f names m lt =
         items = tt;
         cells = AreCells-entered program Simple kept s entry base begun (without_word begun.entered) is names refl m;
       };
-      related = related_outside region s.relations begun.entered m.related;
+      related = related_outside region s.relations entry begun begun.entered m.related;
       summary = nothing_holds begun.program _ begun.entered.processor (peek begun.entered.storage) begun.entered.storage.banks;
     }
 
@@ -211,7 +211,7 @@ Means-taken_over program region k kept s entry base begun is f names h =
         items = taken_over-items k s entry base begun h.few h.located h.caller.parts;
         cells = AreCells-entered program Extended kept s entry base begun begun.entered is names refl h.caller;
       };
-      related = related_outside region s.relations begun.entered h.caller.related;
+      related = related_outside region s.relations entry begun begun.entered h.caller.related;
       summary = subst (λ p. HoldSummary p more s.summary begun.entered.processor (peek begun.entered.storage) begun.entered.storage.banks) (sym e)
           (HoldSummary-with_cells entry.program s.cells more s.summary begun.entered.processor (peek begun.entered.storage) begun.entered.storage.banks
           all h.caller.summary);

@@ -9,5 +9,6 @@ pub mod CellLaws
 pub mod CellsBackLaws
 pub mod SummaryBackLaws
 pub mod ResumingLaws
+pub mod ReturnedLaws
 pub mod TakenOverLaws
 pub mod Below

@@ -31,12 +31,8 @@ use Rattle.gb_product.proofs.Below.gb_relations_laws.AddressLaws.{placed-ram}
 use Rattle.gb_domain.specs.declared.types.Range.{Range}
 use Rattle.gb_domain.specs.declared.rules.Rules.{Rules}
 use Rattle.gb_domain.specs.declared.rules.Rules.TheVariants.{Simple, Extended}
-use Rattle.gb_domain.specs.declared.pairs.WordPair.{WordPair}
-use Rattle.gb_domain.specs.declared.pairs.WordPair.TheVariants as pair
-use Rattle.gb_domain.specs.declared.pairs.Link.{Link}
-use Rattle.gb_domain.specs.declared.pairs.PairFacts.{PairFacts}
 use Rattle.gb_domain.specs.declared.relations.Relations.{Relations}
-use Rattle.gb_domain.specs.Pairs.{facts_of, IsLink, IsPairFacts, ArePairs}
+use Rattle.gb_domain.specs.Pairs.{ArePairs}
 use Rattle.gb_domain.specs.Types.{AbsState, origin_of_register}
 use Rattle.gb_domain.specs.Limits.{cell_room, item_room}
 use Rattle.gb_domain.specs.Places.{no_byte}
@@ -47,7 +43,7 @@ use Rattle.gb_ops.specs.declared.machine.Kind.TheVariants as kind
 use Rattle.gb_product.specs.Below.gb_pairs.declared.values.Values.{Values}
 use Rattle.gb_product.specs.Below.gb_pairs.Meaning.{AreBytes, Holds as HoldsValues}
 use Rattle.gb_product.specs.Below.gb_pairs.Reduced.{reduced}
-use Rattle.gb_product.specs.Below.gb_pairs.Sound.{HoldsIn, IsCut}
+use Rattle.gb_product.specs.Below.gb_pairs.Sound.{AreWithin, HoldsIn, IsCut}
 use Rattle.gb_product.proofs.Below.gb_pairs_laws.CutLaws.{reduced_cuts}
 use Rattle.gb_product.proofs.Below.gb_pairs_laws.ReducedLaws.{reduced_sound}
 use Rattle.gb_product.specs.Below.gb_relations.Places.{is_free}
@@ -72,11 +68,12 @@ use Rattle.gb_product.specs.Below.gb_abs.Cells.{IsPlaced, ArePlaced}
 use Rattle.gb_product.specs.Below.gb_abs.Meaning.{Activation, origin_value, Holds, HoldsFlags, IsBankKept, IsHighBankKept, KeepsBanks, HoldsLowBank, HoldsController, MeansCore, AreItems, IsMemory}
 use Rattle.gb_product.specs.Below.gb_vals.Meaning.{may_be}
 use Rattle.gb_product.proofs.Below.gb_summaries_laws.MeaningLaws.{nothing_holds}
-use Rattle.gb_product.specs.Meaning.{Means}
+use Rattle.gb_domain.specs.declared.pairs.PairBounds.{PairBounds}
+use Rattle.gb_product.specs.Meaning.{entered_with, Means}
 use Rattle.gb_product.specs.Below.gb_abs.Storage.{peek, is_ram}
 use Rattle.gb_product.proofs.Below.gb_abs_laws.CellLaws.{AllByRecursion-where}
 use Rattle.gb_product.proofs.Below.gb_abs_laws.CoveringLaws.{AreCells}
-use Rattle.gb_product.proofs.Below.gb_abs_effects_laws.CoreLaws.{byte-of}
+use Rattle.gb_product.proofs.Below.gb_abs_effects_laws.CoreLaws.{byte-of, In-from}
 use Rattle.gb_product.proofs.Below.gb_abs_laws.StorageLaws.{region_in_ram, placed_in_ram, AreItems-same}
 use Rattle.gb_abs_memory.specs.Access.{is_range}
 use Rattle.gb_abs_memory.specs.Windows.{low_bank_least, low_bank_most}
@@ -90,6 +87,7 @@ use Rattle.gb_calls.specs.Resuming.{kept_back, whole_bank, joined_halves, bank_b
 use Rattle.gb_calls.specs.Told.{named, is_left, place_back, val_back, cell_back}
 use Rattle.gb_calls.specs.Sound.{ComesBack, HandsBack, ComesBackBy, MeansIf, MeansResumed, ReducesSoundly, IsSoundResuming}
 use Rattle.gb_calls.specs.TakenOver.{base_below, given_back_items}
+use Rattle.gb_calls.proofs.ReturnedLaws.{ArePairs-returned}
 use Rattle.gb_calls.proofs.EnteringLaws.{MeansCore-with_word}
 use Rattle.gb_calls.proofs.TakenOverLaws.{given_back-items, given_back-pointer, given_back-count}
 use Rattle.gb_calls.proofs.ToldLaws.{IsCaller, IsTold-exit, Tells, own-value, Holds-place_back, AreItems-back, AreCells-back, IsGiven-back}
@@ -98,7 +96,7 @@ use Rattle.gb_product.specs.Covering.{values_in}
 use Rattle.gb_product.specs.Reduced.{reduced_controller}
 use Rattle.gb_product.specs.Sound.{HoldsControllerIf}
 use Rattle.gb_product.proofs.ControllerLaws.{reduced_controller_sound}
-use Rattle.gb_product.proofs.CoveringLaws.{HoldsKnown-means}
+use Rattle.gb_product.proofs.CoveringLaws.{HoldsKnown-means, AreCopies-core}
 
 -- ---- what is given back
 
@@ -497,14 +495,14 @@ Means-resumed_alone region ranges s exit entry base called x h =
       related = record {
         byte = HoldOneByte-back s exit called x h.caller.related.byte h.exits.parts.core;
         zero = tt;
-        pairs = HoldPairs-nothing x.processor.registers (registers_are_bytes exit.core called x h.exit_core h.exits.parts.core);
+        pairs = HoldPairs-nothing (entered_with entry) x.processor.registers (registers_are_bytes exit.core called x h.exit_core h.exits.parts.core);
       };
       summary = nothing_holds entry.program _ x.processor (peek x.storage) x.storage.banks;
     }
 
 -- ---- by the rules of version 3
 
-HoldsValues-caller : (s : AbsState) (entry : Activation) (base : ℕ) (x : MState) → Means s entry base x → HoldsValues (values_of s.core.registers s.relations.pairs) x.processor.registers
+HoldsValues-caller : (s : AbsState) (entry : Activation) (base : ℕ) (x : MState) → Means s entry base x → HoldsValues (values_of s.core.registers s.relations.pairs) (entered_with entry) x.processor.registers
 HoldsValues-caller s entry base x m =
     record {
       registers = λ r. record { least = (m.parts.core.registers r).least; most = (m.parts.core.registers r).most; low = (m.parts.core.registers r).low };
@@ -566,12 +564,14 @@ Means-rejoined program z k region ranges names s exit entry base called x h =
         cells = AreCells-joined (cell_room Extended) program whole names s h.callee region ranges under exit.cells entry called called.entered.storage x.storage
             tells h.exits.parts.memory h.keeps h.kept h.placed.cells caller.parts.cells h.exits.parts.cells;
       };
-      related = (returned_sound (kept_by ranges (given_addresses names exit.cells) known.byte exit.core) known exit.relations _ refl).gives
-          called.entered.processor.registers x.processor.registers (peek called.entered.storage) (peek x.storage) called.entered.processor.flags x.processor.flags
+      related = (returned_sound (kept_by ranges (given_addresses names exit.cells) known.byte exit.core) s.core.registers known exit.relations _ refl).gives
+          (entered_with entry) called.entered.processor.registers x.processor.registers (peek called.entered.storage) (peek x.storage) called.entered.processor.flags x.processor.flags
           (Returned-kept z h.callee region ranges base waits under (given_addresses names exit.cells) known exit called x
           (record { based = h.based; under_is = refl; does = h.keeps }) h.kept given (held_placed z region (length s.items) waits s.relations.byte h.placed.byte) h.exits.parts.core)
-          (related_held waiting s.relations called.entered caller.related) h.exits.related;
-      summary = HoldSummary-back program whole region ranges names s exit entry called x h.caller_program h.callee_program h.facts h.placed.summary h.exit_free
+          (registers_are_bytes exit.core called x h.exit_core h.exits.parts.core)
+          (record { within = λ q. In-from (get q s.core.registers) entry (get q called.entered.processor.registers) (caller.parts.core.registers q); copies = AreCopies-core s.core entry called.entered caller.parts.core })
+          (related_held waiting s.relations entry called.entered caller.related) h.exits.related;
+      summary = HoldSummary-back program whole region ranges names s exit entry called (entered_with entry) x h.caller_program h.callee_program h.facts h.placed.summary h.exit_free
           (HoldsValues-caller s entry base called.entered caller)
           (GivesBack-exit program.kind h.callee region ranges under (given_addresses names exit.cells) exit called x (ap (λ p. p.kind) h.callee_program) h.keeps h.kept given h.exits.parts.core)
           caller.summary h.exits.summary;
@@ -629,7 +629,7 @@ something_left program true z k region ranges names s exit entry base called x h
 -- what registers and pairs leave each other
 pub Means-with_values :
     (s : AbsState) (v : Values) (entry : Activation) (base : ℕ) (x : MState)
-    → IsCut (values_of s.core.registers s.relations.pairs) v → HoldsValues v x.processor.registers → Means s entry base x → Means (with_values s v) entry base x
+    → IsCut (values_of s.core.registers s.relations.pairs) v → HoldsValues v (entered_with entry) x.processor.registers → Means s entry base x → Means (with_values s v) entry base x
 Means-with_values s v entry base x cuts holds m =
     record {
       parts = record {
@@ -682,7 +682,7 @@ unfolding with_banks_cut
 Means-with_banks_cut s entry base x bytes m =
     let known = HoldsKnown-means s entry base x m in
     choose (reduced_controller entry.program (values_in s) s.cells s.summary s.core.ctl)
-    ((reduced_controller_sound entry.program (values_in s) s.cells s.summary s.core.ctl _ refl).gives entry x.processor (peek x.storage) x.storage.banks refl bytes known.values known.bytes known.cells_hold
+    ((reduced_controller_sound entry.program (values_in s) s.cells s.summary s.core.ctl _ refl).gives entry known.was x.processor (peek x.storage) x.storage.banks refl bytes known.values known.bytes known.cells_hold
     known.summary m.parts.core.controller)
   where
     choose : (o : Option Ctl) → HoldsControllerIf o entry x.storage.banks → MeansIf (option_map (with_controller s) o) entry base x
@@ -691,67 +691,68 @@ Means-with_banks_cut s entry base x bytes m =
 
 -- cut, they mean the same; where nothing is left, none is meant
 pub Means-reduced :
-    (s : AbsState) (entry : Activation) (base : ℕ) (x : MState)
-    → ReducesSoundly s → AreBytes x.processor.registers → Means s entry base x → MeansIf (reduced_state entry.program s) entry base x
+    (entered : PairBounds) (s : AbsState) (entry : Activation) (base : ℕ) (x : MState)
+    → ReducesSoundly entered s → AreWithin entered (entered_with entry) → AreBytes x.processor.registers → Means s entry base x
+    → MeansIf (reduced_state entry.program entered s) entry base x
 unfolding reduced_state
-Means-reduced s entry base x sound bytes m =
-    choose (reduced v) (reduced_cuts v (reduced v) refl) (sound.gives x.processor.registers bytes holds)
+Means-reduced entered s entry base x sound within bytes m =
+    choose (reduced entered v) (reduced_cuts entered v (reduced entered v) refl) (sound.gives (entered_with entry) x.processor.registers within bytes holds)
   where
     v : Values
     v = values_of s.core.registers s.relations.pairs
 
-    holds : HoldsValues v x.processor.registers
+    holds : HoldsValues v (entered_with entry) x.processor.registers
     holds = record {
       registers = λ r. record { least = (m.parts.core.registers r).least; most = (m.parts.core.registers r).most; low = (m.parts.core.registers r).low };
       pairs = m.related.pairs;
     }
 
-    choose : (o : Option Values) → IfSome o (IsCut v) → HoldsIn o x.processor.registers → MeansIf (option_and_then (with_banks_cut entry.program) (with_values_if s o)) entry base x
+    choose : (o : Option Values) → IfSome o (IsCut v) → HoldsIn o (entered_with entry) x.processor.registers → MeansIf (option_and_then (with_banks_cut entry.program) (with_values_if s o)) entry base x
     choose None cuts h = h
     choose (Some w) cuts h = Means-with_banks_cut (with_values s w) entry base x bytes (Means-with_values s w entry base x cuts h m)
 
 Means-rejoined_reduced :
     (program : Program) (z : Setting) (k : ℕ) (region : Region) (ranges : List Range) (names : List ℕ) (s exit : AbsState) (entry : Activation) (base : ℕ) (called : Activation) (x : MState)
-    → ReducesSoundly (rejoined program z.is_whole (waiting_stack z region k s) k ranges names s exit) → HandsBack program z k region ranges names s exit entry base called x
-    → MeansIf (reduced_state program (rejoined program z.is_whole (waiting_stack z region k s) k ranges names s exit)) entry base x
+    → ReducesSoundly z.entered (rejoined program z.is_whole (waiting_stack z region k s) k ranges names s exit) → HandsBack program z k region ranges names s exit entry base called x
+    → MeansIf (reduced_state program z.entered (rejoined program z.is_whole (waiting_stack z region k s) k ranges names s exit)) entry base x
 Means-rejoined_reduced program z k region ranges names s exit entry base called x sound h =
     let back = rejoined program z.is_whole (waiting_stack z region k s) k ranges names s exit in
-    subst (λ q. MeansIf (reduced_state q back) entry base x) h.caller_program
-    (Means-reduced back entry base x sound
+    subst (λ q. MeansIf (reduced_state q z.entered back) entry base x) h.caller_program
+    (Means-reduced z.entered back entry base x sound h.within
     (registers_are_bytes exit.core called x h.exit_core h.exits.parts.core)
     (Means-rejoined program z k region ranges names s exit entry base called x h))
 
 -- where the callee comes back something is meant, and that holds
 Means-something :
     (program : Program) (z : Setting) (k : ℕ) (region : Region) (ranges : List Range) (names : List ℕ) (s exit : AbsState) (entry : Activation) (base : ℕ) (called : Activation) (x : MState)
-    → (is_something program z.is_whole names ranges s exit ≡ true → ReducesSoundly (rejoined program z.is_whole (waiting_stack z region k s) k ranges names s exit))
+    → (is_something program z.is_whole names ranges s exit ≡ true → ReducesSoundly z.entered (rejoined program z.is_whole (waiting_stack z region k s) k ranges names s exit))
     → HandsBack program z k region ranges names s exit entry base called x
     → MeansIf (resumed_by Extended program z region k ranges names s exit) entry base x
 unfolding resumed_by
 Means-something program z k region ranges names s exit entry base called x sound h =
     let some = something_left program z.is_whole z k region ranges names s exit entry base called x h in
-    subst (λ b. MeansIf (cond b (reduced_state program (rejoined program z.is_whole (waiting_stack z region k s) k ranges names s exit)) None) entry base x) (sym some)
+    subst (λ b. MeansIf (cond b (reduced_state program z.entered (rejoined program z.is_whole (waiting_stack z region k s) k ranges names s exit)) None) entry base x) (sym some)
     (Means-rejoined_reduced program z k region ranges names s exit entry base called x (sound some) h)
 
 -- ---- what was computed
 
 -- with more items than a state holds
 pub too_deep :
-    (program : Program) (whole : Bool) (waiting : StackBytes) (k : ℕ) (ranges : List Range) (names addresses : List ℕ) (s exit : AbsState) (kept : Kept) (core : Core) (relations : Relations) (v : Values) (cells : List Cell) (said : SummaryParts) (c : Ctl)
+    (program : Program) (entered : PairBounds) (whole : Bool) (waiting : StackBytes) (k : ℕ) (ranges : List Range) (names addresses : List ℕ) (s exit : AbsState) (kept : Kept) (core : Core) (relations : Relations) (v : Values) (cells : List Cell) (said : SummaryParts) (c : Ctl)
     → addresses ≡ given_addresses names exit.cells → kept ≡ kept_by ranges addresses (held_relations waiting s.relations).byte exit.core → core ≡ core_back program whole names s exit.core
-    → relations ≡ returned kept (held_relations waiting s.relations) exit.relations → Some v ≡ reduced (values_of core.registers relations.pairs)
+    → relations ≡ returned kept s.core.registers (held_relations waiting s.relations) exit.relations → Some v ≡ reduced entered (values_of core.registers relations.pairs)
     → cells ≡ cells_back (cell_room Extended) (cell_back program whole names s) ranges s.cells exit.cells → said ≡ summary_back program whole ranges names s exit
     → Some c ≡ reduced_controller program v cells said core.ctl
-    → 255 < length (given_back_items k s.items exit.items) → IsTooDeep (reduced_state program (rejoined program whole waiting k ranges names s exit))
+    → 255 < length (given_back_items k s.items exit.items) → IsTooDeep (reduced_state program entered (rejoined program whole waiting k ranges names s exit))
 unfolding rejoined reduced_state with_banks_cut item_room
-too_deep program whole waiting k ranges names addresses s exit kept core relations v cells said c given is is_core are e is_cells is_said cuts many =
+too_deep program entered whole waiting k ranges names addresses s exit kept core relations v cells said c given is is_core are e is_cells is_said cuts many =
     let known = held_relations waiting s.relations in
     let by = kept_by ranges (given_addresses names exit.cells) known.byte exit.core in
-    let same : relations ≡ returned by known exit.relations =
-    are ∙ ap (λ (o : Kept). returned o known exit.relations) (is ∙ ap (λ (xs : List ℕ). kept_by ranges xs known.byte exit.core) given) in
-    let cut : Some v ≡ reduced (values_of (core_back program whole names s exit.core).registers (returned by known exit.relations).pairs) =
-    e ∙ (ap (λ (d : Core). reduced (values_of d.registers relations.pairs)) is_core
-    ∙ ap (λ (r : Relations). reduced (values_of (core_back program whole names s exit.core).registers r.pairs)) same) in
+    let same : relations ≡ returned by s.core.registers known exit.relations =
+    are ∙ ap (λ (o : Kept). returned o s.core.registers known exit.relations) (is ∙ ap (λ (xs : List ℕ). kept_by ranges xs known.byte exit.core) given) in
+    let cut : Some v ≡ reduced entered (values_of (core_back program whole names s exit.core).registers (returned by s.core.registers known exit.relations).pairs) =
+    e ∙ (ap (λ (d : Core). reduced entered (values_of d.registers relations.pairs)) is_core
+    ∙ ap (λ (r : Relations). reduced entered (values_of (core_back program whole names s exit.core).registers r.pairs)) same) in
     let t : AbsState = with_values (rejoined program whole waiting k ranges names s exit) v in
     let banks : Some c ≡ reduced_controller program v t.cells t.summary t.core.ctl =
     cuts ∙ (ap (λ (xs : List Cell). reduced_controller program v xs said core.ctl) is_cells
@@ -782,7 +783,7 @@ resumed_alone_sound program z region k ranges names s exit o simple e =
 pub rejoined_sound :
     (program : Program) (z : Setting) (region : Region) (k : ℕ) (ranges : List Range) (names : List ℕ) (s exit : AbsState) (r : Resumed) → z.rules ≡ Extended
     → IsResumed r (resumed_by Extended program z region k ranges names s exit)
-    → (is_something program z.is_whole names ranges s exit ≡ true → ReducesSoundly (rejoined program z.is_whole (waiting_stack z region k s) k ranges names s exit))
+    → (is_something program z.is_whole names ranges s exit ≡ true → ReducesSoundly z.entered (rejoined program z.is_whole (waiting_stack z region k s) k ranges names s exit))
     → IsSoundResuming program z region k ranges names s exit r
 rejoined_sound program z region k ranges names s exit r extended e sound =
     record {
@@ -793,44 +794,15 @@ rejoined_sound program z region k ranges names s exit r extended e sound =
 
 -- ---- by either rules, of states that a certificate may have
 
-IsLink-kept : (p : WordPair) (k : Kept) (l : Option Link) → IfSome l IsLink → IfSome (link_if_kept p k l) IsLink
-IsLink-kept p k None h = tt
-IsLink-kept p k (Some l) h = by (is_pair_kept p k && is_other_kept l.other k)
-  where
-    by : (b : Bool) → IfSome (cond b (Some l) None) IsLink
-    by true = h
-    by false = tt
-
-IsLink-returned : (p : WordPair) (k : Kept) (l m : Option Link) → IfSome l IsLink → IfSome m IsLink → IfSome (link_returned p k l m) IsLink
-IsLink-returned p k l (Some m) h i = i
-IsLink-returned p k l None h i = IsLink-kept p k l h
-
-IsPairFacts-returned : (p : WordPair) (k : Kept) (f g : PairFacts) → IsPairFacts f → IsPairFacts g → IsPairFacts (facts_returned p k f g)
-unfolding facts_returned
-IsPairFacts-returned p k f g h i = record { last = by (is_pair_kept p k); link = IsLink-returned p k f.link g.link h.link i.link }
-  where
-    by : (b : Bool) → (cond b f.bounds g.bounds).last < 65536
-    by true = h.last
-    by false = i.last
-
-pub ArePairs-returned : (k : Kept) (s t : Relations) → ArePairs s.pairs → ArePairs t.pairs → ArePairs (returned k s t).pairs
-unfolding returned
-ArePairs-returned k s t h i = record { each = λ p. each p }
-  where
-    each : (p : WordPair) → IsPairFacts (facts_of p (returned k s t).pairs)
-    each pair.Bc = IsPairFacts-returned pair.Bc k s.pairs.bc t.pairs.bc (h.each pair.Bc) (i.each pair.Bc)
-    each pair.De = IsPairFacts-returned pair.De k s.pairs.de t.pairs.de (h.each pair.De) (i.each pair.De)
-    each pair.Hl = IsPairFacts-returned pair.Hl k s.pairs.hl t.pairs.hl (h.each pair.Hl) (i.each pair.Hl)
-
 ReducesSoundly-rejoined :
-    (program : Program) (whole : Bool) (waiting : StackBytes) (k : ℕ) (ranges : List Range) (names : List ℕ) (s exit : AbsState) → ArePairs s.relations.pairs → ArePairs exit.relations.pairs
-    → ReducesSoundly (rejoined program whole waiting k ranges names s exit)
+    (program : Program) (entered : PairBounds) (whole : Bool) (waiting : StackBytes) (k : ℕ) (ranges : List Range) (names : List ℕ) (s exit : AbsState) → ArePairs s.relations.pairs → ArePairs exit.relations.pairs
+    → ReducesSoundly entered (rejoined program whole waiting k ranges names s exit)
 unfolding rejoined
-ReducesSoundly-rejoined program whole waiting k ranges names s exit h i =
+ReducesSoundly-rejoined program entered whole waiting k ranges names s exit h i =
     let known = held_relations waiting s.relations in
     let back = rejoined program whole waiting k ranges names s exit in
-    reduced_sound (values_of back.core.registers back.relations.pairs) _ refl
-    (ArePairs-returned (kept_by ranges (given_addresses names exit.cells) known.byte exit.core) known exit.relations h i)
+    reduced_sound entered (values_of back.core.registers back.relations.pairs) _ refl
+    (ArePairs-returned (kept_by ranges (given_addresses names exit.cells) known.byte exit.core) s.core.registers known exit.relations h i)
 
 -- the callee has come back: there is something that its caller goes on with, and it holds
 pub Means-resumed :
@@ -841,4 +813,4 @@ unfolding resumed_by
 Means-resumed program Simple z k region ranges names s exit entry base called x p q h = Means-resumed_alone region ranges s exit entry base called x h
 Means-resumed program Extended z k region ranges names s exit entry base called x p q h =
     Means-something program z k region ranges names s exit entry base called x
-    (λ e. ReducesSoundly-rejoined program z.is_whole (waiting_stack z region k s) k ranges names s exit p q) h
+    (λ e. ReducesSoundly-rejoined program z.entered z.is_whole (waiting_stack z region k s) k ranges names s exit p q) h

@@ -1,6 +1,7 @@
 -- What is said of the whole program where a callee returns holds; where nothing is said on either side, nothing is.
 use Rattle.std.proofs.Common.{◌≡◌, ℕ, ◌/◌, ◌%◌, Bool, true, List, refl, sym, ◌∙◌, ap, subst, arith}
 use Rattle.std.proofs.lemmas.Bool.{and_parts}
+use Rattle.gb_ops.specs.declared.registers.Registers.{Registers}
 use Rattle.gb_ops.specs.declared.machine.Banks.{Banks}
 use Rattle.gb_ops.specs.declared.machine.Kind.{Kind}
 use Rattle.gb_ops.specs.declared.machine.Kind.TheVariants as kind
@@ -72,18 +73,18 @@ in_program : (program : Program) (s : AbsState) (entry : Activation) (x : MState
 in_program program s entry x e h = subst (λ p. HoldSummary p s.cells s.summary x.processor (peek x.storage) x.storage.banks) e h
 
 pub HoldSummary-back :
-    (program : Program) (whole : Bool) (region : Region) (ranges : List Range) (kept : List ℕ) (s exit : AbsState) (entry called : Activation) (x : MState)
+    (program : Program) (whole : Bool) (region : Region) (ranges : List Range) (kept : List ℕ) (s exit : AbsState) (entry called : Activation) (was : Registers ℕ) (x : MState)
     → entry.program ≡ program → called.program ≡ program → AreFreeFacts region program.facts → IsFree region s.summary → IsFree region exit.summary
-    → Holds (values_of s.core.registers s.relations.pairs) called.entered.processor.registers
+    → Holds (values_of s.core.registers s.relations.pairs) was called.entered.processor.registers
     → GivesBack program.kind region ranges (given_by exit.core) (given_addresses kept exit.cells) called.entered.processor x.processor (peek called.entered.storage) (peek x.storage) called.entered.storage.banks x.storage.banks
     → IsSummarized s entry called.entered → IsSummarized exit called x
     → HoldSummary entry.program (cells_back (cell_room Extended) (cell_back program whole kept s) ranges s.cells exit.cells) (summary_back program whole ranges kept s exit) x.processor (peek x.storage) x.storage.banks
 unfolding summary_back
-HoldSummary-back program whole region ranges kept s exit entry called x e f facts free exit_free holds gives caller leaves =
+HoldSummary-back program whole region ranges kept s exit entry called was x e f facts free exit_free holds gives caller leaves =
     let cells = cells_back (cell_room Extended) (cell_back program whole kept s) ranges s.cells exit.cells in
     subst (λ p. HoldSummary p cells (summary_back program whole ranges kept s exit) x.processor (peek x.storage) x.storage.banks) (sym e)
     ((summary_returned_sound program ranges (given_by exit.core) (given_addresses kept exit.cells) (values_of s.core.registers s.relations.pairs) s.cells s.summary exit.cells exit.summary
-    (has_room ranges s.cells exit.cells) cells _ refl).gives region called.entered.processor x.processor
+    (has_room ranges s.cells exit.cells) cells _ refl).gives region was called.entered.processor x.processor
     (peek called.entered.storage) (peek x.storage) called.entered.storage.banks x.storage.banks facts free exit_free holds gives
     (cells_are_back (cell_back program whole kept s) (λ c. refl) ranges s.cells exit.cells)
     (in_program program s entry called.entered e caller) (in_program program exit called x f leaves))

@@ -24,6 +24,7 @@ use Rattle.gb_domain.specs.Summaries.{SummaryParts, Program, no_summary}
 use Rattle.gb_domain.specs.Types.{AbsState}
 use Rattle.gb_product.specs.Below.gb_pairs.declared.values.Values.{Values}
 use Rattle.gb_product.specs.Below.gb_pairs.Reduced.{reduced}
+use Rattle.gb_domain.specs.declared.pairs.PairBounds.{PairBounds}
 use Rattle.gb_product.specs.Below.gb_relations.declared.returned.Kept.{Kept}
 use Rattle.gb_product.specs.Below.gb_relations.Compared.{only_of_a}
 use Rattle.gb_product.specs.Below.gb_relations.Returned.{returned}
@@ -221,7 +222,7 @@ rejoined program whole waiting k ranges kept s x =
       core = core_back program whole kept s x.core;
       items = given_back_items k s.items (map (val_back program whole kept s) x.items);
       cells = cells_back (cell_room Extended) (cell_back program whole kept s) ranges s.cells x.cells;
-      relations = returned (kept_by ranges (given_addresses kept x.cells) known.byte x.core) known x.relations;
+      relations = returned (kept_by ranges (given_addresses kept x.cells) known.byte x.core) s.core.registers known x.relations;
       summary = summary_back program whole ranges kept s x;
     }
 
@@ -239,9 +240,10 @@ with_controller s c = record s { core = record s.core { ctl = c } }
 unfoldable pub with_banks_cut : Program → AbsState → Option AbsState
 with_banks_cut program s = option_map (with_controller s) (reduced_controller program (values_in s) s.cells s.summary s.core.ctl)
 
--- registers and pairs are cut to what they leave each other, and then the banks; none where nothing is meant
-unfoldable pub reduced_state : Program → AbsState → Option AbsState
-reduced_state program s = option_and_then (with_banks_cut program) (with_values_if s (reduced (values_of s.core.registers s.relations.pairs)))
+-- registers and pairs are cut to what they leave each other, where the pairs lay in these bounds as the procedure was entered, and then
+-- the banks; none where nothing is meant
+unfoldable pub reduced_state : Program → PairBounds → AbsState → Option AbsState
+reduced_state program entered s = option_and_then (with_banks_cut program) (with_values_if s (reduced entered (values_of s.core.registers s.relations.pairs)))
 
 -- ---- by those of version 4
 
@@ -275,7 +277,7 @@ unfoldable pub resumed_by : Rules → Program → Setting → Region → ℕ →
 resumed_by Simple program z region k ranges kept s x = Some (resumed_alone ranges s x)
 resumed_by Extended program z region k ranges kept s x =
     if is_something program z.is_whole kept ranges s x
-    then reduced_state program (rejoined program z.is_whole (waiting_stack z region k s) k ranges kept s x)
+    then reduced_state program z.entered (rejoined program z.is_whole (waiting_stack z region k s) k ranges kept s x)
     else None
 
 -- what the caller goes on with that was in s, in a procedure of a program with a stack region, where the callee has these ranges and

@@ -16,10 +16,11 @@ use Rattle.gb_domain.specs.Types.{AbsState}
 use Rattle.gb_domain.specs.Areas.{IsRegion, meets}
 use Rattle.gb_domain.specs.Rules.{IsCore}
 use Rattle.gb_product.specs.Below.gb_pairs.Reduced.{reduced}
-use Rattle.gb_product.specs.Below.gb_pairs.Sound.{IsSoundReducing}
+use Rattle.gb_product.specs.Below.gb_pairs.Sound.{AreWithin, IsSoundReducing}
 use Rattle.gb_product.specs.Below.gb_relations.Transfer.{values_of}
 use Rattle.gb_product.specs.Below.gb_abs.Cells.{ArePlaced}
-use Rattle.gb_product.specs.Meaning.{Means, IsApart}
+use Rattle.gb_domain.specs.declared.pairs.PairBounds.{PairBounds}
+use Rattle.gb_product.specs.Meaning.{entered_with, Means, IsApart}
 use Rattle.gb_product.specs.Below.gb_summaries.Elsewhere.{AreFreeFacts, IsFree}
 use Rattle.gb_product.specs.Below.gb_abs.Meaning.{Activation, is_located}
 use Rattle.gb_product.specs.Below.gb_abs.Stack.{AreInRegion}
@@ -81,13 +82,14 @@ pub record ComesBack (region : Region) (ranges : List Range) (s exit : AbsState)
   pub kept : (b : ℕ) → IsKept callee region ranges called.entered.processor.sp b → peek x.storage b ≡ peek called.entered.storage b
 
 -- By those of version 3: the callee took over k items of the caller's, the return word among them, and leaves as many as its exit
--- has. It stands in a setting of its own, in which it keeps what isn't its own to write; z is the caller's. The addresses are those that
+-- has. It stands in a setting of its own, in which it keeps what isn't its own to write; z is the caller's, whose pairs lay where it says as it was entered. The addresses are those that
 -- it names to be kept.
 pub record HandsBack (program : Program) (z : Setting) (k : ℕ) (region : Region) (ranges : List Range) (addresses : List ℕ) (s exit : AbsState) (entry : Activation) (base : ℕ) (called : Activation) (x : MState) : Type 0 where
   pub is_region : IsRegion region
   pub apart : AllByRecursion (λ r. meets region r.first r.last ≡ false) ranges
   pub placed : IsApart z region s
   pub based : IsBase z base
+  pub within : AreWithin z.entered (entered_with entry)
   pub room : AreInRegion region base (length s.items)
   pub begins : IsCalled k s entry base called.entered
   pub callee : Setting
@@ -120,10 +122,11 @@ MeansResumed Nothing entry base x = ⊥
 MeansResumed (States s) entry base x = Means s entry base x
 MeansResumed TooDeep entry base x = Unit {0}
 
--- cutting to what registers and pairs leave each other loses none of these states
-abbrev pub ReducesSoundly : AbsState → Type 0
-ReducesSoundly s =
-    IsSoundReducing (values_of s.core.registers s.relations.pairs) (reduced (values_of s.core.registers s.relations.pairs))
+-- cutting to what registers and pairs leave each other, where the pairs lay in these bounds as the procedure was entered, loses none of
+-- these states
+abbrev pub ReducesSoundly : PairBounds → AbsState → Type 0
+ReducesSoundly entered s =
+    IsSoundReducing entered (values_of s.core.registers s.relations.pairs) (reduced entered (values_of s.core.registers s.relations.pairs))
 
 -- whatever the callee did in the program, what is said of the caller's state holds
 pub record IsSoundResuming (program : Program) (z : Setting) (region : Region) (k : ℕ) (ranges : List Range) (kept : List ℕ) (s exit : AbsState) (after : Resumed) : Type 0 where

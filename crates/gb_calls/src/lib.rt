@@ -35,4 +35,4 @@ pub use gb_cert::{Cert, CertFault, Found, NodeRef, ProcedureRef, StateRef, test_
 pub use gb_domain::low_bits::are_congruent;
 pub use gb_domain::summary::{BankShadows, Shadows, Summary};
 pub use gb_product::covering::{covers_relations, covers_said};
-pub use gb_product::{States, byte_of, with_cell};
+pub use gb_product::{States, Values, bounds_of, byte_of, with_cell};

@@ -13,6 +13,7 @@ use crate::cells::{cells_back, given_addresses, has_room, is_in_ranges};
 use crate::told::{Caller, is_left, place_back, val_back};
 use arrayvec::ArrayVec;
 use gb_abs_memory::windows::low_ends;
+use gb_domain::pairs::PairBounds;
 use gb_domain::places::{OneByte, StackBytes};
 use gb_domain::relations::Relations;
 use gb_domain::summary::Summary;
@@ -341,6 +342,7 @@ fn are_too_many(count: u8, held: &[Val], exit: &[Val]) -> bool
 /// together on either side, cut to what registers and pairs leave each other, and the banks to what their places leave.
 #[tactic(auto, unfolding(crate::specs::Resuming::rejoined, crate::specs::Resuming::reduced_state, crate::specs::Resuming::with_banks_cut))]
 fn put_rejoined(
+    entered: &PairBounds,
     caller: &Caller<'_>,
     waiting: StackBytes,
     count: u8,
@@ -348,8 +350,8 @@ fn put_rejoined(
     exit: &Abs,
     resumed: &mut Abs,
 ) -> Return
-    ensures exact { Resuming.IsResumed (Resuming.resumed_to result resumed.new) (Resuming.reduced_state caller.now.program.now (Resuming.rejoined caller.now.program.now caller.now.is_whole waiting count ranges.now caller.now.kept.now.items caller.now.state.now exit.now)) }
-    ensures reducing { ReducesSoundly (Resuming.rejoined caller.now.program.now caller.now.is_whole waiting count ranges.now caller.now.kept.now.items caller.now.state.now exit.now) }
+    ensures exact { Resuming.IsResumed (Resuming.resumed_to result resumed.new) (Resuming.reduced_state caller.now.program.now entered.now (Resuming.rejoined caller.now.program.now caller.now.is_whole waiting count ranges.now caller.now.kept.now.items caller.now.state.now exit.now)) }
+    ensures reducing { ReducesSoundly entered.now (Resuming.rejoined caller.now.program.now caller.now.is_whole waiting count ranges.now caller.now.kept.now.items caller.now.state.now exit.now) }
 {
     let state = caller.state;
     let given = given_addresses(caller.kept, exit.cells());
@@ -357,8 +359,8 @@ fn put_rejoined(
     let known = held_relations(waiting, state.relations());
     let kept = kept_by(ranges, addresses, &known.byte, exit.core());
     let mut core = core_back(caller, exit.core());
-    let mut relations = returned(&kept, &known, exit.relations());
-    if !reduce(&mut core.registers, &mut relations.pairs) {
+    let mut relations = returned(&kept, &state.core().registers, &known, exit.relations());
+    if !reduce(entered, &mut core.registers, &mut relations.pairs) {
         return Return::Nothing;
     }
     let cells = cells_back(Rules::Extended, caller, ranges, exit.cells());
@@ -442,6 +444,7 @@ fn is_something(caller: &Caller<'_>, ranges: &[Range], exit: &Abs) -> bool
 
 /// What a caller goes on with by the rules of versions 3 and 4, in the place of other states.
 fn put_something(
+    entered: &PairBounds,
     caller: &Caller<'_>,
     waiting: StackBytes,
     count: u8,
@@ -449,11 +452,11 @@ fn put_something(
     exit: &Abs,
     resumed: &mut Abs,
 ) -> Return
-    ensures exact { Resuming.IsResumed (Resuming.resumed_to result resumed.new) (if Resuming.is_something caller.now.program.now caller.now.is_whole caller.now.kept.now.items ranges.now caller.now.state.now exit.now then Resuming.reduced_state caller.now.program.now (Resuming.rejoined caller.now.program.now caller.now.is_whole waiting count ranges.now caller.now.kept.now.items caller.now.state.now exit.now) else None) }
-    ensures reducing { Resuming.is_something caller.now.program.now caller.now.is_whole caller.now.kept.now.items ranges.now caller.now.state.now exit.now ≡ true → ReducesSoundly (Resuming.rejoined caller.now.program.now caller.now.is_whole waiting count ranges.now caller.now.kept.now.items caller.now.state.now exit.now) }
+    ensures exact { Resuming.IsResumed (Resuming.resumed_to result resumed.new) (if Resuming.is_something caller.now.program.now caller.now.is_whole caller.now.kept.now.items ranges.now caller.now.state.now exit.now then Resuming.reduced_state caller.now.program.now entered.now (Resuming.rejoined caller.now.program.now caller.now.is_whole waiting count ranges.now caller.now.kept.now.items caller.now.state.now exit.now) else None) }
+    ensures reducing { Resuming.is_something caller.now.program.now caller.now.is_whole caller.now.kept.now.items ranges.now caller.now.state.now exit.now ≡ true → ReducesSoundly entered.now (Resuming.rejoined caller.now.program.now caller.now.is_whole waiting count ranges.now caller.now.kept.now.items caller.now.state.now exit.now) }
 {
     if is_something(caller, ranges, exit) {
-        put_rejoined(caller, waiting, count, ranges, exit, resumed)
+        put_rejoined(entered, caller, waiting, count, ranges, exit, resumed)
     } else {
         Return::Nothing
     }
@@ -491,7 +494,15 @@ fn rejoin(
         state,
     };
     let waiting = waiting_stack(setting, region, count, state);
-    put_something(&caller, waiting, count, ranges, exit, resumed)
+    put_something(
+        &setting.entered,
+        &caller,
+        waiting,
+        count,
+        ranges,
+        exit,
+        resumed,
+    )
 }
 
 // ---- by all rules

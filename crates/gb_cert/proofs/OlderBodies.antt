@@ -1,7 +1,6 @@
 -- What is written of a certificate of versions 1 to 3 in a later one: the bodies of its procedures.
 use Rattle.std.proofs.Common.{◌≡◌, ℕ, ◌+◌, ◌-◌, ◌≤◌, ◌<◌, Bool, true, false, ◌==◌, List, ◌++◌, length, get_or, take, drop, Option, Some, Result, Ok, Err, sym, ap, ◌∙◌, subst, append_assoc, length-append, arith}
 use Rattle.std.specs.Prelude.{slice_get, IfSome}
-use Rattle.std.specs.List.{flat_map}
 use Rattle.std.proofs.lemmas.Bool.Decides.{nat_tests}
 use Rattle.std.proofs.Math.Seq.{take-append_seam}
 use Rattle.gb_ops.specs.declared.machine.Region.{Region}

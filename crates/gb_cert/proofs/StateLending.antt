@@ -279,7 +279,7 @@ told-again (Older rules) role region s rest fit h =
     ap (λ (r : Result (Relations × List ℕ) CertFault). go_on r (λ x rest. (let q : Result ((Relations × SummaryParts) × List ℕ) CertFault = Ok ((x, no_summary), rest) in q))) read
     ∙ ap (λ (m : SummaryParts). (let q : Result ((Relations × SummaryParts) × List ℕ) CertFault = Ok ((s.relations, m), rest) in q)) (sym (says-nothing rules role region s h))
 told-again (Fourth facts form) role region s rest fit h =
-    (IsFormat-told facts (stack_bytes form role region (length s.items)) (may_be_aside role s.core) (compared s.relations.byte.test) fit.0 (named-few form role region (length s.items) h.item_count) (compared-small s.relations.byte.test h.relations.byte.test)).again (s.relations, s.summary) rest ((h.relations, refl), h.summary)
+    (IsFormat-told facts (stack_bytes form role region (length s.items)) (may_be_aside role s.core) (compared s.relations.byte.test) fit.0 (named-few form role region (length s.items) h.item_count) (compared-small s.relations.byte.test h.relations.byte.test)).again (s.relations, s.summary) rest (((h.relations, refl), h.linked), h.summary)
 
 -- the number of items, by their bytes
 count-lent : (form : Form) (role : Role) (region : Region) (bytes first second : List ℕ) (s : AbsState) → StateStands form role region bytes s → CountsOff (item_width form) (drop 40 bytes) first second → length first / 3 ≡ length s.items

@@ -18,7 +18,7 @@ use Rattle.gb_states.specs.WholeRules.{procedure_forms, form_in}
 use Rattle.gb_states.specs.WholeReading.{facts_by, node_by, procedures_at, nodes_at, entries_fault, Parts, to_certificate, certificate_at, read_certificate}
 use Rattle.gb_states.specs.WholeSpelling as spelled
 use Rattle.gb_cert.specs.Places.{IsLeft, AreAt, ArePlaced, ok_or, no_certificate}
-use Rattle.gb_cert.specs.Places.{form_if, forms_if, AreFormed, certificate_in, IsLaid, IsFound}
+use Rattle.gb_cert.specs.Places.{forms_if, AreFormed, certificate_in, IsLaid, IsFound}
 use Rattle.gb_cert.specs.Entries.{entries_fault_at}
 use Rattle.gb_states.proofs.Formats.{IsBytes}
 use Rattle.gb_cert.proofs.EntryLaws.{AreFound, entries-of, entries-few, keys-few}

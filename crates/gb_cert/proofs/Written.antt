@@ -20,6 +20,7 @@ use Rattle.gb_states.specs.Below.gb_fields.Limits.{node_limit, procedure_limit_b
 use Rattle.gb_states.specs.Below.gb_fields.Rules.{usual_base}
 use Rattle.gb_states.specs.declared.role.Role.{Role}
 use Rattle.gb_states.specs.declared.role.Role.TheVariants as role
+use Rattle.gb_states.specs.Links.{are_linked}
 use Rattle.gb_states.specs.Rules.{IsState, IsProcedure, is_base_of, is_whole, is_after, key, role_of, is_state_sayable, may_be_known}
 use Rattle.gb_states.specs.WholeRules.{kept_for, no_form, procedure_form, IsValIn, IsCellIn, IsStateIn, AreFactsBy, IsProcedureBy, IsNodeBy, IsCertificate}
 use Rattle.gb_states.specs.WholeSpelling as spelled
@@ -142,7 +143,7 @@ fourth_says facts form role region s few h = record {
   half = not_is (is_whole Extended (length s.items)) (bytes_whole (length s.items));
   items = not_more 255 (length s.items) h.item_count;
   cells = not_more 64 (length s.cells) h.cell_count;
-  related = refl;
+  related = not_is (are_linked true s.relations.pairs) h.linked;
   unsayable = not_is (says_state version.Four s) (fourth_said facts form role region s few h);
 }
 

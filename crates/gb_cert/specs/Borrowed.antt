@@ -11,7 +11,6 @@ use Rattle.gb_domain.specs.Summaries.{SummaryParts, no_summary}
 use Rattle.gb_domain.specs.Types.{AbsState, ProcedureParts, all_or_none, any_val, state_of}
 use Rattle.gb_states.specs.declared.form.Form.{Form}
 use Rattle.gb_states.specs.declared.form.Form.TheVariants.{Older, Fourth}
-use Rattle.gb_states.specs.declared.form.ProcedureForm.{ProcedureForm}
 use Rattle.gb_states.specs.declared.role.Role.{Role}
 use Rattle.gb_states.specs.declared.role.Role.TheVariants as role
 use Rattle.gb_states.specs.Below.gb_fields.Format.{Read, followed, both, mapped, optional, byte}

@@ -17,6 +17,7 @@ use Rattle.gb_domain.specs.Types.{AbsState, ProcedureParts, Node}
 use Rattle.gb_domain.specs.Certificate.{Certificate}
 use Rattle.gb_states.specs.Below.gb_fields.Limits.{procedure_limit_by, node_limit, range_limit, fact_limit, kept_limit, unit}
 use Rattle.gb_states.specs.Below.gb_fields.Rules.{any_rules_of, usual_base}
+use Rattle.gb_states.specs.Links.{are_linked}
 use Rattle.gb_states.specs.Rules.{is_whole, is_silent, may_be_known, is_sayable, is_all_or_none}
 use Rattle.gb_states.specs.declared.form.ProcedureForm.{ProcedureForm}
 use Rattle.gb_states.specs.WholeRules.{is_origin_in, procedure_forms, form_in}
@@ -183,15 +184,16 @@ has_many_items rules s = nat_lt (item_room rules) (length s.items)
 abbrev pub has_many_cells : Rules → AbsState → Bool
 has_many_cells rules s = nat_lt (cell_room rules) (length s.cells)
 
--- Version 4 has a field for all that is known of several parts together.
+-- Version 4 has a field for all that is known of several parts together, but not for each link.
 abbrev pub says_relations_by : Bool → Rules → Relations → Bool
-says_relations_by true rules r = true
+says_relations_by true rules r = are_linked true r.pairs
 says_relations_by false rules r = may_be_known rules r
 
 abbrev pub says_relations : Version → Relations → Bool
 says_relations version r = says_relations_by (is_fourth version) (rules_in version) r
 
--- more is known of several parts together than a test of A, in versions 1 and 2, or a link has a width, in version 3
+-- more is known of several parts together than a test of A, in versions 1 and 2, or a link has a base or a width, in version 3, or one
+-- that reads nothing else has no base, or a factor other than 1
 abbrev pub is_related : Version → AbsState → Bool
 is_related version s = not (says_relations version s.relations)
 
@@ -272,8 +274,8 @@ IsNodeFault procedures nodes _ = ⊥
 
 -- A version can say these parts: bytes of stack are whole words in versions 1 and 2, where states also have no more than 16 words and
 -- 32 cells, know nothing of several parts together but a test of A, and have no copy of the return word, and where bases are the usual
--- ones. In versions 1 to 3 links have no width, no low bits of values are known, nothing is said of the whole program, and of the
--- controller all is kept or nothing.
+-- ones. In versions 1 to 3 links have no base and no width, no low bits of values are known, nothing is said of the whole program, and
+-- of the controller all is kept or nothing.
 pub record AreSpellable (plan : CertificatePlan) : Type 0 where
   pub words : have_half_words (rules_in plan.version) plan.procedures.now plan.nodes.now ≡ false
   pub items : have_states (has_many_items (rules_in plan.version)) plan.procedures.now plan.nodes.now ≡ false

@@ -5,7 +5,8 @@ ghost use Rattle.std.specs.List.{list_any, list_all};
 ghost use Rattle.gb_domain.specs.RelationRules.{is_a_alone, is_test_byte, is_known, are_unknown, is_test_alone};
 ghost use Rattle.gb_states.specs.Below.gb_fields.Rules.{usual_base, is_whole};
 ghost use Rattle.gb_states.specs.Below.gb_fields.Limits.{kept_limit};
-ghost use Rattle.gb_states.specs.Rules.{is_declared_origin, may_be_of, is_sayable, is_all_or_none, is_exact, are_exact, may_be_known};
+ghost use Rattle.gb_states.specs.Links.{is_plain, is_based, may_be_linked, are_linked};
+ghost use Rattle.gb_states.specs.Rules.{is_declared_origin, may_be_of, is_sayable, is_all_or_none, may_be_known};
 ghost use Rattle.gb_states.specs.WholeRules.{is_origin_in};
 ghost use Rattle.gb_cert.specs.Written.{exit_of, is_odd, is_half, has_many_items, has_many_cells, says_relations, is_related, has_unsayable, is_unspellable, state_has, exit_has, returns_with, stands_with, has_half_need, says_base, say_base, rules_in, is_fourth, is_tagged, says, says_registers, says_kept_by, says_core, says_cell, says_summary_by, says_state, AreSpellable, IsWriteFault};
 
@@ -19,6 +20,7 @@ use gb_domain::types::{Abs, Cell, Core, KeptBanks, Origin, Rules, Val};
 use gb_ops::machine::Region;
 use gb_ops::registers::Registers;
 use gb_states::limits::KEPT_LIMIT;
+use gb_states::relations::reads_other;
 
 // ---- relations
 
@@ -58,20 +60,41 @@ fn is_test_alone(relations: &Relations) -> bool
     is_test_byte(&relations.byte) && relations.zero.is_none() && are_unknown(&relations.pairs)
 }
 
-/// Whether a link, if there is one, has no width.
-fn is_exact(link: Option<Link>) -> bool
-    ensures { result ≡ is_exact link }
+/// Whether versions 1 to 3 can say a link: it reads something else, has no base, and has one sum.
+fn is_plain(link: &Link) -> bool
+    ensures { result ≡ is_plain link.now }
+{
+    reads_other(link.other) && link.base.is_none() && link.width == 0
+}
+
+/// Whether version 4 can: one that reads nothing else has a base, and no field for a factor.
+fn is_based(link: &Link) -> bool
+    ensures { result ≡ is_based link.now }
+{
+    reads_other(link.other) || link.base.is_some() && link.factor == 1
+}
+
+fn may_be_linked(is_fourth: bool, link: Option<Link>) -> bool
+    ensures { result ≡ may_be_linked is_fourth link }
 {
     match link {
         None => true,
-        Some(link) => link.width == 0,
+        Some(link) => {
+            if is_fourth {
+                is_based(&link)
+            } else {
+                is_plain(&link)
+            }
+        }
     }
 }
 
-fn are_exact(pairs: &Pairs) -> bool
-    ensures { result ≡ are_exact pairs.now }
+fn are_linked(is_fourth: bool, pairs: &Pairs) -> bool
+    ensures { result ≡ are_linked is_fourth pairs.now }
 {
-    is_exact(pairs.bc.link) && is_exact(pairs.de.link) && is_exact(pairs.hl.link)
+    may_be_linked(is_fourth, pairs.bc.link)
+        && may_be_linked(is_fourth, pairs.de.link)
+        && may_be_linked(is_fourth, pairs.hl.link)
 }
 
 fn may_be_known(rules: Rules, relations: &Relations) -> bool
@@ -79,14 +102,18 @@ fn may_be_known(rules: Rules, relations: &Relations) -> bool
 {
     match rules {
         Rules::Simple => is_test_alone(relations),
-        Rules::Extended => are_exact(&relations.pairs),
+        Rules::Extended => are_linked(false, &relations.pairs),
     }
 }
 
 fn says_relations(version: Version, relations: &Relations) -> bool
     ensures { result ≡ says_relations version relations.now }
 {
-    version.is_fourth() || may_be_known(version.rules(), relations)
+    if version.is_fourth() {
+        are_linked(true, &relations.pairs)
+    } else {
+        may_be_known(version.rules(), relations)
+    }
 }
 
 // ---- values

@@ -12,7 +12,7 @@ use gb_domain::relations::Relations;
 use gb_domain::types::Rules;
 use gb_ops::op::Register;
 use gb_ops::registers::Registers;
-use gb_states::relations::Present;
+use gb_states::relations::{Present, reads_other};
 use std::alloc::AllocError;
 
 // ---- what there is
@@ -137,8 +137,8 @@ fn pair_number(pair: WordPair) -> u8
     }
 }
 
-/// Adds the pair that is 0 where Z is set, where there is one.
-fn put_zero(pair: Option<WordPair>, out: &mut Vec<u8>) -> Result<(), AllocError>
+/// Adds the pair that is 0 where Z is set, or a link's base, where there is one.
+fn put_pair(pair: Option<WordPair>, out: &mut Vec<u8>) -> Result<(), AllocError>
     ensures { OnOk result (out.new.items ≡ out.old.items ++ told.optional told.pair pair) }
 {
     match pair {
@@ -149,7 +149,7 @@ fn put_zero(pair: Option<WordPair>, out: &mut Vec<u8>) -> Result<(), AllocError>
 
 fn other_number(other: Other) -> u8
     ensures exact { result ≡ told.other_number other }
-    ensures few { result ≤ 9 }
+    ensures few { result ≤ 12 }
 {
     match other {
         Other::Register(Register::A) => 0,
@@ -160,6 +160,7 @@ fn other_number(other: Other) -> u8
         Other::Register(Register::H) => 5,
         Other::Register(Register::L) => 6,
         Other::Pair(pair) => 7 + pair_number(pair),
+        Other::Nothing => 12,
     }
 }
 
@@ -174,23 +175,34 @@ fn put_width(width: u16, out: &mut Vec<u8>) -> Result<(), AllocError>
     }
 }
 
-/// A link's form: what else it reads, and 128 more where it has a width.
-fn form_number(other: Other, width: u16) -> u8
-    ensures { result ≡ told.form_number other width }
+/// Adds the factor of what is read, where that is something.
+fn put_factor(other: Other, factor: u16, out: &mut Vec<u8>) -> Result<(), AllocError>
+    ensures { OnOk result (out.new.items ≡ out.old.items ++ told.factor other factor) }
 {
-    let number = 1 + other_number(other);
-    if width == 0 { number } else { 128 + number }
+    if reads_other(other) {
+        put(&[(factor % 256) as u8], out)
+    } else {
+        Ok(())
+    }
 }
 
-/// Adds a link's form, its factor, its sum and its width; 0 where there is none.
+/// A link's form: what else it reads, 64 more where it has a base, and 128 more where it has a width.
+fn form_number(link: &Link) -> u8
+    ensures { result ≡ told.form_number link.now }
+{
+    128 * flag(link.width != 0) + (64 * flag(link.base.is_some()) + (1 + other_number(link.other)))
+}
+
+/// Adds a link's form, its factor, its base, its sum and its width; 0 where there is none.
 fn put_link(link: Option<Link>, out: &mut Vec<u8>) -> Result<(), AllocError>
     ensures { OnOk result (out.new.items ≡ out.old.items ++ told.link link) }
 {
     match link {
         None => put(&[0], out),
         Some(link) => {
-            let form = form_number(link.other, link.width);
-            put(&[form, (link.factor % 256) as u8], out)?;
+            put(&[form_number(&link)], out)?;
+            put_factor(link.other, link.factor, out)?;
+            put_pair(link.base, out)?;
             put(&word(link.sum), out)?;
             put_width(link.width, out)
         }
@@ -237,7 +249,7 @@ pub(crate) fn put_parts(
     ensures { OnOk result (out.new.items ≡ out.old.items ++ told.parts_by memory.now relations.now) }
 {
     put_byte(memory, &relations.byte, out)?;
-    put_zero(relations.zero, out)?;
+    put_pair(relations.zero, out)?;
     put_pairs(&relations.pairs, out)
 }
 

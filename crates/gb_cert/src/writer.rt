@@ -91,7 +91,7 @@ pub enum WriteFault {
     /// A state has more than 32 cells, in version 1 or 2.
     Cells,
     /// A state knows more of several parts together than the version can say: than a test of A, in version 1 or 2, or a link with a
-    /// width, in version 3.
+    /// base or a width, in version 3. No version can say a link that reads nothing and has no base, or has a factor other than 1.
     Relations,
     /// A state says what the version can't: in version 1 or 2 that a value is a copy of the return word's high or low byte; in versions
     /// 1 to 3 that it is a copy of what its procedure declares, low bits of a value, that some of the controller's registers are kept

@@ -20,7 +20,8 @@ use Rattle.gb_fields.specs.Rules.{usual_base}
 use Rattle.gb_fields.specs.Format.{Read, byte}
 use Rattle.gb_states.specs.Rules.{role_of}
 use Rattle.gb_fields.specs.Reading.{word, quad, node_number_by, node_number, byte_between, word_between, count_within, yes_no, returns_at, entry_at, nothing, base_at, times, need_at, key_at, magic_at, region_at, node_count_at}
-use Rattle.gb_states.specs.RelationReading.{defaulted, present_at, registers_at, address_at, item_at, is_somewhere, place_by, memory_at, no_items, byte_at, pair_at, bounds_at, form_at, factor_at, width_at, link_of, link_at, facts_at, pairs_at, relations_at, relations_by}
+use Rattle.gb_states.specs.Links.{reads_other}
+use Rattle.gb_states.specs.RelationReading.{defaulted, present_at, registers_at, address_at, item_at, is_somewhere, place_by, memory_at, no_items, byte_at, pair_at, bounds_at, form_at, factor_at, factor_of, width_at, link_of, link_at, facts_at, pairs_at, relations_at, relations_by}
 use Rattle.gb_states.specs.Reading.{origin_at, val_at, may_at, ime_at, test_at, flg_at, ctl_at, vals_at, core_at, item_count_at, items_at, cell_at, cells_at, state_at, range_at, ranges_at, exit_at, needed_at, body_at, procedure_at, node_at}
 use Rattle.gb_states.proofs.Formats.{same_pair}
 use Rattle.gb_cert_place.proofs.Locality.{IsLocal, IsLocal-byte, IsLocal-both, IsLocal-followed, IsLocal-mapped, IsLocal-checked, IsLocal-optional, IsLocal-several, IsLocal-counted}
@@ -151,14 +152,17 @@ IsLocal-width : (there : Bool) → IsLocal (defaulted 0 there width_at)
 unfolding width_at
 IsLocal-width there = IsLocal-defaulted 0 there _ (IsLocal-word_between 1 65535)
 
-IsLocal-link_of : (o : Option Other) (there : Bool) → IsLocal (link_of o there)
+IsLocal-factor_of : (other : Other) → IsLocal (factor_of other)
 unfolding factor_at
-IsLocal-link_of None there = IsLocal-nothing None
-IsLocal-link_of (Some o) there = IsLocal-mapped _ _ (IsLocal-both _ _ (IsLocal-mapped _ _ (IsLocal-byte_between 1 255)) (IsLocal-both _ _ IsLocal-word (IsLocal-width there)))
+IsLocal-factor_of other = IsLocal-defaulted 1 (reads_other other) _ (IsLocal-mapped _ _ (IsLocal-byte_between 1 255))
+
+IsLocal-link_of : (o : Option Other) (base width : Bool) → IsLocal (link_of o base width)
+IsLocal-link_of None base width = IsLocal-nothing None
+IsLocal-link_of (Some o) base width = IsLocal-mapped _ _ (IsLocal-both _ _ (IsLocal-factor_of o) (IsLocal-both _ _ (IsLocal-optional base _ IsLocal-pair) (IsLocal-both _ _ IsLocal-word (IsLocal-width width))))
 
 IsLocal-link : (wide : Bool) → IsLocal (link_at wide)
 unfolding link_at
-IsLocal-link wide = IsLocal-mapped _ _ (IsLocal-followed _ _ (IsLocal-form wide) (λ f. IsLocal-link_of f.0 f.1))
+IsLocal-link wide = IsLocal-mapped _ _ (IsLocal-followed _ _ (IsLocal-form wide) (λ f. IsLocal-link_of f.other f.has_base f.has_width))
 
 IsLocal-facts : (wide : Bool) → IsLocal (facts_at wide)
 unfolding facts_at

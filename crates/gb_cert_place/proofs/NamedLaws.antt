@@ -1,12 +1,12 @@
 -- Where a walk over what version 4 names stops: facts, the addresses that a procedure names to be kept, and its mark.
-use Rattle.std.proofs.Common.{◌≡◌, ℕ, zero, suc, ◌==◌, Bool, true, false, List, [], ◌∷◌, length, Option, Ok, refl, sym, ◌∙◌, ap, subst, arith}
+use Rattle.std.proofs.Common.{◌≡◌, ℕ, ◌==◌, Bool, true, false, List, length, Option, Ok, refl, sym, ◌∙◌, ap, subst, arith}
 use Rattle.std.proofs.lemmas.Bool.Decides.{nat_tests}
 use Rattle.gb_ops.specs.declared.machine.Region.{Region}
 use Rattle.gb_domain.specs.declared.rules.Rules.{Rules}
 use Rattle.gb_domain.specs.Limits.{rules_of}
 use Rattle.gb_domain.specs.Types.{AbsState}
 use Rattle.gb_fields.specs.Limits.{fact_limit, kept_room}
-use Rattle.gb_fields.specs.Format.{Read, go_on, followed, both, mapped, several, byte}
+use Rattle.gb_fields.specs.Format.{Read, followed, both, mapped, several, byte}
 use Rattle.gb_fields.specs.Reading.{count_within, word_count_within}
 use Rattle.gb_states.specs.declared.form.ProcedureForm.{ProcedureForm}
 use Rattle.gb_states.specs.declared.form.Form.TheVariants.{Older, Fourth}

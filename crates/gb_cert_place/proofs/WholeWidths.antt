@@ -4,28 +4,25 @@ use Rattle.std.proofs.lemmas.Bool.Decides.{nat_tests}
 use Rattle.gb_ops.specs.declared.machine.Region.{Region}
 use Rattle.gb_domain.specs.declared.places.StackBytes.{StackBytes}
 use Rattle.gb_domain.specs.declared.summary.Shadows.{Shadows}
-use Rattle.gb_domain.specs.Places.{no_byte}
 use Rattle.gb_domain.specs.Summaries.{no_bank_shadows}
 use Rattle.gb_fields.specs.declared.fault.CertFault.{CertFault}
 use Rattle.gb_fields.specs.declared.fault.CertFault.TheVariants as fault
 use Rattle.gb_fields.specs.Limits.{fill_limit}
 use Rattle.gb_fields.specs.Format.{Read, go_on, followed, if_passes, several, counted, byte}
 use Rattle.gb_fields.specs.Reading.{is_between, count_within, word_count_within, offset_at}
-use Rattle.gb_states.specs.declared.relations.InMemory.{InMemory}
 use Rattle.gb_states.specs.declared.form.Form.{Form}
 use Rattle.gb_states.specs.declared.form.Form.TheVariants.{Older, Fourth}
-use Rattle.gb_states.specs.declared.relations.Present.{Present}
 use Rattle.gb_states.specs.declared.whole.Declared.{Declared}
 use Rattle.gb_states.specs.declared.role.Role.{Role}
 use Rattle.gb_states.specs.Forms.{val_by, cell_by}
-use Rattle.gb_states.specs.RelationReading.{address_at, pair_at, bounds_at, pairs_at, parts_at}
+use Rattle.gb_states.specs.RelationReading.{address_at, bounds_at}
 use Rattle.gb_states.specs.WholeRules.{is_said}
 use Rattle.gb_states.specs.WholeReading.{val_at, kept_at, stretch_at, said_at, interval_at, fact_at, end_by, end_of, end_at, fill_at, fill_count_at, fills_at, levels_at, no_levels, places_at, shadows_at, others_at, bank_shadows_at, declared_at, summary_at, free_address_at, ctl_at, vals_at, core_at, cell_at, told_at, number_by, key_by, may_be_item, place_of}
 use Rattle.gb_states.proofs.Formats.{went_on, same_pair}
 use Rattle.gb_cert_place.specs.Forms.{core_by}
 use Rattle.gb_cert_place.specs.Layout.{procedure_width, procedure_width_by}
 use Rattle.gb_cert_place.proofs.Locality.{failed, same_fault, passed}
-use Rattle.gb_cert_place.proofs.Widths.{IsWithin, IsWithin-more, cut_then, IsWithin-byte, IsWithin-followed, IsWithin-both, IsWithin-mapped, IsWithin-checked, IsWithin-word, IsWithin-byte_between, IsWithin-word_between, IsWithin-count_within, IsWithin-yes_no, IsWithin-val, IsWithin-may, IsWithin-ime, IsWithin-test, IsWithin-flg, IsWithin-nothing, IsWithin-defaulted, IsWithin-optional, IsWithin-present, IsWithin-one_byte, IsWithin-parts, IsWithin-core, IsWithin-cell}
+use Rattle.gb_cert_place.proofs.Widths.{IsWithin, IsWithin-more, cut_then, IsWithin-byte, IsWithin-followed, IsWithin-both, IsWithin-mapped, IsWithin-checked, IsWithin-word, IsWithin-byte_between, IsWithin-word_between, IsWithin-count_within, IsWithin-yes_no, IsWithin-val, IsWithin-may, IsWithin-ime, IsWithin-test, IsWithin-flg, IsWithin-nothing, IsWithin-defaulted, IsWithin-optional, IsWithin-present, IsWithin-parts, IsWithin-core, IsWithin-cell}
 
 -- ---- so many, at most
 
@@ -189,11 +186,11 @@ IsWithin-summary facts region d =
     (IsWithin-both _ _ 75 4 (IsWithin-defaulted no_levels d.levels _ 75 (IsWithin-levels facts region))
     (IsWithin-optional d.aside _ 4 (IsWithin-mapped _ _ 4 (IsWithin-checked _ _ _ 4 (λ h. cc) (IsWithin-both _ _ 2 2 IsWithin-word IsWithin-word))))))
 
-pub IsWithin-told : (facts : ℕ) (k : StackBytes) (may_be_aside : Bool) (test : Option ℕ) → IsWithin (told_at facts k may_be_aside test) 122
+pub IsWithin-told : (facts : ℕ) (k : StackBytes) (may_be_aside : Bool) (test : Option ℕ) → IsWithin (told_at facts k may_be_aside test) 125
 unfolding told_at
 IsWithin-told facts k may_be_aside test =
-    IsWithin-mapped _ _ 122 (IsWithin-followed _ _ 2 120 (IsWithin-followed _ _ 1 1 (IsWithin-present test) (λ p. IsWithin-declared may_be_aside (may_be_item k p)))
-    (λ d. IsWithin-both _ _ 35 85 (IsWithin-parts true k test (place_of d) d.0) (IsWithin-summary facts k.region d.1)))
+    IsWithin-mapped _ _ 125 (IsWithin-followed _ _ 2 123 (IsWithin-followed _ _ 1 1 (IsWithin-present test) (λ p. IsWithin-declared may_be_aside (may_be_item k p)))
+    (λ d. IsWithin-both _ _ 38 85 (IsWithin-parts true k test (place_of d) d.0) (IsWithin-summary facts k.region d.1)))
 
 -- ---- blocks
 

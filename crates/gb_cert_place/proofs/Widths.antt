@@ -1,5 +1,5 @@
 -- How many bytes a reader takes and needs at most.
-use Rattle.std.proofs.Common.{◌≡◌, ℕ, ◌+◌, ◌≤◌, ◌==◌, nat_le, Bool, true, false, List, [], ◌∷◌, length, slice_index_or, Option, Some, None, Result, Ok, Err, refl, sym, ◌∙◌, ap, subst, arith}
+use Rattle.std.proofs.Common.{◌≡◌, ℕ, ◌+◌, ◌/◌, ◌%◌, ◌≤◌, ◌==◌, nat_le, Bool, true, false, List, [], ◌∷◌, length, slice_index_or, Option, Some, None, Result, Ok, Err, refl, sym, ◌∙◌, ap, subst, arith}
 use Rattle.std.proofs.lemmas.Bool.Decides.{nat_tests}
 use Rattle.gb_ops.specs.declared.machine.Region.{Region}
 use Rattle.gb_fields.specs.declared.fault.CertFault.{CertFault}
@@ -19,7 +19,9 @@ use Rattle.gb_fields.specs.Rules.{is_any_version_of, any_rules_of}
 use Rattle.gb_fields.specs.Format.{Read, go_on, followed, both, mapped, if_passes, checked, optional, byte}
 use Rattle.gb_fields.specs.Reading.{word, quad, node_number_by, node_number, byte_between, word_between, count_within, yes_no, returns_at, entry_at, nothing, base_at, need_at, region_at, node_count_at, Letters, is_magic, kind_of, magic_at, any_version_at, procedure_count_by, procedure_count_at, to_head, any_head_at}
 use Rattle.gb_states.specs.Reading.{origin_at, val_at, may_at, ime_at, test_at, flg_at, ctl_at, vals_at, core_at, item_count_at, cell_at, range_at}
-use Rattle.gb_states.specs.RelationReading.{defaulted, present_at, registers_at, address_at, item_at, place_by, memory_at, no_items, byte_at, pair_at, bounds_at, is_form, to_form, form_at, factor_at, width_at, link_of, link_at, facts_at, pairs_at, parts_at, relations_at}
+use Rattle.gb_states.specs.declared.relations.LinkForm.{LinkForm}
+use Rattle.gb_states.specs.Links.{reads_other}
+use Rattle.gb_states.specs.RelationReading.{defaulted, present_at, registers_at, address_at, item_at, place_by, memory_at, no_items, byte_at, pair_at, bounds_at, is_form, to_form, form_at, factor_at, factor_of, width_at, link_of, link_at, facts_at, pairs_at, parts_at, relations_at}
 use Rattle.gb_states.proofs.Formats.{went_on, same_pair}
 use Rattle.gb_cert_place.specs.Layout.{number_width, number_width_by, procedure_width, procedure_width_by}
 use Rattle.gb_cert_place.proofs.Locality.{failed, same_fault}
@@ -244,54 +246,86 @@ unfolding width_at
 IsWithin-width true = IsWithin-word_between 1 65535
 IsWithin-width false = IsWithin-nothing 0 0
 
-IsWithin-link_of : (o : Option Other) (there : Bool) → IsWithin (link_of o there) (1 + (2 + width_room there))
+-- the most bytes of a base behind a form that has one or not
+abbrev base_room : Bool → ℕ
+base_room true = 1
+base_room false = 0
+
+IsWithin-pair : IsWithin pair_at 1
+unfolding pair_at
+IsWithin-pair = IsWithin-mapped _ _ 1 (IsWithin-byte_between 0 2)
+
+IsWithin-link_base : (there : Bool) → IsWithin (optional there pair_at) (base_room there)
+IsWithin-link_base true = IsWithin-optional true pair_at 1 IsWithin-pair
+IsWithin-link_base false = IsWithin-nothing None 0
+
+IsWithin-factor : (other : Other) → IsWithin (factor_of other) 1
 unfolding factor_at
-IsWithin-link_of None there = IsWithin-nothing None (1 + (2 + width_room there))
-IsWithin-link_of (Some o) there =
-    IsWithin-mapped _ _ (1 + (2 + width_room there)) (IsWithin-both _ _ 1 (2 + width_room there) (IsWithin-mapped _ _ 1 (IsWithin-byte_between 1 255)) (IsWithin-both _ _ 2 (width_room there) IsWithin-word (IsWithin-width there)))
+IsWithin-factor other = IsWithin-defaulted 1 (reads_other other) _ 1 (IsWithin-mapped _ _ 1 (IsWithin-byte_between 1 255))
+
+-- the most bytes behind such a form
+abbrev behind_form : Bool → Bool → ℕ
+behind_form base width = 1 + (base_room base + (2 + width_room width))
+
+IsWithin-link_of : (o : Option Other) (base width : Bool) → IsWithin (link_of o base width) (behind_form base width)
+IsWithin-link_of None base width = IsWithin-nothing None (behind_form base width)
+IsWithin-link_of (Some o) base width =
+    IsWithin-mapped _ _ (behind_form base width) (IsWithin-both _ _ 1 (base_room base + (2 + width_room width)) (IsWithin-factor o)
+    (IsWithin-both _ _ (base_room base) (2 + width_room width) (IsWithin-link_base base) (IsWithin-both _ _ 2 (width_room width) IsWithin-word (IsWithin-width width))))
 
 IsWithin-form : (wide : Bool) → IsWithin (form_at wide) 1
 unfolding form_at
 IsWithin-form wide = IsWithin-mapped _ _ 1 (IsWithin-checked _ _ byte 1 (λ h. cc) IsWithin-byte)
 
--- Where links have no width, no form has one.
-no_width : (bytes : List ℕ) (f : Option Other × Bool) (rest : List ℕ) → form_at false bytes ≡ Ok (f, rest) → f.1 ≡ false
+-- Where links have no base and no width, no form has one.
+abbrev IsOlderForm : LinkForm → Type 0
+IsOlderForm f = (f.has_base ≡ false) × (f.has_width ≡ false)
+
+older_form : (bytes : List ℕ) (f : LinkForm) (rest : List ℕ) → form_at false bytes ≡ Ok (f, rest) → IsOlderForm f
 unfolding form_at
-no_width bytes f rest e =
+older_form bytes f rest e =
     let c = went_on (checked fault.Field (is_form false) byte bytes) (λ n end. Ok (to_form n, end)) (f, rest) e in
     let d = went_on (byte bytes) (λ n end. if_passes fault.Field (is_form false n) n end) (c.0, c.1) c.2 in
     let n : d.0 ≡ c.0 = (passes fault.Field (is_form false d.0) d.0 c.0 d.1 c.1 d.3).0 in
-    sym (ap (λ (g : Option Other × Bool). g.1) (same_pair (to_form c.0) f c.1 rest c.3).0) ∙ low c.0 (subst (λ k. is_form false k ≡ true) n (passed (is_form false d.0) d.0 c.0 d.1 c.1 d.3))
+    let low = subst (λ k. is_form false k ≡ true) n (passed (is_form false d.0) d.0 c.0 d.1 c.1 d.3) in
+    subst IsOlderForm (same_pair (to_form c.0) f c.1 rest c.3).0 (no_base c.0 low, no_width c.0 low)
   where
     passed : (b : Bool) (x y : ℕ) (rest end : List ℕ) → if_passes fault.Field b x rest ≡ Ok (y, end) → b ≡ true
     passed true x y rest end h = refl
     passed false x y rest end h = cc
 
-    low : (n : ℕ) → is_form false n ≡ true → nat_le 128 n ≡ false
-    low n h = grind (arith, nat_tests)
+    no_base : (n : ℕ) → is_form false n ≡ true → (n / 64 % 2 == 1) ≡ false
+    no_base n h = grind (arith, nat_tests)
 
--- by whether links may have a width: the most bytes of a link, of what is known of a pair, and of all that is known together
+    no_width : (n : ℕ) → is_form false n ≡ true → nat_le 128 n ≡ false
+    no_width n h = grind (arith, nat_tests)
+
+-- by whether links may have a base and a width: the most bytes of a link, of what is known of a pair, and of all that is known together
 abbrev link_room : Bool → ℕ
-link_room true = 6
+link_room true = 7
 link_room false = 4
 
 abbrev facts_room : Bool → ℕ
-facts_room true = 10
+facts_room true = 11
 facts_room false = 8
 
 abbrev pub parts_room : Bool → ℕ
-parts_room true = 35
+parts_room true = 38
 parts_room false = 29
 
 IsWithin-link : (wide : Bool) → IsWithin (link_at wide) (link_room wide)
 unfolding link_at
-IsWithin-link true = IsWithin-mapped _ _ 6 (IsWithin-followed _ _ 1 5 (IsWithin-form true) (λ f. by f.0 f.1))
+IsWithin-link true = IsWithin-mapped _ _ 7 (IsWithin-followed _ _ 1 6 (IsWithin-form true) (λ f. by f.other f.has_base f.has_width))
   where
-    by : (o : Option Other) (there : Bool) → IsWithin (link_of o there) 5
-    by o true = IsWithin-link_of o true
-    by o false = IsWithin-more _ 3 5 (omega arith) (IsWithin-link_of o false)
-IsWithin-link false =
-    IsWithin-mapped _ _ 4 (IsWithin-followed_where _ _ 1 3 (λ f. f.1 ≡ false) no_width (IsWithin-form false) (λ f h. subst (λ there. IsWithin (link_of f.0 there) 3) (sym h) (IsWithin-link_of f.0 false)))
+    by : (o : Option Other) (base width : Bool) → IsWithin (link_of o base width) 6
+    by o true true = IsWithin-link_of o true true
+    by o true false = IsWithin-more _ 4 6 (omega arith) (IsWithin-link_of o true false)
+    by o false true = IsWithin-more _ 5 6 (omega arith) (IsWithin-link_of o false true)
+    by o false false = IsWithin-more _ 3 6 (omega arith) (IsWithin-link_of o false false)
+IsWithin-link false = IsWithin-mapped _ _ 4 (IsWithin-followed_where _ _ 1 3 IsOlderForm older_form (IsWithin-form false) older)
+  where
+    older : (f : LinkForm) → IsOlderForm f → IsWithin (link_of f.other f.has_base f.has_width) 3
+    older f h = subst (λ base. IsWithin (link_of f.other base f.has_width) 3) (sym h.0) (subst (λ width. IsWithin (link_of f.other false width) 3) (sym h.1) (IsWithin-link_of f.other false false))
 
 facts_by : (wide : Bool) (n : ℕ) → IsWithin (link_at wide) n → IsWithin (facts_at wide) (4 + n)
 unfolding facts_at bounds_at
@@ -299,19 +333,19 @@ facts_by wide n a =
     IsWithin-checked _ _ _ (4 + n) (λ h. cc) (IsWithin-mapped _ _ (4 + n) (IsWithin-both _ _ 4 n (IsWithin-mapped _ _ 4 (IsWithin-checked _ _ _ 4 (λ h. cc) (IsWithin-both _ _ 2 2 IsWithin-word IsWithin-word))) a))
 
 pub IsWithin-facts : (wide : Bool) → IsWithin (facts_at wide) (facts_room wide)
-IsWithin-facts true = facts_by true 6 (IsWithin-link true)
+IsWithin-facts true = facts_by true 7 (IsWithin-link true)
 IsWithin-facts false = facts_by false 4 (IsWithin-link false)
 
 parts_by : (wide : Bool) (k : StackBytes) (test : Option ℕ) (place : InMemory) (p : Present) (n : ℕ) → IsWithin (facts_at wide) n → IsWithin (parts_at wide k test place p) (4 + (1 + (n + (n + n))))
-unfolding pairs_at pair_at
+unfolding pairs_at
 parts_by wide k test place p n a =
     let known : (there : Bool) → IsWithin (defaulted nothing_known there (facts_at wide)) n = λ there. IsWithin-defaulted nothing_known there (facts_at wide) n a in
     IsWithin-both _ _ 4 (1 + (n + (n + n))) (IsWithin-defaulted no_byte p.byte _ 4 (IsWithin-one_byte k test place p.bits))
-    (IsWithin-both _ _ 1 (n + (n + n)) (IsWithin-optional p.zero _ 1 (IsWithin-mapped _ _ 1 (IsWithin-byte_between 0 2)))
+    (IsWithin-both _ _ 1 (n + (n + n)) (IsWithin-optional p.zero _ 1 IsWithin-pair)
     (IsWithin-mapped _ _ (n + (n + n)) (IsWithin-both _ _ n (n + n) (known p.bc) (IsWithin-both _ _ n n (known p.de) (known p.hl)))))
 
 pub IsWithin-parts : (wide : Bool) (k : StackBytes) (test : Option ℕ) (place : InMemory) (p : Present) → IsWithin (parts_at wide k test place p) (parts_room wide)
-IsWithin-parts true k test place p = parts_by true k test place p 10 (IsWithin-facts true)
+IsWithin-parts true k test place p = parts_by true k test place p 11 (IsWithin-facts true)
 IsWithin-parts false k test place p = parts_by false k test place p 8 (IsWithin-facts false)
 
 pub IsWithin-relations : (region : Region) (test : Option ℕ) → IsWithin (relations_at region test) 30

@@ -3,6 +3,7 @@ use Rattle.std.specs.Prelude.{◌≡◌, ℕ, ◌<◌, Bool, true, ◌&&◌, ◌
 use Rattle.gb_domain.specs.declared.pairs.WordPair.{WordPair}
 use Rattle.gb_domain.specs.declared.pairs.WordPair.TheVariants as pair
 use Rattle.gb_domain.specs.declared.pairs.Bounds.{Bounds}
+use Rattle.gb_domain.specs.declared.pairs.PairBounds.{PairBounds}
 use Rattle.gb_domain.specs.declared.pairs.Link.{Link}
 use Rattle.gb_domain.specs.declared.pairs.PairFacts.{PairFacts}
 use Rattle.gb_domain.specs.declared.pairs.Pairs.{Pairs}
@@ -10,6 +11,9 @@ use Rattle.gb_domain.specs.declared.pairs.Pairs.{Pairs}
 -- any word
 abbrev pub any_bounds : Bounds
 any_bounds = record { first = 0; last = 0xFFFF }
+
+abbrev pub any_pairs : PairBounds
+any_pairs = record { bc = any_bounds; de = any_bounds; hl = any_bounds }
 
 abbrev pub nothing_known : PairFacts
 nothing_known = record { bounds = any_bounds; link = None }
@@ -22,6 +26,12 @@ abbrev pub facts_of : WordPair → Pairs → PairFacts
 facts_of pair.Bc s = s.bc
 facts_of pair.De s = s.de
 facts_of pair.Hl s = s.hl
+
+-- the bounds of one of them
+abbrev pub bounds_in : WordPair → PairBounds → Bounds
+bounds_in pair.Bc b = b.bc
+bounds_in pair.De b = b.de
+bounds_in pair.Hl b = b.hl
 
 -- a factor from -128 to 127, but not 0, modulo 65,536
 abbrev pub is_factor : ℕ → Bool

@@ -23,7 +23,7 @@ pub mod values;
 
 pub use interval::StridedInterval;
 pub use low_bits::LowBits;
-pub use pairs::{Bounds, Link, Other, PairFacts, Pairs, WordPair};
+pub use pairs::{Bounds, Link, Other, PairBounds, PairFacts, Pairs, WordPair};
 pub use places::{OneByte, Place, StackBytes, Test};
 pub use program::Program;
 pub use relations::Relations;

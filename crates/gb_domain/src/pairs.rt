@@ -15,10 +15,18 @@ pub enum WordPair {
 }
 
 /// An interval of words, both ends included.
-#[derive(Clone, Copy)]
+#[derive(Clone, Copy, PartialEq, Eq)]
 pub struct Bounds {
     pub first: u16,
     pub last: u16,
+}
+
+/// Bounds of each pair.
+#[derive(Clone, Copy, PartialEq, Eq)]
+pub struct PairBounds {
+    pub bc: Bounds,
+    pub de: Bounds,
+    pub hl: Bounds,
 }
 
 /// What a link reads beside its own pair.
@@ -26,14 +34,19 @@ pub struct Bounds {
 pub enum Other {
     Register(Register),
     Pair(WordPair),
+    /// It counts as 0: so by the rules of version 4, where there is a base.
+    Nothing,
 }
 
-/// Of its pair: pair + factor * other is one of the words from the sum on, as many more as the width, modulo 65,536.
+/// Of its pair: pair + factor * other - base is one of the words from the sum on, as many more as the width, modulo 65,536. The
+/// base is what a pair held as the procedure was entered; none counts as 0.
 #[derive(Clone, Copy)]
 pub struct Link {
     pub other: Other,
     /// -128 to 127, but 0, modulo 65,536.
     pub factor: u16,
+    /// None by the rules of versions 1 to 3.
+    pub base: Option<WordPair>,
     pub sum: u16,
     /// 0 by the rules of versions 1 to 3.
     pub width: u16,
@@ -58,6 +71,13 @@ pub struct Pairs {
 pub const ANY_BOUNDS: Bounds = Bounds {
     first: 0,
     last: 0xFFFF,
+};
+
+/// Any words in each pair.
+pub const ANY_PAIRS: PairBounds = PairBounds {
+    bc: ANY_BOUNDS,
+    de: ANY_BOUNDS,
+    hl: ANY_BOUNDS,
 };
 
 /// Nothing is known of a pair.

@@ -3,6 +3,7 @@
 ghost use Rattle.std.specs.Prelude.{◌≡◌};
 ghost use Rattle.gb_domain.specs.Settings.{known_base};
 
+use crate::pairs::PairBounds;
 use crate::rules::Rules;
 
 /// Where a state stands: by which rules it is taken on, in which procedure, and above which address its items end.
@@ -15,6 +16,8 @@ pub struct Setting {
     pub is_main: bool,
     /// The address above the oldest item, as the certificate says; 0 where it says nothing.
     pub base: u16,
+    /// Within which bounds the pairs lay as the procedure was entered, as far as its rules know; links may speak of these words.
+    pub entered: PairBounds,
 }
 
 impl Setting {

@@ -84,10 +84,12 @@ fn pair_name(pair: WordPair) -> &'static str {
     }
 }
 
-fn other_name(other: Other) -> &'static str {
+/// What a link reads besides its pair and its base, if it reads something.
+fn other_name(other: Other) -> Option<&'static str> {
     match other {
-        Other::Register(register) => register.name(),
-        Other::Pair(pair) => pair_name(pair),
+        Other::Register(register) => Some(register.name()),
+        Other::Pair(pair) => Some(pair_name(pair)),
+        Other::Nothing => None,
     }
 }
 
@@ -122,11 +124,18 @@ fn fmt_link<W: fmt::Write>(pair: &str, link: Link, f: &mut fmt::Formatter<W>) ->
     let Link {
         other,
         factor,
+        base,
         sum,
         width,
     } = link;
-    let other = other_name(other);
-    write!(f, "{pair} + ${factor:04X} * {other} = ${sum:04X}")?;
+    write!(f, "{pair}")?;
+    if let Some(other) = other_name(other) {
+        write!(f, " + ${factor:04X} * {other}")?;
+    }
+    if let Some(base) = base {
+        write!(f, " - {} at entry", pair_name(base))?;
+    }
+    write!(f, " = ${sum:04X}")?;
     if width != 0 {
         let last = sum.wrapping_add(width);
         write!(f, " to ${last:04X}")?;

@@ -6,7 +6,7 @@ use Rattle.std.proofs.Math.Nat.{mul-le-mul_left}
 use Rattle.gb_domain.specs.declared.pairs.Bounds.{Bounds}
 use Rattle.gb_domain.specs.declared.pairs.Link.{Link}
 use Rattle.gb_pairs.specs.declared.covering.Arc.{Arc}
-use Rattle.gb_pairs.specs.Meaning.{AreLinked}
+use Rattle.gb_pairs.proofs.BaseLaws.{AreMet}
 use Rattle.gb_pairs.specs.Reduced.{is_rising, pair_at, last_pair_at}
 use Rattle.gb_pairs.specs.Covering.{arc, arc_by, is_arc_in, arc_of_bounds, arc_of_link, arc_of_sums, arc_of_both, has_sums, follows_on}
 use Rattle.gb_pairs.specs.Sound.{Within}
@@ -55,10 +55,10 @@ IsOn-bounds b w h =
     let is : w ≡ b.first + (w - b.first) = omega arith in
     record { more = w - b.first; most = omega arith; is = ap (λ n. n % 65536) is }
 
-pub AreLinked-on : (l : Link) (w n : ℕ) → IsOn (arc_of_sums l) (w + l.factor * n) → AreLinked l w n
-AreLinked-on l w n h = record { more = h.more; most = h.most; sum = h.is }
+pub AreMet-on : (l : Link) (w n : ℕ) → IsOn (arc_of_sums l) (w + l.factor * n) → AreMet l w n
+AreMet-on l w n h = record { more = h.more; most = h.most; sum = h.is }
 
-pub IsOn-sums : (l : Link) (w n : ℕ) → AreLinked l w n → IsOn (arc_of_sums l) (w + l.factor * n)
+pub IsOn-sums : (l : Link) (w n : ℕ) → AreMet l w n → IsOn (arc_of_sums l) (w + l.factor * n)
 IsOn-sums l w n h = record { more = h.more; most = h.most; is = h.sum }
 
 -- ---- a pair by its link
@@ -90,7 +90,7 @@ span_most m a b width more h k =
     omega arith
 
 pub IsOn-link :
-    (l : Link) (o : Bounds) (w n : ℕ) → Within o n → AreLinked l w n → IsOnIf (arc_of_link l o) w
+    (l : Link) (o : Bounds) (w n : ℕ) → Within o n → AreMet l w n → IsOnIf (arc_of_link l o) w
 IsOn-link l o w n h linked = choose (is_rising l)
   where
     up : o.last - n ≤ o.last - o.first
@@ -164,8 +164,8 @@ IsOn-has_sums l None n h k = cc
 IsOn-has_sums l (Some a) n h k = IsOn-in a (arc_of_sums l) n h k
 
 -- a link that follows from where its pair is
-pub AreLinked-follows :
+pub AreMet-follows :
     (l : Link) (o : Bounds) (a : Option Arc) (w n : ℕ)
-    → Within o n → IsOnIf a w → follows_on o l a ≡ true → AreLinked l w n
-AreLinked-follows l o None w n h on k = cc
-AreLinked-follows l o (Some a) w n h on k = AreLinked-on l w n (IsOn-has_sums l _ _ k (IsOn-both l o a w n h on))
+    → Within o n → IsOnIf a w → follows_on o l a ≡ true → AreMet l w n
+AreMet-follows l o None w n h on k = cc
+AreMet-follows l o (Some a) w n h on k = AreMet-on l w n (IsOn-has_sums l _ _ k (IsOn-both l o a w n h on))

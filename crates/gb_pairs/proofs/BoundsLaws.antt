@@ -34,22 +34,23 @@ word_of-is pair.Hl x = refl
 
 -- a pair's word, in the box of its bytes
 pub Within-bytes :
-    (p : WordPair) (v : Values) (x : Registers ℕ)
-    → Holds v x → Within (box (get (high_of p) v.registers) (get (low_of p) v.registers)) (word_of p x)
-Within-bytes p v x h =
+    (p : WordPair) (v : Values) (was x : Registers ℕ)
+    → Holds v was x → Within (box (get (high_of p) v.registers) (get (low_of p) v.registers)) (word_of p x)
+Within-bytes p v was x h =
     subst (λ w. Within (box (get (high_of p) v.registers) (get (low_of p) v.registers)) w) (word_of-is p x)
     (Within-box _ _ _ _ (h.registers (high_of p)) (h.registers (low_of p)))
 
-pub Within-bounds_of : (p : WordPair) (v : Values) (x : Registers ℕ) → Holds v x → Within (bounds_of p v) (word_of p x)
+pub Within-bounds_of : (p : WordPair) (v : Values) (was x : Registers ℕ) → Holds v was x → Within (bounds_of p v) (word_of p x)
 unfolding bounds_of
-Within-bounds_of p v x h =
+Within-bounds_of p v was x h =
     let own = h.pairs.each p in
-    Within-cut _ _ _ (Within-bytes p v x h) (record { least = own.first; most = own.last })
+    Within-cut _ _ _ (Within-bytes p v was x h) (record { least = own.first; most = own.last })
 
-pub Within-bounds_of_other : (o : Other) (v : Values) (x : Registers ℕ) → Holds v x → Within (bounds_of_other o v) (other_of o x)
+pub Within-bounds_of_other : (o : Other) (v : Values) (was x : Registers ℕ) → Holds v was x → Within (bounds_of_other o v) (other_of o x)
 unfolding bounds_of_other
-Within-bounds_of_other (other.Register r) v x h = record { least = (h.registers r).least; most = (h.registers r).most }
-Within-bounds_of_other (other.Pair p) v x h = Within-bounds_of p v x h
+Within-bounds_of_other (other.Register r) v was x h = record { least = (h.registers r).least; most = (h.registers r).most }
+Within-bounds_of_other (other.Pair p) v was x h = Within-bounds_of p v was x h
+Within-bounds_of_other other.Nothing v was x h = record { least = omega arith; most = omega arith }
 
 pub bounds_of_sound : (p : WordPair) (v : Values) (b : Bounds) → b ≡ bounds_of p v → IsSoundBounds (word_of p) v b
 bounds_of_sound p v b e = subst (λ c. IsSoundBounds (word_of p) v c) (sym e) (record { gives = Within-bounds_of p v })
@@ -69,3 +70,4 @@ word_below p x h =
 pub other_below : (o : Other) (x : Registers ℕ) → AreBytes x → other_of o x < 65536
 other_below (other.Register r) x h = let a = h.each r in omega arith
 other_below (other.Pair p) x h = word_below p x h
+other_below other.Nothing x h = omega arith

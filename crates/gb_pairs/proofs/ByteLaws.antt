@@ -79,13 +79,14 @@ other_move :
     → other_of o (set r n x) ≡ (other_of o x + other_by_byte r o low high) % 65536
 other_move r (other.Register s) n low high x h k = register_move r s n low high x h k
 other_move r (other.Pair q) n low high x h k = word_move r q n low high x h k
+other_move r other.Nothing n low high x h k = refl
 
 link_move :
-    (r : Register) (q : WordPair) (l : Option Link) (n low high : ℕ) (x : Registers ℕ) → AreBytes x → IsByteMove (get r x) n low high
-    → IsLinked l q x → IsLinked (link_of_byte r low high q l) q (set r n x)
-link_move r q None n low high x h k m = tt
-link_move r q (Some l) n low high x h k m =
-    IsLinked-moved l q x _ _ _ (word_move r q n low high x h k) (other_move r l.other n low high x h k) m
+    (r : Register) (q : WordPair) (l : Option Link) (n low high : ℕ) (was x : Registers ℕ) → AreBytes x → IsByteMove (get r x) n low high
+    → IsLinked l q was x → IsLinked (link_of_byte r low high q l) q was (set r n x)
+link_move r q None n low high was x h k m = tt
+link_move r q (Some l) n low high was x h k m =
+    IsLinked-moved l q was x _ _ _ (word_move r q n low high x h k) (other_move r l.other n low high x h k) m
 
 -- ---- bounds
 
@@ -136,11 +137,11 @@ weight_down H pair.Hl h = refl
 weight_down L pair.Hl h = refl
 
 facts_up :
-    (r : Register) (v : Values) (q : WordPair) (x : Registers ℕ)
-    → AreBytes x → Holds v x → get r x < 255 → HoldsPair (facts_of_byte_up r v q) q (set r ((get r x + 1) % 256) x)
-facts_up r v q x bytes h less =
+    (r : Register) (v : Values) (q : WordPair) (was x : Registers ℕ)
+    → AreBytes x → Holds v was x → get r x < 255 → HoldsPair (facts_of_byte_up r v q) q was (set r ((get r x + 1) % 256) x)
+facts_up r v q was x bytes h less =
     let ends = choose (is_half r q) refl in
-    record { first = ends.least; last = ends.most; link = link_move r q _ _ 1 256 x bytes (moves_up _ less) (h.pairs.each q).link }
+    record { first = ends.least; last = ends.most; link = link_move r q _ _ 1 256 was x bytes (moves_up _ less) (h.pairs.each q).link }
   where
     choose :
         (b : Bool) → is_half r q ≡ b
@@ -148,20 +149,20 @@ facts_up r v q x bytes h less =
     choose true e =
         subst (λ w. Within (bounds_up (weight r) (bounds_of q v)) w)
         (ap (λ n. (word_of q x + n) % 65536) (sym (weight_up r q e)) ∙ sym (word_move r q _ 1 256 x bytes (moves_up _ less)))
-        (Within-up (weight r) _ _ (Within-bounds_of q v x h))
+        (Within-up (weight r) _ _ (Within-bounds_of q v was x h))
     choose false e =
         subst (λ w. Within (facts_of q v.pairs).bounds w) (sym (word_other r q _ x e))
         (record { least = (h.pairs.each q).first; most = (h.pairs.each q).last })
 
 facts_down :
-    (r : Register) (v : Values) (q : WordPair) (x : Registers ℕ)
-    → AreBytes x → Holds v x → 0 < get r x → HoldsPair (facts_of_byte_down r v q) q (set r ((get r x + 255) % 256) x)
-facts_down r v q x bytes h more =
+    (r : Register) (v : Values) (q : WordPair) (was x : Registers ℕ)
+    → AreBytes x → Holds v was x → 0 < get r x → HoldsPair (facts_of_byte_down r v q) q was (set r ((get r x + 255) % 256) x)
+facts_down r v q was x bytes h more =
     let ends = choose (is_half r q) refl in
     record {
       first = ends.least;
       last = ends.most;
-      link = link_move r q _ _ 65535 65280 x bytes (moves_down _ more (bytes.each r)) (h.pairs.each q).link;
+      link = link_move r q _ _ 65535 65280 was x bytes (moves_down _ more (bytes.each r)) (h.pairs.each q).link;
     }
   where
     choose :
@@ -170,7 +171,7 @@ facts_down r v q x bytes h more =
     choose true e =
         subst (λ w. Within (bounds_down (weight r) (bounds_of q v)) w)
         (sym (word_move r q _ 65535 65280 x bytes (moves_down _ more (bytes.each r))))
-        (Within-down (weight r) _ _ _ (weight_down r q e) (word_below q x bytes) (Within-bounds_of q v x h))
+        (Within-down (weight r) _ _ _ (weight_down r q e) (word_below q x bytes) (Within-bounds_of q v was x h))
     choose false e =
         subst (λ w. Within (facts_of q v.pairs).bounds w) (sym (word_other r q _ x e))
         (record { least = (h.pairs.each q).first; most = (h.pairs.each q).last })
@@ -182,55 +183,55 @@ unfolding byte_incremented
 byte_incremented_sound r v o e = subst (λ s. IsSoundByteStep r 1 v s) (sym e) (record { gives = gives })
   where
     gives :
-        (x : Registers ℕ) → AreBytes x → Holds v x → HoldPairs (byte_incremented r v) (set r ((get r x + 1) % 256) x)
-    gives x bytes h = choose (nat_lt (get r v.registers).hi 255) refl
+        (was x : Registers ℕ) → AreBytes x → Holds v was x → HoldPairs (byte_incremented r v) was (set r ((get r x + 1) % 256) x)
+    gives was x bytes h = choose (nat_lt (get r v.registers).hi 255) refl
       where
         each :
             get r x < 255 → (q : WordPair)
             → HoldsPair
             (facts_of q (record { bc = facts_of_byte_up r v pair.Bc; de = facts_of_byte_up r v pair.De; hl = facts_of_byte_up r v pair.Hl }))
-            q (set r ((get r x + 1) % 256) x)
-        each less pair.Bc = facts_up r v pair.Bc x bytes h less
-        each less pair.De = facts_up r v pair.De x bytes h less
-        each less pair.Hl = facts_up r v pair.Hl x bytes h less
+            q was (set r ((get r x + 1) % 256) x)
+        each less pair.Bc = facts_up r v pair.Bc was x bytes h less
+        each less pair.De = facts_up r v pair.De was x bytes h less
+        each less pair.Hl = facts_up r v pair.Hl was x bytes h less
 
         choose :
             (b : Bool) → nat_lt (get r v.registers).hi 255 ≡ b
             → HoldPairs
             (cond b
             (record { bc = facts_of_byte_up r v pair.Bc; de = facts_of_byte_up r v pair.De; hl = facts_of_byte_up r v pair.Hl })
-            (without_register r v.pairs))
+            (without_register r v.pairs)) was
             (set r ((get r x + 1) % 256) x)
         choose true f =
             let most = (h.registers r).most in
             record { each = each (grind (arith, nat_tests)) }
-        choose false f = HoldPairs-without r v.pairs _ x (omega arith) bytes h.pairs
+        choose false f = HoldPairs-without r v.pairs _ was x (omega arith) bytes h.pairs
 
 pub byte_decremented_sound : (r : Register) (v : Values) (o : Pairs) → o ≡ byte_decremented r v → IsSoundByteStep r 255 v o
 unfolding byte_decremented
 byte_decremented_sound r v o e = subst (λ s. IsSoundByteStep r 255 v s) (sym e) (record { gives = gives })
   where
     gives :
-        (x : Registers ℕ) → AreBytes x → Holds v x → HoldPairs (byte_decremented r v) (set r ((get r x + 255) % 256) x)
-    gives x bytes h = choose (nat_lt 0 (get r v.registers).lo) refl
+        (was x : Registers ℕ) → AreBytes x → Holds v was x → HoldPairs (byte_decremented r v) was (set r ((get r x + 255) % 256) x)
+    gives was x bytes h = choose (nat_lt 0 (get r v.registers).lo) refl
       where
         each :
             0 < get r x → (q : WordPair)
             → HoldsPair
             (facts_of q (record { bc = facts_of_byte_down r v pair.Bc; de = facts_of_byte_down r v pair.De; hl = facts_of_byte_down r v pair.Hl }))
-            q (set r ((get r x + 255) % 256) x)
-        each more pair.Bc = facts_down r v pair.Bc x bytes h more
-        each more pair.De = facts_down r v pair.De x bytes h more
-        each more pair.Hl = facts_down r v pair.Hl x bytes h more
+            q was (set r ((get r x + 255) % 256) x)
+        each more pair.Bc = facts_down r v pair.Bc was x bytes h more
+        each more pair.De = facts_down r v pair.De was x bytes h more
+        each more pair.Hl = facts_down r v pair.Hl was x bytes h more
 
         choose :
             (b : Bool) → nat_lt 0 (get r v.registers).lo ≡ b
             → HoldPairs
             (cond b
             (record { bc = facts_of_byte_down r v pair.Bc; de = facts_of_byte_down r v pair.De; hl = facts_of_byte_down r v pair.Hl })
-            (without_register r v.pairs))
+            (without_register r v.pairs)) was
             (set r ((get r x + 255) % 256) x)
         choose true f =
             let least = (h.registers r).least in
             record { each = each (grind (arith, nat_tests)) }
-        choose false f = HoldPairs-without r v.pairs _ x (omega arith) bytes h.pairs
+        choose false f = HoldPairs-without r v.pairs _ was x (omega arith) bytes h.pairs

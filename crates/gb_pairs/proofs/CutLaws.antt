@@ -11,6 +11,7 @@ use Rattle.gb_domain.specs.declared.pairs.WordPair.TheVariants as pair
 use Rattle.gb_domain.specs.declared.pairs.Bounds.{Bounds}
 use Rattle.gb_domain.specs.declared.pairs.Other.{Other}
 use Rattle.gb_domain.specs.declared.pairs.Other.TheVariants as other
+use Rattle.gb_domain.specs.declared.pairs.PairBounds.{PairBounds}
 use Rattle.gb_domain.specs.declared.pairs.Link.{Link}
 use Rattle.gb_domain.specs.Pairs.{facts_of}
 use Rattle.gb_domain.specs.declared.interval.StridedInterval.{StridedInterval}
@@ -20,7 +21,7 @@ use Rattle.gb_domain.specs.Values.{is_strided}
 use Rattle.gb_vals.specs.Logic.{smaller, larger}
 use Rattle.gb_pairs.specs.declared.values.Values.{Values}
 use Rattle.gb_pairs.specs.Bounds.{cut, is_empty, high_of, low_of, box, bounds_of}
-use Rattle.gb_pairs.specs.Reduced.{pairs_at, pairs_width, cut_by_other, others_at, left_of, values_within, cut_val, with_register, with_bounds, with_register_if, with_bounds_if, cut_other, cut_other_if, high_bounds, low_bounds, with_bytes_if, settled, reduced_by_link, reduced_within, reduced_pair, reduced_once, reduced, restricted}
+use Rattle.gb_pairs.specs.Reduced.{unbased, pairs_at, pairs_width, cut_by_other, others_at, left_of, values_within, cut_val, with_register, with_bounds, with_register_if, with_bounds_if, cut_other, cut_other_if, high_bounds, low_bounds, with_bytes_if, settled, reduced_by_link, reduced_within, reduced_pair, reduced_once, reduced, restricted}
 use Rattle.gb_pairs.specs.Sound.{IsCut}
 use Rattle.gb_pairs.proofs.RegisterLaws.{each_set, each_facts}
 use Rattle.gb_pairs.proofs.StrideLaws.{IsLeft, IfSome-left, strided_left}
@@ -181,6 +182,7 @@ cut_other_cuts : (o : Other) (d : Bounds) (v : Values) → IfSome (cut_other o d
 unfolding cut_other
 cut_other_cuts (other.Register r) d v = with_register_if_cuts v v r _ (IsCut-itself v) (IfSome-cut_val _ d)
 cut_other_cuts (other.Pair p) d v = with_bounds_if_cuts v v p _ (IsCut-itself v) (IsPart-cut_left _ d)
+cut_other_cuts other.Nothing d v = IsCut-itself v
 
 cut_other_if_cuts : (o : Other) (d : Option Bounds) (v : Values) → IfSome (cut_other_if o d v) (IsCut v)
 cut_other_if_cuts o None v = IsCut-itself v
@@ -234,11 +236,11 @@ reduced_within_cuts :
 reduced_within_cuts p None b v h = settled_cuts v v p b (IsCut-itself v) h
 reduced_within_cuts p (Some l) b v h = reduced_by_link_cuts p l _ b v h
 
-pub reduced_pair_cuts : (p : WordPair) (v : Values) → IfSome (reduced_pair p v) (IsCut v)
+pub reduced_pair_cuts : (entered : PairBounds) (p : WordPair) (v : Values) → IfSome (reduced_pair entered p v) (IsCut v)
 unfolding reduced_pair
-reduced_pair_cuts p v = choose (is_empty (bounds_of p v))
+reduced_pair_cuts entered p v = choose (is_empty (bounds_of p v))
   where
-    choose : (c : Bool) → IfSome (cond c None (reduced_within p (facts_of p v.pairs).link (bounds_of p v) v)) (IsCut v)
+    choose : (c : Bool) → IfSome (cond c None (reduced_within p (unbased entered (facts_of p v.pairs).link) (bounds_of p v) v)) (IsCut v)
     choose true = tt
     choose false = reduced_within_cuts p _ (bounds_of p v) v (IsPart-bounds_of p v)
 
@@ -255,16 +257,17 @@ then_cuts f u (Some v) h k = further (f v) (k v)
     further (Some w) m = IsCut-trans u v w h m
 
 pub reduced_by_two_cuts :
-    (v : Values) → IfSome (option_and_then (reduced_pair pair.De) (reduced_pair pair.Bc v)) (IsCut v)
-reduced_by_two_cuts v = then_cuts _ v _ (reduced_pair_cuts pair.Bc v) (reduced_pair_cuts pair.De)
+    (entered : PairBounds) (v : Values) → IfSome (option_and_then (reduced_pair entered pair.De) (reduced_pair entered pair.Bc v)) (IsCut v)
+reduced_by_two_cuts entered v = then_cuts _ v _ (reduced_pair_cuts entered pair.Bc v) (reduced_pair_cuts entered pair.De)
 
-pub reduced_once_cuts : (v : Values) → IfSome (reduced_once v) (IsCut v)
+pub reduced_once_cuts : (entered : PairBounds) (v : Values) → IfSome (reduced_once entered v) (IsCut v)
 unfolding reduced_once
-reduced_once_cuts v = then_cuts _ v _ (reduced_by_two_cuts v) (reduced_pair_cuts pair.Hl)
+reduced_once_cuts entered v = then_cuts _ v _ (reduced_by_two_cuts entered v) (reduced_pair_cuts entered pair.Hl)
 
-pub reduced_cuts : (v : Values) (o : Option Values) → o ≡ reduced v → IfSome o (IsCut v)
+pub reduced_cuts : (entered : PairBounds) (v : Values) (o : Option Values) → o ≡ reduced entered v → IfSome o (IsCut v)
 unfolding reduced
-reduced_cuts v o e = subst (λ r. IfSome r (IsCut v)) (sym e) (then_cuts _ v _ (reduced_once_cuts v) reduced_once_cuts)
+reduced_cuts entered v o e =
+    subst (λ r. IfSome r (IsCut v)) (sym e) (then_cuts _ v _ (reduced_once_cuts entered v) (reduced_once_cuts entered))
 
 pub restricted_cuts : (p : WordPair) (within : Bounds) (v : Values) (o : Option Values) → o ≡ restricted p within v → IfSome o (IsCut v)
 unfolding restricted

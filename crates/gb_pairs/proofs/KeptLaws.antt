@@ -8,6 +8,7 @@ use Rattle.gb_ops.specs.Registers.{get}
 use Rattle.gb_domain.specs.declared.pairs.WordPair.{WordPair}
 use Rattle.gb_domain.specs.declared.pairs.WordPair.TheVariants as pair
 use Rattle.gb_domain.specs.declared.pairs.Bounds.{Bounds}
+use Rattle.gb_domain.specs.declared.pairs.PairBounds.{PairBounds}
 use Rattle.gb_domain.specs.declared.pairs.Link.{Link}
 use Rattle.gb_domain.specs.declared.pairs.PairFacts.{PairFacts}
 use Rattle.gb_domain.specs.declared.pairs.Pairs.{Pairs}
@@ -16,8 +17,10 @@ use Rattle.gb_vals.specs.Logic.{smaller, larger}
 use Rattle.gb_pairs.specs.declared.values.Values.{Values}
 use Rattle.gb_pairs.specs.declared.moved.HlSum.{HlSum}
 use Rattle.gb_pairs.specs.Bounds.{is_one, bounds_of}
-use Rattle.gb_pairs.specs.Written.{is_half, is_same_pair, reads, link_without, facts_without, without_register}
-use Rattle.gb_pairs.specs.Moved.{moved_link, by_if, bounds_up, bounds_down, reads_half, reads_pair, link_of_step, facts_of_step, stepped, incremented, decremented, link_of_byte, weight, facts_of_byte_up, facts_of_byte_down, byte_incremented, byte_decremented, carry_of, sums, without_hl, added}
+use Rattle.std.specs.Prelude.{is_none}
+use Rattle.gb_pairs.specs.Written.{link_without_base, facts_without_base, without_bases, is_half, is_same_pair, reads, link_without, facts_without, without_register}
+use Rattle.gb_pairs.specs.Moved.{moved_link, by_if, bounds_up, bounds_down, reads_half, reads_pair, link_of_step, facts_of_step, stepped, incremented, decremented, link_of_byte, weight, facts_of_byte_up, facts_of_byte_down, byte_incremented, byte_decremented, carry_of, sums, with_hl, link_of_sum, added}
+use Rattle.gb_pairs.specs.Copied.{is_read, equal_to, link_copied}
 use Rattle.gb_pairs.specs.Reduced.{reduced, restricted}
 use Rattle.gb_pairs.specs.Sound.{IsCut}
 use Rattle.gb_pairs.proofs.CutLaws.{IsPart-bounds_of, reduced_cuts, restricted_cuts}
@@ -162,17 +165,58 @@ sums_below : (carry : Option Bool) (x y : Bounds) → (sums carry x y).last < 65
 sums_below None x y = omega arith
 sums_below (Some carry) x y = omega arith
 
-ArePairs-without_hl : (b : Bounds) (s : Pairs) → b.last < 65536 → ArePairs s → ArePairs (without_hl b s)
-ArePairs-without_hl b s below h =
-    let left = ArePairs-without_register H _ (ArePairs-without_register L s h) in
-    are_pairs _ _ _ (left.each pair.Bc) (left.each pair.De) (record { last = below; link = tt })
+pub IsLink-copied : (p q : WordPair) (k : Option Link) → IfSome k IsLink → IsLink (link_copied p q k)
+IsLink-copied p q None h = record { factor = refl; sum = omega arith; width = omega arith }
+IsLink-copied p q (Some l) h = choose (is_read p l.other)
+  where
+    choose : (b : Bool) → IsLink (cond b (equal_to q) l)
+    choose true = record { factor = refl; sum = omega arith; width = omega arith }
+    choose false = h
 
-pub added_kept : (y : Bounds) (is_hl : Bool) (v : Values) (o : HlSum) → o ≡ added y is_hl v → ArePairs v.pairs → ArePairs o.pairs
+IfSome-link_of_sum : (from : Option WordPair) (v : Values) → ArePairs v.pairs → IfSome (link_of_sum from v) IsLink
+IfSome-link_of_sum None v h = tt
+IfSome-link_of_sum (Some p) v h = choose (is_one (bounds_of pair.Hl v) && not (is_same_pair pair.Hl p))
+  where
+    copied : Link
+    copied = link_copied pair.Hl p (facts_of p v.pairs).link
+
+    choose : (b : Bool) → IfSome (cond b (Some (moved_link (bounds_of pair.Hl v).first 0 copied)) None) IsLink
+    choose true =
+        let is = IsLink-copied pair.Hl p (facts_of p v.pairs).link (h.each p).link in
+        record { factor = is.factor; sum = omega arith; width = is.width }
+    choose false = tt
+
+ArePairs-with_hl : (b : Bounds) (l : Option Link) (s : Pairs) → b.last < 65536 → IfSome l IsLink → ArePairs s → ArePairs (with_hl b l s)
+ArePairs-with_hl b l s below linked h =
+    let left = ArePairs-without_register H _ (ArePairs-without_register L s h) in
+    are_pairs _ _ _ (left.each pair.Bc) (left.each pair.De) (record { last = below; link = linked })
+
+pub added_kept :
+    (y : Bounds) (is_hl : Bool) (from : Option WordPair) (v : Values) (o : HlSum) → o ≡ added y is_hl from v → ArePairs v.pairs → ArePairs o.pairs
 unfolding added
-added_kept y is_hl v o e h =
+added_kept y is_hl from v o e h =
     let below = sums_below (carry_of (bounds_of pair.Hl v) y) (bounds_of pair.Hl v) y in
     subst (λ s. ArePairs s.pairs) (sym e)
-    (either_kept (is_one y && not is_hl) _ _ (ArePairs-stepped pair.Hl y.first _ v.pairs below h) (ArePairs-without_hl _ v.pairs below h))
+    (either_kept (is_one y && not is_hl) _ _ (ArePairs-stepped pair.Hl y.first _ v.pairs below h) (ArePairs-with_hl _ _ v.pairs below (IfSome-link_of_sum from v h) h))
+
+-- ---- a procedure is left
+
+IsPairFacts-without_bases : (f : PairFacts) → IsPairFacts f → IsPairFacts (facts_without_base f)
+IsPairFacts-without_bases f h = record { last = h.last; link = by f.link h.link }
+  where
+    by : (l : Option Link) → IfSome l IsLink → IfSome (link_without_base l) IsLink
+    by None i = tt
+    by (Some l) i = choose (is_none l.base)
+      where
+        choose : (b : Bool) → IfSome (cond b (Some l) None) IsLink
+        choose true = i
+        choose false = tt
+
+pub without_bases_kept : (s o : Pairs) → o ≡ without_bases s → ArePairs s → ArePairs o
+unfolding without_bases
+without_bases_kept s o e h =
+    subst ArePairs (sym e)
+    (are_pairs _ _ _ (IsPairFacts-without_bases s.bc (h.each pair.Bc)) (IsPairFacts-without_bases s.de (h.each pair.De)) (IsPairFacts-without_bases s.hl (h.each pair.Hl)))
 
 -- ---- reducing
 
@@ -189,8 +233,9 @@ cut_kept : (v : Values) (o : Option Values) → IfSome o (IsCut v) → ArePairs 
 cut_kept v None h k = tt
 cut_kept v (Some w) h k = ArePairs-cut v w h k
 
-pub reduced_kept : (v : Values) (o : Option Values) → o ≡ reduced v → ArePairs v.pairs → IfSome o (λ w. ArePairs w.pairs)
-reduced_kept v o e = cut_kept v o (reduced_cuts v o e)
+pub reduced_kept :
+    (entered : PairBounds) (v : Values) (o : Option Values) → o ≡ reduced entered v → ArePairs v.pairs → IfSome o (λ w. ArePairs w.pairs)
+reduced_kept entered v o e = cut_kept v o (reduced_cuts entered v o e)
 
 pub restricted_kept :
     (p : WordPair) (within : Bounds) (v : Values) (o : Option Values)

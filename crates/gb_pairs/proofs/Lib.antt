@@ -1,5 +1,7 @@
 pub mod ArcLaws
+pub mod BaseLaws
 pub mod BoundsLaws
+pub mod CopiedLaws
 pub mod ByteLaws
 pub mod CoveringLaws
 pub mod CutLaws

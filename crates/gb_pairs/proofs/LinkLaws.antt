@@ -10,7 +10,7 @@ use Rattle.gb_domain.specs.declared.pairs.Link.{Link}
 use Rattle.gb_vals.specs.Logic.{smaller}
 use Rattle.gb_pairs.specs.Bounds.{cut, is_empty}
 use Rattle.gb_pairs.specs.Reduced.{is_rising, size, pair_at, last_pair_at, pairs_at, pairs_width, cut_by_other, last_sum, multiples_at, divided, others_at}
-use Rattle.gb_pairs.specs.Meaning.{AreLinked}
+use Rattle.gb_pairs.proofs.BaseLaws.{AreMet}
 use Rattle.gb_pairs.specs.Sound.{Within}
 use Rattle.gb_pairs.proofs.BoundsLaws.{Within-cut}
 
@@ -137,7 +137,7 @@ between_pairs_falling s f g w n more width low high whole narrow small least mos
 
 Within-pairs_at :
     (l : Link) (o : Bounds) (w n : ℕ)
-    → l.factor < 65536 → w < 65536 → Within o n → AreLinked l w n
+    → l.factor < 65536 → w < 65536 → Within o n → AreMet l w n
     → pairs_width l o ≤ 65535 → is_empty (pairs_at l o) ≡ false → Within (pairs_at l o) w
 Within-pairs_at l o w n factor small h linked narrow order = choose (is_rising l) narrow order
   where
@@ -165,7 +165,7 @@ Within-pairs_at l o w n factor small h linked narrow order = choose (is_rising l
 
 pub Within-cut_by_other :
     (l : Link) (o b : Bounds) (w n : ℕ)
-    → l.factor < 65536 → w < 65536 → Within o n → Within b w → AreLinked l w n
+    → l.factor < 65536 → w < 65536 → Within o n → Within b w → AreMet l w n
     → Within (cut_by_other l o b) w
 unfolding cut_by_other
 Within-cut_by_other l o b w n factor small h k linked =
@@ -207,7 +207,7 @@ between_multiples_falling s k w more width low high p q r least most few narrow 
 
 Within-multiples_at :
     (l : Link) (b : Bounds) (w n : ℕ)
-    → l.factor < 65536 → l.sum < 65536 → b.last < 65536 → w < 65536 → size l * n < 65536 → Within b w → AreLinked l w n
+    → l.factor < 65536 → l.sum < 65536 → b.last < 65536 → w < 65536 → size l * n < 65536 → Within b w → AreMet l w n
     → l.width + (b.last - b.first) ≤ 65535 → is_empty (multiples_at l b) ≡ false → Within (multiples_at l b) (size l * n)
 Within-multiples_at l b w n factor sum last small narrow h linked few order = choose (is_rising l) narrow order
   where
@@ -245,7 +245,7 @@ Within-divided m d n pos h = record { least = divided_least d.first m n pos h.le
 
 pub Within-others_at :
     (l : Link) (o b : Bounds) (w n : ℕ)
-    → l.factor < 65536 → l.sum < 65536 → b.last < 65536 → w < 65536 → n < 65536 → Within o n → Within b w → AreLinked l w n
+    → l.factor < 65536 → l.sum < 65536 → b.last < 65536 → w < 65536 → n < 65536 → Within o n → Within b w → AreMet l w n
     → WithinIf (others_at l o b) n
 unfolding others_at
 Within-others_at l o b w n factor sum last small below h k linked =

@@ -17,7 +17,7 @@ use Rattle.gb_domain.specs.Pairs.{any_bounds, facts_of}
 use Rattle.gb_vals.specs.Logic.{smaller, larger}
 use Rattle.gb_pairs.specs.declared.values.Values.{Values}
 use Rattle.gb_pairs.specs.Bounds.{bounds_of}
-use Rattle.gb_pairs.specs.Meaning.{word_of, other_of, IsLinked, HoldsPair, HoldPairs, AreBytes, Holds}
+use Rattle.gb_pairs.specs.Meaning.{word_of, other_of, base_of, IsLinked, HoldsPair, HoldPairs, AreBytes, Holds}
 use Rattle.gb_pairs.specs.Written.{is_half, is_same_pair}
 use Rattle.gb_pairs.specs.Moved.{moved_link, by_if, bounds_up, bounds_down, reads_half, reads_pair, link_of_step, facts_of_step, stepped, incremented, decremented}
 use Rattle.gb_pairs.specs.Sound.{Within, with_word, IsSoundStep}
@@ -27,10 +27,10 @@ use Rattle.gb_pairs.proofs.BoundsLaws.{Within-bounds_of, word_below, other_below
 -- ---- on plain numbers
 
 moved_sum :
-    (w o f s more a b w' o' : ℕ)
-    → (w + f * o) % 65536 ≡ (s + more) % 65536 → w' ≡ (w + a) % 65536 → o' ≡ (o + b) % 65536
-    → (w' + f * o') % 65536 ≡ ((s + a + f * b) % 65536 + more) % 65536
-moved_sum w o f s more a b w' o' h d e =
+    (w o f base s more a b w' o' : ℕ)
+    → (w + f * o) % 65536 ≡ (base + s + more) % 65536 → w' ≡ (w + a) % 65536 → o' ≡ (o + b) % 65536
+    → (w' + f * o') % 65536 ≡ (base + (s + a + f * b) % 65536 + more) % 65536
+moved_sum w o f base s more a b w' o' h d e =
     let r : ℕ = (o + b) / 65536 in
     let is : o + b ≡ o' + 65536 * r = omega arith in
     let times : f * o + f * b ≡ f * o' + 65536 * (f * r) = omega (arith, ap (λ n. f * n) is) in
@@ -45,24 +45,24 @@ stays n h = omega arith
 -- ---- links
 
 pub IsLinked-moved :
-    (l : Link) (q : WordPair) (x y : Registers ℕ) (a b : ℕ)
+    (l : Link) (q : WordPair) (was x y : Registers ℕ) (a b : ℕ)
     → word_of q y ≡ (word_of q x + a) % 65536 → other_of l.other y ≡ (other_of l.other x + b) % 65536
-    → IsLinked (Some l) q x → IsLinked (Some (moved_link a b l)) q y
-IsLinked-moved l q x y a b d e h =
+    → IsLinked (Some l) q was x → IsLinked (Some (moved_link a b l)) q was y
+IsLinked-moved l q was x y a b d e h =
     record {
       more = h.more;
       most = h.most;
-      sum = moved_sum (word_of q x) (other_of l.other x) l.factor l.sum h.more a b (word_of q y) (other_of l.other y) h.sum d e;
+      sum = moved_sum (word_of q x) (other_of l.other x) l.factor (base_of l.base was) l.sum h.more a b (word_of q y) (other_of l.other y) h.sum d e;
     }
 
 -- ---- registers where a pair becomes a word
 
-word_same : (p : WordPair) (w : ℕ) (x : Registers ℕ) → word_of p (with_word p w x) ≡ w
+pub word_same : (p : WordPair) (w : ℕ) (x : Registers ℕ) → word_of p (with_word p w x) ≡ w
 word_same pair.Bc w x = word_split w
 word_same pair.De w x = word_split w
 word_same pair.Hl w x = word_split w
 
-get_with_word : (r : Register) (p : WordPair) (w : ℕ) (x : Registers ℕ) → is_half r p ≡ false → get r (with_word p w x) ≡ get r x
+pub get_with_word : (r : Register) (p : WordPair) (w : ℕ) (x : Registers ℕ) → is_half r p ≡ false → get r (with_word p w x) ≡ get r x
 get_with_word A pair.Bc w x h = refl
 get_with_word B pair.Bc w x h = cc
 get_with_word C pair.Bc w x h = cc
@@ -103,31 +103,32 @@ other_step :
     → other_of o (with_word p ((word_of p x + a) % 65536) x) ≡ (other_of o x + by_if (reads_pair p o) a) % 65536
 other_step p (other.Register r) a x h e = get_with_word r p _ x e ∙ stays _ (other_below (other.Register r) x h)
 other_step p (other.Pair q) a x h e = word_step p q a x h
+other_step p other.Nothing a x h e = refl
 
 -- ---- a pair's step
 
 link_step :
-    (p : WordPair) (a : ℕ) (q : WordPair) (l : Option Link) (x : Registers ℕ) → AreBytes x → IsLinked l q x
-    → IsLinked (link_of_step p a q l) q (with_word p ((word_of p x + a) % 65536) x)
-link_step p a q None x bytes h = tt
-link_step p a q (Some l) x bytes h = choose (reads_half p l.other) (is_same_pair p q && reads_pair p l.other) refl
+    (p : WordPair) (a : ℕ) (q : WordPair) (l : Option Link) (was x : Registers ℕ) → AreBytes x → IsLinked l q was x
+    → IsLinked (link_of_step p a q l) q was (with_word p ((word_of p x + a) % 65536) x)
+link_step p a q None was x bytes h = tt
+link_step p a q (Some l) was x bytes h = choose (reads_half p l.other) (is_same_pair p q && reads_pair p l.other) refl
   where
     choose :
         (b c : Bool) → reads_half p l.other ≡ b
         → IsLinked
         (cond (b || c) None (Some (moved_link (by_if (is_same_pair p q) a) (by_if (reads_pair p l.other) a) l)))
-        q (with_word p ((word_of p x + a) % 65536) x)
+        q was (with_word p ((word_of p x + a) % 65536) x)
     choose true c e = tt
     choose false true e = tt
-    choose false false e = IsLinked-moved l q x _ _ _ (word_step p q a x bytes) (other_step p l.other a x bytes e) h
+    choose false false e = IsLinked-moved l q was x _ _ _ (word_step p q a x bytes) (other_step p l.other a x bytes e) h
 
 facts_step :
-    (p : WordPair) (a : ℕ) (b : Bounds) (q : WordPair) (f : PairFacts) (x : Registers ℕ)
-    → AreBytes x → HoldsPair f q x → Within b ((word_of p x + a) % 65536)
-    → HoldsPair (facts_of_step p a b q f) q (with_word p ((word_of p x + a) % 65536) x)
-facts_step p a b q f x bytes h k =
+    (p : WordPair) (a : ℕ) (b : Bounds) (q : WordPair) (f : PairFacts) (was x : Registers ℕ)
+    → AreBytes x → HoldsPair f q was x → Within b ((word_of p x + a) % 65536)
+    → HoldsPair (facts_of_step p a b q f) q was (with_word p ((word_of p x + a) % 65536) x)
+facts_step p a b q f was x bytes h k =
     let ends = choose (is_same_pair p q) refl in
-    record { first = ends.least; last = ends.most; link = link_step p a q f.link x bytes h.link }
+    record { first = ends.least; last = ends.most; link = link_step p a q f.link was x bytes h.link }
   where
     choose :
         (c : Bool) → is_same_pair p q ≡ c → Within (cond c b f.bounds) (word_of q (with_word p ((word_of p x + a) % 65536) x))
@@ -140,16 +141,16 @@ facts_step p a b q f x bytes h k =
         subst (λ w. Within f.bounds w) (stays _ (word_below q x bytes) ∙ sym moved) (record { least = h.first; most = h.last })
 
 pub HoldPairs-stepped :
-    (p : WordPair) (a : ℕ) (b : Bounds) (s : Pairs) (x : Registers ℕ)
-    → AreBytes x → HoldPairs s x → Within b ((word_of p x + a) % 65536)
-    → HoldPairs (stepped p a b s) (with_word p ((word_of p x + a) % 65536) x)
+    (p : WordPair) (a : ℕ) (b : Bounds) (s : Pairs) (was x : Registers ℕ)
+    → AreBytes x → HoldPairs s was x → Within b ((word_of p x + a) % 65536)
+    → HoldPairs (stepped p a b s) was (with_word p ((word_of p x + a) % 65536) x)
 unfolding stepped
-HoldPairs-stepped p a b s x bytes h k = record { each = each }
+HoldPairs-stepped p a b s was x bytes h k = record { each = each }
   where
-    each : (q : WordPair) → HoldsPair (facts_of q (stepped p a b s)) q (with_word p ((word_of p x + a) % 65536) x)
-    each pair.Bc = facts_step p a b pair.Bc s.bc x bytes (h.each pair.Bc) k
-    each pair.De = facts_step p a b pair.De s.de x bytes (h.each pair.De) k
-    each pair.Hl = facts_step p a b pair.Hl s.hl x bytes (h.each pair.Hl) k
+    each : (q : WordPair) → HoldsPair (facts_of q (stepped p a b s)) q was (with_word p ((word_of p x + a) % 65536) x)
+    each pair.Bc = facts_step p a b pair.Bc s.bc was x bytes (h.each pair.Bc) k
+    each pair.De = facts_step p a b pair.De s.de was x bytes (h.each pair.De) k
+    each pair.Hl = facts_step p a b pair.Hl s.hl was x bytes (h.each pair.Hl) k
 
 -- ---- bounds
 
@@ -184,17 +185,17 @@ unfolding incremented
 incremented_sound p v o e = subst (λ s. IsSoundStep p 1 v s) (sym e) (record { gives = gives })
   where
     gives :
-        (x : Registers ℕ) → AreBytes x → Holds v x
-        → HoldPairs (stepped p 1 (bounds_up 1 (bounds_of p v)) v.pairs) (with_word p ((word_of p x + 1) % 65536) x)
-    gives x bytes h = HoldPairs-stepped p 1 _ v.pairs x bytes h.pairs (Within-up 1 _ _ (Within-bounds_of p v x h))
+        (was x : Registers ℕ) → AreBytes x → Holds v was x
+        → HoldPairs (stepped p 1 (bounds_up 1 (bounds_of p v)) v.pairs) was (with_word p ((word_of p x + 1) % 65536) x)
+    gives was x bytes h = HoldPairs-stepped p 1 _ v.pairs was x bytes h.pairs (Within-up 1 _ _ (Within-bounds_of p v was x h))
 
 pub decremented_sound : (p : WordPair) (v : Values) (o : Pairs) → o ≡ decremented p v → IsSoundStep p 65535 v o
 unfolding decremented
 decremented_sound p v o e = subst (λ s. IsSoundStep p 65535 v s) (sym e) (record { gives = gives })
   where
     gives :
-        (x : Registers ℕ) → AreBytes x → Holds v x
-        → HoldPairs (stepped p 65535 (bounds_down 1 (bounds_of p v)) v.pairs) (with_word p ((word_of p x + 65535) % 65536) x)
-    gives x bytes h =
-        HoldPairs-stepped p 65535 _ v.pairs x bytes h.pairs
-        (Within-down 1 65535 _ _ refl (word_below p x bytes) (Within-bounds_of p v x h))
+        (was x : Registers ℕ) → AreBytes x → Holds v was x
+        → HoldPairs (stepped p 65535 (bounds_down 1 (bounds_of p v)) v.pairs) was (with_word p ((word_of p x + 65535) % 65536) x)
+    gives was x bytes h =
+        HoldPairs-stepped p 65535 _ v.pairs was x bytes h.pairs
+        (Within-down 1 65535 _ _ refl (word_below p x bytes) (Within-bounds_of p v was x h))

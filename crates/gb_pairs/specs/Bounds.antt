@@ -1,5 +1,5 @@
 -- Intervals of words, and the bounds of pairs and of what links read (abstract interpretation: the interval domain; own).
-use Rattle.std.specs.Prelude.{Bool, ◌==◌, nat_lt}
+use Rattle.std.specs.Prelude.{Bool, ◌==◌, nat_lt, Option, Some, None}
 use Rattle.gb_ops.specs.declared.op.Register.{Register}
 use Rattle.gb_ops.specs.declared.op.Register.TheVariants.{B, C, D, E, H, L}
 use Rattle.gb_ops.specs.Registers.{get}
@@ -10,7 +10,8 @@ use Rattle.gb_domain.specs.declared.pairs.WordPair.TheVariants as pair
 use Rattle.gb_domain.specs.declared.pairs.Bounds.{Bounds}
 use Rattle.gb_domain.specs.declared.pairs.Other.{Other}
 use Rattle.gb_domain.specs.declared.pairs.Other.TheVariants as other
-use Rattle.gb_domain.specs.Pairs.{facts_of}
+use Rattle.gb_domain.specs.declared.pairs.PairBounds.{PairBounds}
+use Rattle.gb_domain.specs.Pairs.{facts_of, bounds_in}
 use Rattle.gb_vals.specs.Logic.{smaller, larger}
 use Rattle.gb_pairs.specs.declared.values.Values.{Values}
 
@@ -42,6 +43,10 @@ box high low = record { first = word high.lo low.lo; last = word high.hi low.hi 
 unfoldable pub bounds_of : WordPair → Values → Bounds
 bounds_of p v = cut (box (get (high_of p) v.registers) (get (low_of p) v.registers)) (facts_of p v.pairs).bounds
 
+-- 0 alone
+abbrev pub zero_alone : Bounds
+zero_alone = record { first = 0; last = 0 }
+
 -- a register's bounds
 abbrev pub bounds_of_val : Val → Bounds
 bounds_of_val v = record { first = v.lo; last = v.hi }
@@ -50,3 +55,9 @@ bounds_of_val v = record { first = v.lo; last = v.hi }
 unfoldable pub bounds_of_other : Other → Values → Bounds
 bounds_of_other (other.Register r) v = bounds_of_val (get r v.registers)
 bounds_of_other (other.Pair p) v = bounds_of p v
+bounds_of_other other.Nothing v = zero_alone
+
+-- the bounds of a link's base, where those of the pairs at entry are known
+abbrev pub bounds_of_base : Option WordPair → PairBounds → Bounds
+bounds_of_base None entered = zero_alone
+bounds_of_base (Some p) entered = bounds_in p entered

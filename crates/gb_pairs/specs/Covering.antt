@@ -1,5 +1,7 @@
 -- Covering: what is known of pairs holds of all that values stand for (abstract interpretation: inclusion; own).
-use Rattle.std.specs.Prelude.{ℕ, ◌+◌, ◌-◌, ◌*◌, ◌%◌, Bool, true, false, ◌&&◌, ◌||◌, ◌==◌, if◌then◌else◌, nat_le, nat_lt, Option, Some, None}
+use Rattle.std.specs.Prelude.{ℕ, ◌+◌, ◌-◌, ◌*◌, ◌%◌, Bool, true, false, ◌&&◌, ◌||◌, ◌==◌, if◌then◌else◌, nat_le, nat_lt, Option, Some, None, is_none}
+use Rattle.gb_ops.specs.declared.op.Register.{Register}
+use Rattle.gb_ops.specs.declared.op.Register.TheVariants as register
 use Rattle.gb_ops.specs.declared.registers.Registers.{Registers}
 use Rattle.gb_ops.specs.Registers.{get}
 use Rattle.gb_domain.specs.declared.pairs.WordPair.{WordPair}
@@ -10,26 +12,36 @@ use Rattle.gb_domain.specs.declared.pairs.Other.TheVariants as other
 use Rattle.gb_domain.specs.declared.pairs.Link.{Link}
 use Rattle.gb_domain.specs.declared.pairs.PairFacts.{PairFacts}
 use Rattle.gb_domain.specs.declared.pairs.Pairs.{Pairs}
+use Rattle.gb_domain.specs.declared.types.Origin.{Origin}
+use Rattle.gb_domain.specs.declared.types.Origin.TheVariants as origin
 use Rattle.gb_domain.specs.Pairs.{facts_of}
 use Rattle.gb_domain.specs.Places.{is_same_register}
 use Rattle.gb_pairs.specs.declared.covering.Arc.{Arc}
 use Rattle.gb_pairs.specs.declared.values.Values.{Values}
-use Rattle.gb_pairs.specs.Bounds.{is_one, bounds_of, bounds_of_other}
+use Rattle.gb_pairs.specs.Bounds.{is_one, high_of, low_of, bounds_of, bounds_of_other}
 use Rattle.gb_pairs.specs.Reduced.{is_rising, size, pairs_at, pairs_width}
 use Rattle.gb_pairs.specs.Written.{is_same_pair}
 
 abbrev pub is_same_other : Other → Other → Bool
 is_same_other (other.Register r) (other.Register s) = is_same_register r s
 is_same_other (other.Pair p) (other.Pair q) = is_same_pair p q
+is_same_other other.Nothing other.Nothing = true
 is_same_other _ _ = false
+
+-- both have this base, or neither has one
+abbrev pub is_same_base : Option WordPair → Option WordPair → Bool
+is_same_base None None = true
+is_same_base (Some p) (Some q) = is_same_pair p q
+is_same_base _ _ = false
 
 abbrev pub is_same_link : Option Link → Link → Bool
 is_same_link None t = false
-is_same_link (Some s) t = is_same_other s.other t.other && (s.factor == t.factor) && (s.sum == t.sum) && (s.width == t.width)
+is_same_link (Some s) t =
+    is_same_other s.other t.other && (s.factor == t.factor) && is_same_base s.base t.base && (s.sum == t.sum) && (s.width == t.width)
 
--- the pair and the other are known, and meet the link
+-- the pair and the other are known, and meet the link, which has no base
 abbrev pub meets_link : Bounds → Bounds → Link → Bool
-meets_link b o l = is_one b && is_one o && ((b.first + l.factor * o.first) % 65536 == l.sum)
+meets_link b o l = is_none l.base && is_one b && is_one o && ((b.first + l.factor * o.first) % 65536 == l.sum)
 
 -- ---- words that stand one after another, modulo 65536
 
@@ -72,7 +84,8 @@ are_one_byte places o p = false
 abbrev pub follows : Registers Bool → Option Link → Link → Bool
 follows places None t = false
 follows places (Some s) t =
-    (is_same_other s.other t.other || are_one_byte places s.other t.other)
+    is_same_base s.base t.base
+    && (is_same_other s.other t.other || are_one_byte places s.other t.other)
     && (s.factor == t.factor)
     && is_arc_in (arc_of_sums s) (arc_of_sums t)
 
@@ -80,21 +93,42 @@ abbrev pub has_sums : Link → Option Arc → Bool
 has_sums l None = false
 has_sums l (Some a) = is_arc_in a (arc_of_sums l)
 
--- or from where the pair is, what the link reads being in o
+-- or from where the pair is, less the link's base, what the link reads being in o
 abbrev pub follows_on : Bounds → Link → Option Arc → Bool
 follows_on o l None = false
 follows_on o l (Some a) = has_sums l (arc_of_both l o a)
 
--- which another link of it says
-abbrev pub arc_by_link : Values → Option Link → Option Arc
-arc_by_link s None = None
-arc_by_link s (Some k) = arc_of_link k (bounds_of_other k.other s)
+-- which another link of it says, that has the base
+abbrev pub arc_by_link : Values → Option WordPair → Option Link → Option Arc
+arc_by_link s base None = None
+arc_by_link s base (Some k) = if is_same_base k.base base then arc_of_link k (bounds_of_other k.other s) else None
+
+-- it is what the register held as the procedure was entered
+abbrev pub is_copy_of : Register → Option Origin → Bool
+is_copy_of register.A (Some origin.A) = true
+is_copy_of register.B (Some origin.B) = true
+is_copy_of register.C (Some origin.C) = true
+is_copy_of register.D (Some origin.D) = true
+is_copy_of register.E (Some origin.E) = true
+is_copy_of register.H (Some origin.H) = true
+is_copy_of register.L (Some origin.L) = true
+is_copy_of _ _ = false
+
+-- p's bytes are those that q held as the procedure was entered
+abbrev pub is_as_entered : WordPair → WordPair → Values → Bool
+is_as_entered p q s =
+    is_copy_of (high_of q) (get (high_of p) s.registers).origin && is_copy_of (low_of q) (get (low_of p) s.registers).origin
+
+-- by itself the pair is in its bounds; less what it held as the procedure was entered, where its bytes are that, it is 0
+abbrev pub arc_by_itself : Values → Option WordPair → WordPair → Option Arc
+arc_by_itself s None p = Some (arc_of_bounds (bounds_of p s))
+arc_by_itself s (Some q) p = if is_as_entered p q s then Some (arc 0 0) else None
 
 unfoldable pub holds_link : Registers Bool → WordPair → Values → Link → Bool
 holds_link places p s l =
     follows places (facts_of p s.pairs).link l
-    || follows_on (bounds_of_other l.other s) l (Some (arc_of_bounds (bounds_of p s)))
-    || follows_on (bounds_of_other l.other s) l (arc_by_link s (facts_of p s.pairs).link)
+    || follows_on (bounds_of_other l.other s) l (arc_by_itself s l.base p)
+    || follows_on (bounds_of_other l.other s) l (arc_by_link s l.base (facts_of p s.pairs).link)
 
 -- by the rules of versions 1 to 3: it is the pair's link, or pair and other are known and meet it
 unfoldable pub holds_link_plainly : WordPair → Values → Link → Bool

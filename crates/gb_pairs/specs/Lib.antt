@@ -3,6 +3,7 @@ pub mod Bounds
 pub mod Reduced
 pub mod Plain
 pub mod Written
+pub mod Copied
 pub mod Moved
 pub mod Covering
 pub mod Sound

@@ -18,6 +18,7 @@ use Rattle.gb_vals.specs.Logic.{smaller, larger}
 use Rattle.gb_pairs.specs.declared.values.Values.{Values}
 use Rattle.gb_pairs.specs.declared.moved.HlSum.{HlSum}
 use Rattle.gb_pairs.specs.Bounds.{bounds_of, is_one}
+use Rattle.gb_pairs.specs.Copied.{link_copied}
 use Rattle.gb_pairs.specs.Written.{is_half, is_same_pair, without_register}
 
 -- ---- amounts, modulo 65536
@@ -50,11 +51,11 @@ bounds_down n b =
 -- one of the pair's two bytes alone is read
 abbrev pub reads_half : WordPair → Other → Bool
 reads_half p (other.Register r) = is_half r p
-reads_half p (other.Pair q) = false
+reads_half p _ = false
 
 abbrev pub reads_pair : WordPair → Other → Bool
-reads_pair p (other.Register r) = false
 reads_pair p (other.Pair q) = is_same_pair p q
+reads_pair p _ = false
 
 -- p moved by a: a link of q goes on, but where it reads one of p's bytes, or p is linked with itself
 abbrev pub link_of_step : WordPair → ℕ → WordPair → Option Link → Option Link
@@ -99,6 +100,7 @@ by_byte _ _ low high = 0
 abbrev pub other_by_byte : Register → Other → ℕ → ℕ → ℕ
 other_by_byte r (other.Register s) low high = by_if (is_same_register r s) low
 other_by_byte r (other.Pair p) low high = by_byte r p low high
+other_by_byte r other.Nothing low high = 0
 
 abbrev pub link_of_byte : Register → ℕ → ℕ → WordPair → Option Link → Option Link
 link_of_byte r low high q None = None
@@ -160,19 +162,27 @@ abbrev pub sums : Option Bool → Bounds → Bounds → Bounds
 sums None x y = any_bounds
 sums (Some carry) x y = record { first = (x.first + y.first) % 65536; last = (x.last + y.last) % 65536 }
 
--- HL is another word: its links and those that read it or its bytes are forgotten
-abbrev pub without_hl : Bounds → Pairs → Pairs
-without_hl b s =
+-- HL is another word, with this link: links that read it or its bytes are forgotten
+abbrev pub with_hl : Bounds → Option Link → Pairs → Pairs
+with_hl b l s =
     let t = without_register H (without_register L s) in
-    record t { hl = record { bounds = b; link = None } }
+    record t { hl = record { bounds = b; link = l } }
 
--- HL and a word in y are added; a known word but HL itself is a step
-unfoldable pub added : Bounds → Bool → Values → HlSum
-added y is_hl v =
+-- HL's link where another pair's word is added to a known one
+abbrev pub link_of_sum : Option WordPair → Values → Option Link
+link_of_sum None v = None
+link_of_sum (Some p) v =
+    if is_one (bounds_of pair.Hl v) && not (is_same_pair pair.Hl p)
+    then Some (moved_link (bounds_of pair.Hl v).first 0 (link_copied pair.Hl p (facts_of p v.pairs).link))
+    else None
+
+-- HL and a word in y are added; a known word but HL itself is a step. By the rules of version 4 it is told which pair holds the word.
+unfoldable pub added : Bounds → Bool → Option WordPair → Values → HlSum
+added y is_hl from v =
     let x = bounds_of pair.Hl v in
     let carry = carry_of x y in
     let b = sums carry x y in
     record {
-      pairs = if is_one y && not is_hl then stepped pair.Hl y.first b v.pairs else without_hl b v.pairs;
+      pairs = if is_one y && not is_hl then stepped pair.Hl y.first b v.pairs else with_hl b (link_of_sum from v) v.pairs;
       carry = carry;
     }

@@ -12,6 +12,7 @@ use Rattle.gb_domain.specs.declared.pairs.WordPair.TheVariants as pair
 use Rattle.gb_domain.specs.declared.pairs.Bounds.{Bounds}
 use Rattle.gb_domain.specs.declared.pairs.Other.{Other}
 use Rattle.gb_domain.specs.declared.pairs.Other.TheVariants as other
+use Rattle.gb_domain.specs.declared.pairs.PairBounds.{PairBounds}
 use Rattle.gb_domain.specs.declared.pairs.Link.{Link}
 use Rattle.gb_domain.specs.declared.pairs.PairFacts.{PairFacts}
 use Rattle.gb_domain.specs.declared.pairs.Pairs.{Pairs}
@@ -20,7 +21,7 @@ use Rattle.gb_domain.specs.LowBits.{low_bits}
 use Rattle.gb_domain.specs.Pairs.{facts_of}
 use Rattle.gb_vals.specs.Logic.{smaller, larger}
 use Rattle.gb_pairs.specs.declared.values.Values.{Values}
-use Rattle.gb_pairs.specs.Bounds.{cut, is_empty, high_of, low_of, bounds_of, bounds_of_other}
+use Rattle.gb_pairs.specs.Bounds.{cut, is_empty, high_of, low_of, bounds_of, bounds_of_other, bounds_of_base}
 
 -- registers, and what is known of their pairs
 abbrev pub values_of : Registers Val → Pairs → Values
@@ -64,6 +65,19 @@ pairs_width l o = size l * (o.last - o.first) + l.width
 unfoldable pub cut_by_other : Link → Bounds → Bounds → Bounds
 cut_by_other l o b =
     if nat_lt 65535 (pairs_width l o) || is_empty (pairs_at l o) then b else cut b (pairs_at l o)
+
+-- ---- a link's base
+
+-- a link as it is where its base lies within b: none where b is empty, or it would say nothing
+unfoldable pub without_base : Bounds → Link → Option Link
+without_base b l =
+    if is_empty b || nat_lt 65535 (l.width + (b.last - b.first)) then None
+    else Some (record l { base = None; sum = (l.sum + b.first) % 65536; width = l.width + (b.last - b.first) })
+
+-- where the pairs lay in these bounds as the procedure was entered
+abbrev pub unbased : PairBounds → Option Link → Option Link
+unbased entered None = None
+unbased entered (Some l) = without_base (bounds_of_base l.base entered) l
 
 -- ---- what a link says of its other
 
@@ -133,10 +147,11 @@ with_register_if r (Some x) v = Some (with_register r x v)
 abbrev pub with_bounds_if : WordPair → Bounds → Values → Option Values
 with_bounds_if p b v = if is_empty b then None else Some (with_bounds p b v)
 
--- what a link reads is cut: a register's value, or a pair's own bounds
+-- what a link reads is cut: a register's value, or a pair's own bounds, if it reads something
 unfoldable pub cut_other : Other → Bounds → Values → Option Values
 cut_other (other.Register r) d v = with_register_if r (cut_val (get r v.registers) d) v
 cut_other (other.Pair p) d v = with_bounds_if p (cut (facts_of p v.pairs).bounds d) v
+cut_other other.Nothing d v = Some v
 
 abbrev pub cut_other_if : Other → Option Bounds → Values → Option Values
 cut_other_if o None v = Some v
@@ -177,18 +192,21 @@ abbrev pub reduced_within : WordPair → Option Link → Bounds → Values → O
 reduced_within p None b v = settled p b v
 reduced_within p (Some l) b v = reduced_by_link p l (bounds_of_other l.other v) b v
 
--- one pair, by its bounds and its link
-unfoldable pub reduced_pair : WordPair → Values → Option Values
-reduced_pair p v =
-    if is_empty (bounds_of p v) then None else reduced_within p (facts_of p v.pairs).link (bounds_of p v) v
+-- one pair, by its bounds and its link, where the pairs lay in some bounds as the procedure was entered
+unfoldable pub reduced_pair : PairBounds → WordPair → Values → Option Values
+reduced_pair entered p v =
+    if is_empty (bounds_of p v) then None
+    else reduced_within p (unbased entered (facts_of p v.pairs).link) (bounds_of p v) v
 
 -- each pair once
-unfoldable pub reduced_once : Values → Option Values
-reduced_once v = option_and_then (reduced_pair pair.Hl) (option_and_then (reduced_pair pair.De) (reduced_pair pair.Bc v))
+unfoldable pub reduced_once : PairBounds → Values → Option Values
+reduced_once entered v =
+    option_and_then (reduced_pair entered pair.Hl)
+    (option_and_then (reduced_pair entered pair.De) (reduced_pair entered pair.Bc v))
 
 -- the same values, cut: none where they stand for nothing
-unfoldable pub reduced : Values → Option Values
-reduced v = option_and_then reduced_once (reduced_once v)
+unfoldable pub reduced : PairBounds → Values → Option Values
+reduced entered v = option_and_then (reduced_once entered) (reduced_once entered v)
 
 -- ---- a pair within bounds
 

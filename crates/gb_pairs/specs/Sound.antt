@@ -1,19 +1,23 @@
 -- What operations on pairs promise of the registers (abstract interpretation: soundness; own).
-use Rattle.std.specs.Prelude.{◌≡◌, ℕ, ◌+◌, ◌/◌, ◌%◌, ◌≤◌, Bool, true, nat_lt, Option, Some, None}
+use Rattle.std.specs.Prelude.{◌≡◌, ℕ, ◌+◌, ◌/◌, ◌%◌, ◌≤◌, Bool, true, false, nat_lt, Option, Some, None}
 use Rattle.gb_ops.specs.declared.op.Register.{Register}
 use Rattle.gb_ops.specs.declared.registers.Registers.{Registers}
 use Rattle.gb_ops.specs.Registers.{get, set}
 use Rattle.gb_domain.specs.declared.pairs.WordPair.{WordPair}
 use Rattle.gb_domain.specs.declared.pairs.WordPair.TheVariants as pair
 use Rattle.gb_domain.specs.declared.pairs.Bounds.{Bounds}
+use Rattle.gb_domain.specs.declared.pairs.PairBounds.{PairBounds}
 use Rattle.gb_domain.specs.declared.pairs.Link.{Link}
 use Rattle.gb_domain.specs.declared.pairs.Pairs.{Pairs}
-use Rattle.gb_domain.specs.Pairs.{facts_of}
+use Rattle.gb_domain.specs.declared.types.Val.{Val}
+use Rattle.gb_domain.specs.Pairs.{facts_of, bounds_in}
+use Rattle.gb_domain.specs.Types.{origin_of_register}
 use Rattle.gb_domain.specs.Values.{is_strided}
 use Rattle.gb_pairs.specs.declared.values.Values.{Values}
 use Rattle.gb_pairs.specs.declared.moved.HlSum.{HlSum}
 use Rattle.gb_pairs.specs.Bounds.{high_of, low_of}
-use Rattle.gb_pairs.specs.Meaning.{word_of, other_of, IsLinked, HoldPairs, AreBytes, Holds}
+use Rattle.gb_pairs.specs.Written.{is_half, is_same_pair}
+use Rattle.gb_pairs.specs.Meaning.{word_of, other_of, AreLinked, IsLinked, HoldPairs, AreBytes, Holds}
 
 -- ---- bounds
 
@@ -24,27 +28,36 @@ pub record Within (b : Bounds) (w : ℕ) : Type 0 where
 
 -- what is read lies in the bounds
 pub record IsSoundBounds (read : Registers ℕ → ℕ) (v : Values) (b : Bounds) : Type 0 where
-  pub gives : (x : Registers ℕ) → Holds v x → Within b (read x)
+  pub gives : (was x : Registers ℕ) → Holds v was x → Within b (read x)
+
+-- each pair lies in its bounds
+pub record AreWithin (b : PairBounds) (was : Registers ℕ) : Type 0 where
+  pub each : (p : WordPair) → Within (bounds_in p b) (word_of p was)
 
 -- ---- reducing
 
-abbrev pub HoldsIn : Option Values → Registers ℕ → Type 0
-HoldsIn None x = ⊥
-HoldsIn (Some w) x = Holds w x
+abbrev pub HoldsIn : Option Values → Registers ℕ → Registers ℕ → Type 0
+HoldsIn None was x = ⊥
+HoldsIn (Some w) was x = Holds w was x
 
--- no registers are lost
-pub record IsSoundReducing (v : Values) (o : Option Values) : Type 0 where
-  pub gives : (x : Registers ℕ) → AreBytes x → Holds v x → HoldsIn o x
+-- so is the word that the link is about without its base, if that lay in the bounds
+pub record IsSoundWithoutBase (b : Bounds) (l : Link) (o : Option Link) : Type 0 where
+  pub gives : (k : Link) (base w n : ℕ) → o ≡ Some k → Within b base → AreLinked l base w n → AreLinked k 0 w n
 
--- nor where a pair is in b, and what its link reads in o
+-- no registers are lost, where the pairs lay in these bounds as the procedure was entered
+pub record IsSoundReducing (entered : PairBounds) (v : Values) (o : Option Values) : Type 0 where
+  pub gives : (was x : Registers ℕ) → AreWithin entered was → AreBytes x → Holds v was x → HoldsIn o was x
+
+-- nor where a pair is in b, and what its link, which has no base, reads in o
 pub record IsSoundByLink (p : WordPair) (l : Link) (o b : Bounds) (v : Values) (r : Option Values) : Type 0 where
   pub gives :
-      (x : Registers ℕ) → AreBytes x → Within o (other_of l.other x) → Within b (word_of p x) → IsLinked (Some l) p x → Holds v x
-      → HoldsIn r x
+      (was x : Registers ℕ) → AreBytes x → Within o (other_of l.other x) → Within b (word_of p x)
+      → AreLinked l 0 (word_of p x) (other_of l.other x) → Holds v was x
+      → HoldsIn r was x
 
 -- no registers are lost whose pair lies within the bounds
 pub record IsSoundRestriction (p : WordPair) (within : Bounds) (v : Values) (o : Option Values) : Type 0 where
-  pub gives : (x : Registers ℕ) → Within within (word_of p x) → Holds v x → HoldsIn o x
+  pub gives : (was x : Registers ℕ) → Within within (word_of p x) → Holds v was x → HoldsIn o was x
 
 -- each value and each pair's own bounds are cut or stay, a value's in order and with ends that have its low bits; origins and links
 -- stay
@@ -62,7 +75,20 @@ pub record IsCut (v w : Values) : Type 0 where
 
 -- whatever the register becomes
 pub record IsSoundForgetting (r : Register) (s after : Pairs) : Type 0 where
-  pub gives : (x : Registers ℕ) (n : ℕ) → n ≤ 255 → AreBytes x → HoldPairs s x → HoldPairs after (set r n x)
+  pub gives : (was x : Registers ℕ) (n : ℕ) → n ≤ 255 → AreBytes x → HoldPairs s was x → HoldPairs after was (set r n x)
+
+-- however another procedure was entered
+pub record IsSoundWithoutBases (s after : Pairs) : Type 0 where
+  pub gives : (was entered x : Registers ℕ) → HoldPairs s was x → HoldPairs after entered x
+
+-- ---- copies
+
+-- wherever p becomes what q is, and no other register changes
+pub record IsSoundCopy (p q : WordPair) (k : Option Link) (l : Link) : Type 0 where
+  pub gives :
+      (was x y : Registers ℕ)
+      → is_same_pair p q ≡ false → word_of p y ≡ word_of q x → ((r : Register) → is_half r p ≡ false → get r y ≡ get r x)
+      → IsLinked k q was x → IsLinked (Some l) p was y
 
 -- ---- steps
 
@@ -73,25 +99,30 @@ with_word p w x = set (low_of p) (w % 256) (set (high_of p) (w / 256) x)
 -- a pair moves by an amount, modulo 65536
 pub record IsSoundStep (p : WordPair) (amount : ℕ) (v : Values) (after : Pairs) : Type 0 where
   pub gives :
-      (x : Registers ℕ) → AreBytes x → Holds v x → HoldPairs after (with_word p ((word_of p x + amount) % 65536) x)
+      (was x : Registers ℕ) → AreBytes x → Holds v was x → HoldPairs after was (with_word p ((word_of p x + amount) % 65536) x)
 
 -- a register moves by an amount, modulo 256
 pub record IsSoundByteStep (r : Register) (amount : ℕ) (v : Values) (after : Pairs) : Type 0 where
   pub gives :
-      (x : Registers ℕ) → AreBytes x → Holds v x → HoldPairs after (set r ((get r x + amount) % 256) x)
+      (was x : Registers ℕ) → AreBytes x → Holds v was x → HoldPairs after was (set r ((get r x + amount) % 256) x)
 
 -- the carry is as it is known
 abbrev pub IsCarry : Option Bool → ℕ → Type 0
 IsCarry None sum = Unit {0}
 IsCarry (Some carry) sum = nat_lt 65535 sum ≡ carry
 
--- to HL a word from the bounds is added
-pub record IsSoundSum (y : Bounds) (v : Values) (a : HlSum) : Type 0 where
+-- it is the pair's word, where it is told which
+abbrev pub IsWordOf : Option WordPair → ℕ → Registers ℕ → Type 0
+IsWordOf None n x = Unit {0}
+IsWordOf (Some p) n x = n ≡ word_of p x
+
+-- to HL a word from the bounds is added, which a pair may hold
+pub record IsSoundSum (y : Bounds) (from : Option WordPair) (v : Values) (a : HlSum) : Type 0 where
   pub pairs :
-      (x : Registers ℕ) (n : ℕ) → AreBytes x → Holds v x → y.first ≤ n → n ≤ y.last
-      → HoldPairs a.pairs (with_word pair.Hl ((word_of pair.Hl x + n) % 65536) x)
+      (was x : Registers ℕ) (n : ℕ) → AreBytes x → Holds v was x → y.first ≤ n → n ≤ y.last → IsWordOf from n x
+      → HoldPairs a.pairs was (with_word pair.Hl ((word_of pair.Hl x + n) % 65536) x)
   pub carry :
-      (x : Registers ℕ) (n : ℕ) → AreBytes x → Holds v x → y.first ≤ n → n ≤ y.last
+      (was x : Registers ℕ) (n : ℕ) → AreBytes x → Holds v was x → y.first ≤ n → n ≤ y.last
       → IsCarry a.carry (word_of pair.Hl x + n)
 
 -- ---- covering
@@ -101,6 +132,10 @@ abbrev pub AreOneByte : Option (Registers Bool) → Registers ℕ → Type 0
 AreOneByte None x = Unit {0}
 AreOneByte (Some places) x = (r s : Register) → get r places ≡ true → get s places ≡ true → get r x ≡ get s x
 
+-- a register whose value is a copy of what one held as the procedure was entered holds that
+pub record AreCopies (v : Registers Val) (was x : Registers ℕ) : Type 0 where
+  pub each : (r s : Register) → (get r v).origin ≡ Some (origin_of_register s) → get r x ≡ get s was
+
 -- what is known of pairs holds of all that the values stand for
 pub record ArePartOf (by : Option (Registers Bool)) (s : Values) (t : Pairs) : Type 0 where
-  pub gives : (x : Registers ℕ) → AreOneByte by x → Holds s x → HoldPairs t x
+  pub gives : (was x : Registers ℕ) → AreOneByte by x → AreCopies s.registers was x → Holds s was x → HoldPairs t was x

@@ -1,5 +1,5 @@
 -- Forgetting: what is left of the pairs where a register was written (abstract interpretation: forget; own).
-use Rattle.std.specs.Prelude.{ℕ, Bool, true, false, ◌==◌, if◌then◌else◌, Option, Some, None}
+use Rattle.std.specs.Prelude.{ℕ, Bool, true, false, ◌==◌, if◌then◌else◌, Option, Some, None, is_none}
 use Rattle.gb_ops.specs.declared.op.Register.{Register}
 use Rattle.gb_ops.specs.declared.op.Register.TheVariants.{B, C, D, E, H, L}
 use Rattle.gb_domain.specs.declared.pairs.WordPair.{WordPair}
@@ -34,6 +34,7 @@ is_same_pair p q = pair_number p == pair_number q
 abbrev pub reads : Register → Other → Bool
 reads r (other.Register s) = is_same_register r s
 reads r (other.Pair p) = is_half r p
+reads r other.Nothing = false
 
 abbrev pub link_without : Register → Option Link → Option Link
 link_without r None = None
@@ -46,3 +47,16 @@ facts_without r p f = if is_half r p then nothing_known else record f { link = l
 unfoldable pub without_register : Register → Pairs → Pairs
 without_register r s =
     record { bc = facts_without r pair.Bc s.bc; de = facts_without r pair.De s.de; hl = facts_without r pair.Hl s.hl }
+
+-- ---- a procedure is left
+
+abbrev pub link_without_base : Option Link → Option Link
+link_without_base None = None
+link_without_base (Some l) = if is_none l.base then Some l else None
+
+abbrev pub facts_without_base : PairFacts → PairFacts
+facts_without_base f = record f { link = link_without_base f.link }
+
+-- where another procedure begins, links that have a base are forgotten
+unfoldable pub without_bases : Pairs → Pairs
+without_bases s = record { bc = facts_without_base s.bc; de = facts_without_base s.de; hl = facts_without_base s.hl }

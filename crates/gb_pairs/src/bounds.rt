@@ -1,16 +1,19 @@
 //! Intervals of words, and the bounds of pairs and of what links read.
 
 ghost use Rattle.std.specs.Prelude.{◌≡◌};
-ghost use Rattle.gb_domain.specs.Pairs.{facts_of};
-ghost use Rattle.gb_pairs.specs.Bounds.{cut, is_empty, is_one, high_of, low_of, box, bounds_of, bounds_of_val, bounds_of_other};
+ghost use Rattle.gb_domain.specs.Pairs.{facts_of, bounds_in};
+ghost use Rattle.gb_pairs.specs.Bounds.{cut, is_empty, is_one, high_of, low_of, box, bounds_of, bounds_of_val, bounds_of_other, bounds_of_base};
 ghost use Rattle.gb_pairs.specs.Meaning.{word_of, other_of};
 ghost use Rattle.gb_pairs.specs.Sound.{IsSoundBounds};
 
 use crate::values::Values;
-use gb_domain::pairs::{Bounds, Other, PairFacts, Pairs, WordPair};
+use gb_domain::pairs::{Bounds, Other, PairBounds, PairFacts, Pairs, WordPair};
 use gb_domain::types::Val;
 use gb_ops::op::Register;
 use gb_vals::word;
+
+/// 0 alone.
+const ZERO_ALONE: Bounds = Bounds { first: 0, last: 0 };
 
 /// What is known of a pair.
 pub fn facts_of(pair: WordPair, pairs: &Pairs) -> PairFacts
@@ -23,7 +26,8 @@ pub fn facts_of(pair: WordPair, pairs: &Pairs) -> PairFacts
     }
 }
 
-pub(crate) fn cut(x: Bounds, y: Bounds) -> Bounds
+/// What is in both.
+pub fn cut(x: Bounds, y: Bounds) -> Bounds
     ensures { result ≡ cut x y }
 {
     Bounds {
@@ -106,5 +110,27 @@ pub fn bounds_of_other(other: Other, values: &Values) -> Bounds
     match other {
         Other::Register(register) => bounds_of_val(values.registers.get(register)),
         Other::Pair(pair) => bounds_of(pair, values),
+        Other::Nothing => ZERO_ALONE,
+    }
+}
+
+/// The bounds of one of the pairs.
+pub fn bounds_in(pair: WordPair, bounds: &PairBounds) -> Bounds
+    ensures { result ≡ bounds_in pair bounds.now }
+{
+    match pair {
+        WordPair::Bc => bounds.bc,
+        WordPair::De => bounds.de,
+        WordPair::Hl => bounds.hl,
+    }
+}
+
+/// The bounds of a link's base, where those of the pairs at entry are known.
+pub(crate) fn bounds_of_base(base: Option<WordPair>, entered: &PairBounds) -> Bounds
+    ensures { result ≡ bounds_of_base base entered.now }
+{
+    match base {
+        None => ZERO_ALONE,
+        Some(pair) => bounds_in(pair, entered),
     }
 }

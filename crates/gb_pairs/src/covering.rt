@@ -1,15 +1,17 @@
 //! Covering: whether what is known of pairs holds of all that values stand for.
 
 ghost use Rattle.std.specs.Prelude.{◌≡◌, ◌+◌, ◌-◌, ◌%◌, true};
-ghost use Rattle.gb_pairs.specs.Covering.{is_same_other, is_same_link, meets_link, holds_link_plainly, arc_by, is_arc_in, arc_of_bounds, arc_of_link, arc_of_sums, arc_of_both, are_one_byte, follows, has_sums, follows_on, arc_by_link, holds_link, covers_link, covers_bounds, covers_pair, covers_pairs};
+ghost use Rattle.gb_pairs.specs.Covering.{is_same_other, is_same_base, is_same_link, meets_link, holds_link_plainly, arc_by, is_arc_in, arc_of_bounds, arc_of_link, arc_of_sums, arc_of_both, are_one_byte, follows, has_sums, follows_on, arc_by_link, is_copy_of, is_as_entered, arc_by_itself, holds_link, covers_link, covers_bounds, covers_pair, covers_pairs};
 ghost use Rattle.gb_pairs.specs.Sound.{ArePartOf};
 
-use crate::bounds::{bounds_of, bounds_of_other, facts_of, is_one};
+use crate::bounds::{bounds_of, bounds_of_other, facts_of, high_of, is_one, low_of};
 use crate::reduced::{is_rising, pairs_at, pairs_width, product, size};
 use crate::values::Values;
 use crate::written::is_same_pair;
 use gb_domain::pairs::{Bounds, Link, Other, PairFacts, Pairs, WordPair};
 use gb_domain::places::is_same_register;
+use gb_domain::types::Origin;
+use gb_ops::op::Register;
 use gb_ops::registers::Registers;
 
 fn is_same_other(s: Other, t: Other) -> bool
@@ -18,6 +20,18 @@ fn is_same_other(s: Other, t: Other) -> bool
     match (s, t) {
         (Other::Register(s), Other::Register(t)) => is_same_register(s, t),
         (Other::Pair(s), Other::Pair(t)) => is_same_pair(s, t),
+        (Other::Nothing, Other::Nothing) => true,
+        _ => false,
+    }
+}
+
+/// Whether both have this base, or neither has one.
+fn is_same_base(s: Option<WordPair>, t: Option<WordPair>) -> bool
+    ensures { result ≡ is_same_base s t }
+{
+    match (s, t) {
+        (None, None) => true,
+        (Some(s), Some(t)) => is_same_pair(s, t),
         _ => false,
     }
 }
@@ -28,15 +42,22 @@ fn is_same_link(s: Option<Link>, t: Link) -> bool
     let Some(s) = s else {
         return false;
     };
-    is_same_other(s.other, t.other) && s.factor == t.factor && s.sum == t.sum && s.width == t.width
+    is_same_other(s.other, t.other)
+        && s.factor == t.factor
+        && is_same_base(s.base, t.base)
+        && s.sum == t.sum
+        && s.width == t.width
 }
 
-/// Whether a pair and what a link reads beside it are known, and meet the link.
+/// Whether a pair and what a link reads beside it are known, and meet the link, which has no base.
 fn meets_link(pair: Bounds, other: Bounds, link: Link) -> bool
     ensures { result ≡ meets_link pair other link }
 {
     let product = link.factor.wrapping_mul(other.first);
-    is_one(pair) && is_one(other) && pair.first.wrapping_add(product) == link.sum
+    link.base.is_none()
+        && is_one(pair)
+        && is_one(other)
+        && pair.first.wrapping_add(product) == link.sum
 }
 
 /// By the rules of versions 1 to 3: it is the pair's link, or pair and other are known and meet it.
@@ -140,7 +161,8 @@ fn follows(places: &Registers<bool>, s: Option<Link>, t: Link) -> bool
     let Some(s) = s else {
         return false;
     };
-    (is_same_other(s.other, t.other) || are_one_byte(places, s.other, t.other))
+    is_same_base(s.base, t.base)
+        && (is_same_other(s.other, t.other) || are_one_byte(places, s.other, t.other))
         && s.factor == t.factor
         && is_arc_in(arc_of_sums(s), arc_of_sums(t))
 }
@@ -155,7 +177,7 @@ fn has_sums(link: Link, sums: Option<Arc>) -> bool
     is_arc_in(sums, arc_of_sums(link))
 }
 
-/// Whether a link follows from where its pair is, and within which bounds what it reads.
+/// Whether a link follows from where its pair is, less the link's base, and within which bounds what it reads is.
 fn follows_on(other: Bounds, link: Link, pair: Option<Arc>) -> bool
     ensures { result ≡ follows_on other link pair }
 {
@@ -165,12 +187,51 @@ fn follows_on(other: Bounds, link: Link, pair: Option<Arc>) -> bool
     has_sums(link, arc_of_both(link, other, pair))
 }
 
-/// Where a pair is by its link.
-fn arc_by_link(s: &Values, link: Option<Link>) -> Option<Arc>
-    ensures { result ≡ arc_by_link s.now link }
+/// Where a pair is by its link, if that has the base.
+fn arc_by_link(s: &Values, base: Option<WordPair>, link: Option<Link>) -> Option<Arc>
+    ensures { result ≡ arc_by_link s.now base link }
 {
     let link = link?;
-    arc_of_link(link, bounds_of_other(link.other, s))
+    if is_same_base(link.base, base) {
+        arc_of_link(link, bounds_of_other(link.other, s))
+    } else {
+        None
+    }
+}
+
+/// Whether a value is what a register held as the procedure was entered.
+fn is_copy_of(register: Register, origin: Option<Origin>) -> bool
+    ensures { result ≡ is_copy_of register origin }
+{
+    matches!(
+        (register, origin),
+        (Register::A, Some(Origin::A))
+            | (Register::B, Some(Origin::B))
+            | (Register::C, Some(Origin::C))
+            | (Register::D, Some(Origin::D))
+            | (Register::E, Some(Origin::E))
+            | (Register::H, Some(Origin::H))
+            | (Register::L, Some(Origin::L))
+    )
+}
+
+/// Whether a pair's bytes are those that one held as the procedure was entered.
+pub fn is_as_entered(pair: WordPair, held: WordPair, s: &Values) -> bool
+    ensures { result ≡ is_as_entered pair held s.now }
+{
+    is_copy_of(high_of(held), s.registers.get(high_of(pair)).origin)
+        && is_copy_of(low_of(held), s.registers.get(low_of(pair)).origin)
+}
+
+/// Where a pair is by itself: in its bounds, or at 0, less what it held as the procedure was entered, where its bytes are that.
+fn arc_by_itself(s: &Values, base: Option<WordPair>, pair: WordPair) -> Option<Arc>
+    ensures { result ≡ arc_by_itself s.now base pair }
+{
+    match base {
+        None => Some(arc_of_bounds(bounds_of(pair, s))),
+        Some(held) if is_as_entered(pair, held, s) => Some(Arc { first: 0, width: 0 }),
+        Some(_) => None,
+    }
 }
 
 #[tactic(auto, unfolding(crate::specs::Covering::holds_link))]
@@ -180,8 +241,8 @@ fn holds_link(places: &Registers<bool>, pair: WordPair, s: &Values, link: Link) 
     let known = facts_of(pair, &s.pairs).link;
     let other = bounds_of_other(link.other, s);
     follows(places, known, link)
-        || follows_on(other, link, Some(arc_of_bounds(bounds_of(pair, s))))
-        || follows_on(other, link, arc_by_link(s, known))
+        || follows_on(other, link, arc_by_itself(s, link.base, pair))
+        || follows_on(other, link, arc_by_link(s, link.base, known))
 }
 
 // ---- pairs

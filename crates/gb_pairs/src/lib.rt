@@ -2,11 +2,12 @@
 //! interpretation: a weakly relational domain, in a reduced product with the intervals of the registers). Each operation is
 //! what its definition says (`exact`), and what it gives holds of all registers that the machine may have then (`sound`).
 //!
-//! Read `values` and `bounds`, then `reduced`, which cuts values to what pairs leave, then `written` and `moved`, what a write
-//! leaves of pairs, and last `covering`. `Meaning` of the definitions says which registers values stand for.
+//! Read `values` and `bounds`, then `reduced`, which cuts values to what pairs leave, then `written`, `copied` and `moved`, what a
+//! write leaves of pairs, and last `covering`. `Meaning` of the definitions says which registers values stand for.
 #![tactic(auto)]
 
 pub mod bounds;
+pub mod copied;
 pub mod covering;
 pub mod moved;
 mod plain;

@@ -2,10 +2,11 @@
 
 ghost use Rattle.std.specs.Prelude.{◌≡◌};
 ghost use Rattle.gb_domain.specs.Pairs.{ArePairs};
-ghost use Rattle.gb_pairs.specs.Moved.{moved_link, by_if, bounds_up, bounds_down, reads_half, reads_pair, link_of_step, facts_of_step, stepped, incremented, decremented, by_byte, other_by_byte, link_of_byte, weight, facts_of_byte_up, facts_of_byte_down, byte_incremented, byte_decremented, goes_round, carry_of, sums, without_hl, added};
+ghost use Rattle.gb_pairs.specs.Moved.{moved_link, by_if, bounds_up, bounds_down, reads_half, reads_pair, link_of_step, facts_of_step, stepped, incremented, decremented, by_byte, other_by_byte, link_of_byte, weight, facts_of_byte_up, facts_of_byte_down, byte_incremented, byte_decremented, goes_round, carry_of, sums, with_hl, link_of_sum, added};
 ghost use Rattle.gb_pairs.specs.Sound.{IsSoundStep, IsSoundByteStep, IsSoundSum};
 
 use crate::bounds::{bounds_of, facts_of, is_one};
+use crate::copied::link_copied;
 use crate::values::Values;
 use crate::written::{is_half, is_same_pair, without_register};
 use gb_domain::pairs::{ANY_BOUNDS, Bounds, Link, Other, PairFacts, Pairs, WordPair};
@@ -70,7 +71,7 @@ fn reads_half(pair: WordPair, other: Other) -> bool
 {
     match other {
         Other::Register(register) => is_half(register, pair),
-        Other::Pair(_) => false,
+        Other::Pair(_) | Other::Nothing => false,
     }
 }
 
@@ -78,8 +79,8 @@ fn reads_pair(pair: WordPair, other: Other) -> bool
     ensures { result ≡ reads_pair pair other }
 {
     match other {
-        Other::Register(_) => false,
         Other::Pair(read) => is_same_pair(pair, read),
+        Other::Register(_) | Other::Nothing => false,
     }
 }
 
@@ -177,6 +178,7 @@ fn other_by_byte(register: Register, other: Other, low: u16, high: u16) -> u16
     match other {
         Other::Register(read) => by_if(is_same_register(register, read), low),
         Other::Pair(pair) => by_byte(register, pair, low, high),
+        Other::Nothing => 0,
     }
 }
 
@@ -303,23 +305,38 @@ fn sums(carry: Option<bool>, x: Bounds, y: Bounds) -> Bounds
     }
 }
 
-/// HL is another word: links that read it or its bytes are forgotten, and its own.
-fn without_hl(bounds: Bounds, pairs: &Pairs) -> Pairs
-    ensures { result ≡ without_hl bounds pairs.now }
+/// HL is another word, with this link: links that read it or its bytes are forgotten.
+fn with_hl(bounds: Bounds, link: Option<Link>, pairs: &Pairs) -> Pairs
+    ensures { result ≡ with_hl bounds link pairs.now }
 {
     let left = without_register(Register::L, pairs);
     let left = without_register(Register::H, &left);
     Pairs {
-        hl: PairFacts { bounds, link: None },
+        hl: PairFacts { bounds, link },
         ..left
     }
 }
 
-/// What is known of pairs where a word is added to HL. One that is known, and isn't HL itself, is a step.
+/// HL's link where another pair's word is added to a known one.
+fn link_of_sum(from: Option<WordPair>, values: &Values) -> Option<Link>
+    ensures { result ≡ link_of_sum from values.now }
+{
+    let from = from?;
+    let hl = bounds_of(WordPair::Hl, values);
+    if is_one(hl) && !is_same_pair(WordPair::Hl, from) {
+        let copied = link_copied(WordPair::Hl, from, facts_of(from, &values.pairs).link);
+        Some(moved_link(hl.first, 0, copied))
+    } else {
+        None
+    }
+}
+
+/// What is known of pairs where a word is added to HL. One that is known, and isn't HL itself, is a step. By the rules of version 4
+/// it is told which pair holds the word.
 #[tactic(auto, unfolding(crate::specs::Moved::added))]
-pub fn added(addend: Bounds, is_hl: bool, values: &Values) -> HlSum
-    ensures exact { result ≡ added addend is_hl values.now }
-    ensures sound { IsSoundSum addend values.now result }
+pub fn added(addend: Bounds, is_hl: bool, from: Option<WordPair>, values: &Values) -> HlSum
+    ensures exact { result ≡ added addend is_hl from values.now }
+    ensures sound { IsSoundSum addend from values.now result }
     ensures kept { ArePairs values.now.pairs → ArePairs result.pairs }
 {
     let hl = bounds_of(WordPair::Hl, values);
@@ -328,7 +345,7 @@ pub fn added(addend: Bounds, is_hl: bool, values: &Values) -> HlSum
     let pairs = if is_one(addend) && !is_hl {
         stepped(WordPair::Hl, addend.first, bounds, &values.pairs)
     } else {
-        without_hl(bounds, &values.pairs)
+        with_hl(bounds, link_of_sum(from, values), &values.pairs)
     };
     HlSum { pairs, carry }
 }

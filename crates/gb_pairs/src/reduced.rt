@@ -2,15 +2,17 @@
 
 ghost use Rattle.std.specs.Prelude.{◌≡◌, ◌≤◌, ◌*◌, IfSome};
 ghost use Rattle.gb_domain.specs.Pairs.{ArePairs};
-ghost use Rattle.gb_pairs.specs.Reduced.{values_of, values_if, is_rising, size, pair_at, last_pair_at, pairs_at, pairs_width, cut_by_other, multiple_at, last_sum, multiples_at, others_at, values_within, cut_val, with_facts, with_bounds, with_bounds_if, cut_other, high_bounds, low_bounds, settled, reduced_by_link, reduced_pair, reduced_once, reduced, restricted};
-ghost use Rattle.gb_pairs.specs.Sound.{IsSoundByLink, IsSoundReducing, IsSoundRestriction, IsCut};
+ghost use Rattle.gb_pairs.specs.Reduced.{values_of, values_if, is_rising, size, pair_at, last_pair_at, pairs_at, pairs_width, cut_by_other, without_base, unbased, multiple_at, last_sum, multiples_at, others_at, values_within, cut_val, with_facts, with_bounds, with_bounds_if, cut_other, high_bounds, low_bounds, settled, reduced_by_link, reduced_pair, reduced_once, reduced, restricted};
+ghost use Rattle.gb_pairs.specs.Sound.{IsSoundWithoutBase, IsSoundByLink, IsSoundReducing, IsSoundRestriction, IsCut};
 
-use crate::bounds::{bounds_of, bounds_of_other, cut, facts_of, high_of, is_empty, low_of};
+use crate::bounds::{
+    bounds_of, bounds_of_base, bounds_of_other, cut, facts_of, high_of, is_empty, low_of,
+};
 use crate::plain::{are_plain, put_boxes};
 use crate::values::Values;
 use gb_domain::interval::with_low_bits;
 use gb_domain::low_bits::low_bits;
-use gb_domain::pairs::{Bounds, Link, Other, PairFacts, Pairs, WordPair};
+use gb_domain::pairs::{Bounds, Link, Other, PairBounds, PairFacts, Pairs, WordPair};
 use gb_domain::types::Val;
 use gb_ops::registers::Registers;
 
@@ -90,6 +92,32 @@ fn cut_by_other(link: Link, other: Bounds, bounds: Bounds) -> Bounds
     }
 }
 
+/// A link as it is where its base lies within bounds: none where these are empty, or it would say nothing.
+#[tactic(auto, using(crate::proofs::BaseLaws::without_base_sound), unfolding(crate::specs::Reduced::without_base))]
+pub fn without_base(base: Bounds, link: Link) -> Option<Link>
+    ensures exact { result ≡ without_base base link }
+    ensures sound { IsSoundWithoutBase base link result }
+{
+    let width = u32::from(link.width) + u32::from(base.last.saturating_sub(base.first));
+    if is_empty(base) || width > 65_535 {
+        return None;
+    }
+    Some(Link {
+        base: None,
+        sum: link.sum.wrapping_add(base.first),
+        width: width as u16,
+        ..link
+    })
+}
+
+/// The same, where the pairs lay in some bounds as the procedure was entered.
+fn unbased(entered: &PairBounds, link: Option<Link>) -> Option<Link>
+    ensures { result ≡ unbased entered.now link }
+{
+    let link = link?;
+    without_base(bounds_of_base(link.base, entered), link)
+}
+
 /// What a link reads, times the size of its factor, where the pair is known, and this is their sum.
 fn multiple_at(link: Link, sum: u16, word: u16) -> u16
     ensures { result ≡ multiple_at link sum word }
@@ -102,7 +130,7 @@ fn multiple_at(link: Link, sum: u16, word: u16) -> u16
 }
 
 /// The greatest of a link's sums.
-fn last_sum(link: Link) -> u16
+pub fn last_sum(link: Link) -> u16
     ensures { result ≡ last_sum link }
 {
     link.sum.wrapping_add(link.width)
@@ -198,7 +226,7 @@ fn set_bounds(pair: WordPair, bounds: Bounds, values: &mut Values)
     set_facts(pair, PairFacts { bounds, ..facts }, values);
 }
 
-/// What a link reads is cut: a register's value, or a pair's own bounds.
+/// What a link reads is cut: a register's value, or a pair's own bounds, if it reads something.
 #[tactic(auto, unfolding(crate::specs::Reduced::cut_other))]
 fn cut_other(other: Other, bounds: Bounds, values: &Values) -> Option<Values>
     ensures { result ≡ cut_other other bounds values.now }
@@ -216,6 +244,7 @@ fn cut_other(other: Other, bounds: Bounds, values: &Values) -> Option<Values>
             }
             set_bounds(pair, left, &mut reduced);
         }
+        Other::Nothing => {}
     }
     Some(reduced)
 }
@@ -282,17 +311,17 @@ fn reduced_by_link(
     }
 }
 
-/// Values cut by one pair.
+/// Values cut by one pair, where the pairs lay in some bounds as the procedure was entered.
 #[tactic(auto, using(crate::proofs::ReducedLaws::no_link_sound, crate::proofs::ReducedLaws::link_sound, crate::proofs::ReducedLaws::empty_sound), unfolding(crate::specs::Reduced::reduced_pair))]
-fn reduced_pair(pair: WordPair, values: &Values) -> Option<Values>
-    ensures exact { result ≡ reduced_pair pair values.now }
-    ensures sound { IsSoundReducing values.now result }
+fn reduced_pair(entered: &PairBounds, pair: WordPair, values: &Values) -> Option<Values>
+    ensures exact { result ≡ reduced_pair entered.now pair values.now }
+    ensures sound { IsSoundReducing entered.now values.now result }
 {
     let bounds = bounds_of(pair, values);
     if is_empty(bounds) {
         return None;
     }
-    match facts_of(pair, &values.pairs).link {
+    match unbased(entered, facts_of(pair, &values.pairs).link) {
         None => settled(pair, bounds, values),
         Some(link) => reduced_by_link(
             pair,
@@ -306,36 +335,36 @@ fn reduced_pair(pair: WordPair, values: &Values) -> Option<Values>
 
 /// Values cut by each pair.
 #[tactic(auto, using(crate::proofs::ReducedLaws::sound_then, crate::proofs::ReducedLaws::sound_none), unfolding(crate::specs::Reduced::reduced_once))]
-fn reduced_once(values: &Values) -> Option<Values>
-    ensures exact { result ≡ reduced_once values.now }
-    ensures sound { IsSoundReducing values.now result }
+fn reduced_once(entered: &PairBounds, values: &Values) -> Option<Values>
+    ensures exact { result ≡ reduced_once entered.now values.now }
+    ensures sound { IsSoundReducing entered.now values.now result }
 {
-    let by_bc = reduced_pair(WordPair::Bc, values)?;
-    let by_de = reduced_pair(WordPair::De, &by_bc)?;
-    reduced_pair(WordPair::Hl, &by_de)
+    let by_bc = reduced_pair(entered, WordPair::Bc, values)?;
+    let by_de = reduced_pair(entered, WordPair::De, &by_bc)?;
+    reduced_pair(entered, WordPair::Hl, &by_de)
 }
 
 /// Each pair may cut what an earlier one reads, so that all are asked twice.
 #[tactic(auto, using(crate::proofs::ReducedLaws::sound_then, crate::proofs::ReducedLaws::sound_none), unfolding(crate::specs::Reduced::reduced))]
-fn reduced_twice(values: &Values) -> Option<Values>
-    ensures exact { result ≡ reduced values.now }
-    ensures sound { IsSoundReducing values.now result }
+fn reduced_twice(entered: &PairBounds, values: &Values) -> Option<Values>
+    ensures exact { result ≡ reduced entered.now values.now }
+    ensures sound { IsSoundReducing entered.now values.now result }
 {
-    reduced_once(&reduced_once(values)?)
+    reduced_once(entered, &reduced_once(entered, values)?)
 }
 
 /// Cuts values in place by each pair, twice; whether they then mean something. It is out of line, so that no values are copied
 /// where no pair says more than its bytes.
 #[inline(never)]
-fn reduce_twice(registers: &mut Registers<Val>, pairs: &mut Pairs) -> bool
-    ensures exact { reduced (values_of registers.old pairs.old) ≡ values_if result (values_of registers.new pairs.new) }
-    ensures sound { IsSoundReducing (values_of registers.old pairs.old) (values_if result (values_of registers.new pairs.new)) }
+fn reduce_twice(entered: &PairBounds, registers: &mut Registers<Val>, pairs: &mut Pairs) -> bool
+    ensures exact { reduced entered.now (values_of registers.old pairs.old) ≡ values_if result (values_of registers.new pairs.new) }
+    ensures sound { IsSoundReducing entered.now (values_of registers.old pairs.old) (values_if result (values_of registers.new pairs.new)) }
 {
     let values = Values {
         registers: *registers,
         pairs: *pairs,
     };
-    match reduced_twice(&values) {
+    match reduced_twice(entered, &values) {
         Some(values) => {
             *registers = values.registers;
             *pairs = values.pairs;
@@ -347,27 +376,28 @@ fn reduce_twice(registers: &mut Registers<Val>, pairs: &mut Pairs) -> bool
 
 /// Cuts values in place by each pair, where some pair says more than its bytes: that test is cheap and mostly fails.
 #[inline(always)]
-fn reduce_by_need(registers: &mut Registers<Val>, pairs: &mut Pairs) -> bool
-    ensures exact { reduced (values_of registers.old pairs.old) ≡ values_if result (values_of registers.new pairs.new) }
-    ensures sound { IsSoundReducing (values_of registers.old pairs.old) (values_if result (values_of registers.new pairs.new)) }
+fn reduce_by_need(entered: &PairBounds, registers: &mut Registers<Val>, pairs: &mut Pairs) -> bool
+    ensures exact { reduced entered.now (values_of registers.old pairs.old) ≡ values_if result (values_of registers.new pairs.new) }
+    ensures sound { IsSoundReducing entered.now (values_of registers.old pairs.old) (values_if result (values_of registers.new pairs.new)) }
 {
     if are_plain(registers, pairs) {
-        put_boxes(registers, pairs);
+        put_boxes(entered, registers, pairs);
         true
     } else {
-        reduce_twice(registers, pairs)
+        reduce_twice(entered, registers, pairs)
     }
 }
 
-/// Registers and pairs are cut in place to what pairs and links leave of each other; whether they then stand for something.
+/// Registers and pairs are cut in place to what pairs and links leave of each other, in a procedure that was entered with pairs
+/// within bounds; whether they then stand for something.
 #[inline(always)]
-pub fn reduce(registers: &mut Registers<Val>, pairs: &mut Pairs) -> bool
-    ensures exact { reduced (values_of registers.old pairs.old) ≡ values_if result (values_of registers.new pairs.new) }
-    ensures sound { IsSoundReducing (values_of registers.old pairs.old) (values_if result (values_of registers.new pairs.new)) }
+pub fn reduce(entered: &PairBounds, registers: &mut Registers<Val>, pairs: &mut Pairs) -> bool
+    ensures exact { reduced entered.now (values_of registers.old pairs.old) ≡ values_if result (values_of registers.new pairs.new) }
+    ensures sound { IsSoundReducing entered.now (values_of registers.old pairs.old) (values_if result (values_of registers.new pairs.new)) }
     ensures cuts { IfSome (values_if result (values_of registers.new pairs.new)) (IsCut (values_of registers.old pairs.old)) }
     ensures kept { ArePairs pairs.old → IfSome (values_if result (values_of registers.new pairs.new)) (λ w. ArePairs w.pairs) }
 {
-    reduce_by_need(registers, pairs)
+    reduce_by_need(entered, registers, pairs)
 }
 
 #[tactic(auto, unfolding(crate::specs::Reduced::restricted))]

@@ -2,8 +2,8 @@
 
 ghost use Rattle.std.specs.Prelude.{◌≡◌};
 ghost use Rattle.gb_domain.specs.Pairs.{ArePairs};
-ghost use Rattle.gb_pairs.specs.Sound.{IsSoundForgetting};
-ghost use Rattle.gb_pairs.specs.Written.{is_half, pair_number, is_same_pair, reads, link_without, facts_without, without_register};
+ghost use Rattle.gb_pairs.specs.Sound.{IsSoundWithoutBases, IsSoundForgetting};
+ghost use Rattle.gb_pairs.specs.Written.{is_half, pair_number, is_same_pair, reads, link_without, facts_without, without_register, link_without_base, facts_without_base, without_bases};
 
 use gb_domain::pairs::{Link, NOTHING_KNOWN, Other, PairFacts, Pairs, WordPair};
 use gb_domain::places::is_same_register;
@@ -40,12 +40,13 @@ pub fn is_same_pair(x: WordPair, y: WordPair) -> bool
 }
 
 /// Whether what a link reads is read from a register.
-fn reads(register: Register, other: Other) -> bool
+pub(crate) fn reads(register: Register, other: Other) -> bool
     ensures { result ≡ reads register other }
 {
     match other {
         Other::Register(read) => is_same_register(register, read),
         Other::Pair(pair) => is_half(register, pair),
+        Other::Nothing => false,
     }
 }
 
@@ -84,5 +85,40 @@ pub fn without_register(register: Register, pairs: &Pairs) -> Pairs
         bc: facts_without(register, WordPair::Bc, pairs.bc),
         de: facts_without(register, WordPair::De, pairs.de),
         hl: facts_without(register, WordPair::Hl, pairs.hl),
+    }
+}
+
+/// A link stays where it has no base.
+fn link_without_base(link: Option<Link>) -> Option<Link>
+    ensures { result ≡ link_without_base link }
+{
+    let link = link?;
+    if link.base.is_none() {
+        Some(link)
+    } else {
+        None
+    }
+}
+
+fn facts_without_base(facts: PairFacts) -> PairFacts
+    ensures { result ≡ facts_without_base facts }
+{
+    PairFacts {
+        link: link_without_base(facts.link),
+        ..facts
+    }
+}
+
+/// What is left of the pairs where another procedure begins: no link that has a base.
+#[tactic(auto, using(crate::proofs::WrittenLaws::without_bases_sound, crate::proofs::KeptLaws::without_bases_kept), unfolding(crate::specs::Written::without_bases))]
+pub fn without_bases(pairs: &Pairs) -> Pairs
+    ensures exact { result ≡ without_bases pairs.now }
+    ensures sound { IsSoundWithoutBases pairs.now result }
+    ensures kept { ArePairs pairs.now → ArePairs result }
+{
+    Pairs {
+        bc: facts_without_base(pairs.bc),
+        de: facts_without_base(pairs.de),
+        hl: facts_without_base(pairs.hl),
     }
 }

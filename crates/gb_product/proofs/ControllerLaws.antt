@@ -7,6 +7,9 @@ use Rattle.gb_ops.specs.declared.machine.Kind.{Kind}
 use Rattle.gb_ops.specs.declared.machine.Kind.TheVariants as kind
 use Rattle.gb_ops.specs.declared.registers.Processor.{Processor}
 use Rattle.gb_domain.specs.declared.pairs.Bounds.{Bounds}
+use Rattle.gb_domain.specs.declared.pairs.PairBounds.{PairBounds}
+use Rattle.gb_product.specs.Meaning.{entered_with}
+use Rattle.gb_ops.specs.declared.registers.Registers.{Registers}
 use Rattle.gb_domain.specs.declared.types.Cell.{Cell}
 use Rattle.gb_domain.specs.declared.types.Ctl.{Ctl}
 use Rattle.gb_domain.specs.Summaries.{Program, SummaryParts}
@@ -142,7 +145,8 @@ HoldsController-with_bounds k which b c entry r e least most small h = choose (n
 
 -- what a state knows, of the registers of both windows
 record HoldsRest (program : Program) (v : Values) (cells : List Cell) (s : SummaryParts) (p : Processor) (memory : ℕ → ℕ) (r : Banks) : Type 0 where
-  values : HoldValues v p.registers
+  was : Registers ℕ
+  values : HoldValues v was p.registers
   registers : AreBytes p.registers
   bytes : (a : ℕ) → memory a < 256
   cells_hold : HoldCells cells memory
@@ -161,7 +165,7 @@ HoldsController-cut_window which v cells s c entry p memory r rest h = choose (h
     windows = windows_hold c entry r h
 
     known : HoldsKnown entry.program v c cells s p memory r
-    known = record { values = rest.values; windows = windows; bytes = rest.bytes; cells_hold = rest.cells_hold; summary = rest.summary }
+    known = record { was = rest.was; values = rest.values; windows = windows; bytes = rest.bytes; cells_hold = rest.cells_hold; summary = rest.summary }
 
     by : (o : Option Bounds) → WithinSome o (register_of entry.program.kind which r)
         → HoldsControllerIf (option_map (λ b. with_bounds entry.program.kind which c (cut_bounds (window_bounds entry.program.kind which c) b)) o) entry r
@@ -197,10 +201,10 @@ pub reduced_controller_sound :
 reduced_controller_sound program v cells s c o e =
     subst (λ q. IsSoundController program v cells s c q) (sym e)
     (record {
-      gives = λ entry p memory r of registers values bytes cells_hold summary h.
+      gives = λ entry was p memory r of registers values bytes cells_hold summary h.
           subst (λ q. HoldsControllerIf (reduced_controller q v cells s c) entry r) of
           (HoldsController-reduced v cells s c entry p memory r
-          (record { values = values; registers = registers; bytes = bytes; cells_hold = cells_hold; summary = subst (λ q. HoldSummary q cells s p memory r) (sym of) summary }) h);
+          (record { was = was; values = values; registers = registers; bytes = bytes; cells_hold = cells_hold; summary = subst (λ q. HoldSummary q cells s p memory r) (sym of) summary }) h);
     })
 
 -- ---- with registers and pairs
@@ -218,18 +222,18 @@ MeansCore-with_ctl core c entry x h m = record {
 }
 
 pub with_banks_cut_sound :
-    (program : Program) (cells : List Cell) (s : SummaryParts) (core : Core) (r : Relations) (o q : Option Product)
-    → IsSoundReducing core r o → q ≡ option_and_then (with_banks_cut program cells s) o → IsSoundWhole program cells s core r q
-with_banks_cut_sound program cells s core r o q sound e =
-    subst (λ t. IsSoundWhole program cells s core r t) (sym e)
-    (record { gives = λ entry x of registers bytes cells_hold summary m related. by entry x of registers bytes cells_hold summary o (sound.gives entry x registers m related) })
+    (program : Program) (entered : PairBounds) (cells : List Cell) (s : SummaryParts) (core : Core) (r : Relations) (o q : Option Product)
+    → IsSoundReducing entered core r o → q ≡ option_and_then (with_banks_cut program cells s) o → IsSoundWhole program entered cells s core r q
+with_banks_cut_sound program entered cells s core r o q sound e =
+    subst (λ t. IsSoundWhole program entered cells s core r t) (sym e)
+    (record { gives = λ entry x of within registers bytes cells_hold summary m related. by entry x of registers bytes cells_hold summary o (sound.gives entry x within registers m related) })
   where
     by : (entry : Activation) (x : MState) → entry.program ≡ program → AreBytes x.processor.registers → ((a : ℕ) → peek x.storage a < 256) → HoldCells cells (peek x.storage)
         → HoldSummary program cells s x.processor (peek x.storage) x.storage.banks → (p : Option Product) → IsMeantProduct p entry x → IsMeantProduct (option_and_then (with_banks_cut program cells s) p) entry x
     by entry x of registers bytes cells_hold summary None m = m
     by entry x of registers bytes cells_hold summary (Some p) m =
         cut (reduced_controller program (values_of p.core.registers p.relations.pairs) cells s p.core.ctl)
-        ((reduced_controller_sound program (values_of p.core.registers p.relations.pairs) cells s p.core.ctl _ refl).gives entry x.processor (peek x.storage) x.storage.banks of registers
+        ((reduced_controller_sound program (values_of p.core.registers p.relations.pairs) cells s p.core.ctl _ refl).gives entry (entered_with entry) x.processor (peek x.storage) x.storage.banks of registers
         (Holds-values p.core p.relations entry x m.core m.related) bytes cells_hold summary m.core.controller)
       where
         cut : (d : Option Ctl) → HoldsControllerIf d entry x.storage.banks → IsMeantProduct (option_map (λ c. product_of (record p.core { ctl = c }) p.relations) d) entry x
@@ -237,16 +241,16 @@ with_banks_cut_sound program cells s core r o q sound e =
         cut (Some d) h = record { core = MeansCore-with_ctl p.core d entry x h m.core; related = m.related }
 
 -- as it stands
-pub same_whole : (program : Program) (cells : List Cell) (s : SummaryParts) (core : Core) (r : Relations) → IsSoundWhole program cells s core r (Some (product_of core r))
-same_whole program cells s core r = record { gives = λ entry x of registers bytes cells_hold summary m related. record { core = m; related = related } }
+pub same_whole : (program : Program) (entered : PairBounds) (cells : List Cell) (s : SummaryParts) (core : Core) (r : Relations) → IsSoundWhole program entered cells s core r (Some (product_of core r))
+same_whole program entered cells s core r = record { gives = λ entry x of within registers bytes cells_hold summary m related. record { core = m; related = related } }
 
 pub reduced_wholly_sound :
-    (program : Program) (rules : Rules) (core : Core) (r : Relations) (cells : List Cell) (s : SummaryParts)
-    → (rules ≡ Extended → ArePairs r.pairs) → IsSoundWhole program cells s core r (reduced_wholly program rules core r cells s)
+    (program : Program) (rules : Rules) (entered : PairBounds) (core : Core) (r : Relations) (cells : List Cell) (s : SummaryParts)
+    → (rules ≡ Extended → ArePairs r.pairs) → IsSoundWhole program entered cells s core r (reduced_wholly program rules entered core r cells s)
 unfolding reduced_wholly reduced
-reduced_wholly_sound program Simple core r cells s are = same_whole program cells s core r
-reduced_wholly_sound program Extended core r cells s are =
-    with_banks_cut_sound program cells s core r (reduced Extended core r) _ (reduced_sound Extended core r _ refl (are refl)) refl
+reduced_wholly_sound program Simple entered core r cells s are = same_whole program entered cells s core r
+reduced_wholly_sound program Extended entered core r cells s are =
+    with_banks_cut_sound program entered cells s core r (reduced Extended entered core r) _ (reduced_sound Extended entered core r _ refl (are refl)) refl
 
 -- SP stays set, and the one byte keeps its places
 abbrev pub AreKept : Core → Relations → Product → Type 0
@@ -275,8 +279,8 @@ with_banks_cut_stack program cells s core r o q cut e = set q (with_banks_cut_ke
     set (Some p) h = h.0
 
 pub reduced_wholly_kept :
-    (program : Program) (rules : Rules) (core : Core) (r : Relations) (cells : List Cell) (s : SummaryParts)
-    → IfSome (reduced_wholly program rules core r cells s) (AreKept core r)
+    (program : Program) (rules : Rules) (entered : PairBounds) (core : Core) (r : Relations) (cells : List Cell) (s : SummaryParts)
+    → IfSome (reduced_wholly program rules entered core r cells s) (AreKept core r)
 unfolding reduced_wholly reduced
-reduced_wholly_kept program Simple core r cells s = (refl, refl)
-reduced_wholly_kept program Extended core r cells s = with_banks_cut_kept program cells s core r (reduced Extended core r) _ (reduced_cuts Extended core r _ refl) refl
+reduced_wholly_kept program Simple entered core r cells s = (refl, refl)
+reduced_wholly_kept program Extended entered core r cells s = with_banks_cut_kept program cells s core r (reduced Extended entered core r) _ (reduced_cuts Extended entered core r _ refl) refl

@@ -24,13 +24,16 @@ use Rattle.gb_domain.specs.Values.{interval_of}
 use Rattle.gb_domain.proofs.ValueLaws.{Has-same, same-Has}
 use Rattle.gb_abs_effects.specs.Below.gb_vals.Meaning.{In}
 use Rattle.gb_abs_effects.specs.Below.gb_abs.Covering.{cell_at, covers_val, covers_core, covers_items, covers_parts, covers_cells as covers_cells_alone}
-use Rattle.gb_abs_effects.specs.Below.gb_abs.Meaning.{Activation, Holds, MeansParts, IsMemory}
+use Rattle.gb_abs_effects.specs.Below.gb_abs.Meaning.{Activation, Holds, MeansCore, MeansParts, IsMemory}
 use Rattle.gb_abs_effects.specs.Below.gb_abs.Storage.{peek}
 use Rattle.gb_abs_effects.proofs.Below.gb_abs_laws.CoveringLaws.{Holds-covered, Holds-cell, MeansParts-covered}
+use Rattle.gb_domain.specs.declared.types.Core.{Core}
+use Rattle.gb_domain.specs.Types.{origin_of_register}
+use Rattle.gb_abs_effects.proofs.Below.gb_abs_laws.OriginLaws.{origin_value-of_register}
 use Rattle.gb_abs_effects.proofs.CoreLaws.{In-from}
 use Rattle.gb_summaries.proofs.Below.gb_pairs_laws.RegisterLaws.{same_pair}
 use Rattle.gb_summaries.specs.Below.gb_copies.Meaning.{HoldOneByte}
-use Rattle.gb_summaries.specs.Below.gb_pairs.Sound.{AreOneByte}
+use Rattle.gb_summaries.specs.Below.gb_pairs.Sound.{AreOneByte, AreCopies}
 use Rattle.gb_summaries.proofs.Below.gb_pairs_laws.CoveringLaws.{covers_pairs_sound}
 use Rattle.gb_summaries.proofs.Below.gb_copies_laws.CoveringLaws.{covers_byte_sound}
 use Rattle.gb_summaries.proofs.Below.gb_ram_bounds_laws.CoveringLaws.{byte_at_sound}
@@ -47,7 +50,7 @@ use Rattle.gb_summaries.specs.Covering.{covers_aside, covers_summary}
 use Rattle.gb_summaries.specs.Known.{pointer_bounds, HoldsKnown}
 use Rattle.gb_summaries.specs.Meaning.{pointers_of}
 use Rattle.gb_product.specs.Covering.{covers_zero, places_by, covers_relations, uncopied, byte_in, covers_cells, values_in, covers}
-use Rattle.gb_product.specs.Meaning.{IsSummarized, Means}
+use Rattle.gb_product.specs.Meaning.{entered_with, IsSummarized, Means}
 use Rattle.gb_product.specs.Sound.{IsPartOf}
 use Rattle.gb_product.proofs.ControllerLaws.{windows_hold}
 
@@ -63,19 +66,24 @@ one_byte :
 one_byte false s x memory f h = tt
 one_byte true s x memory f h = λ r q e g. h.registers r e ∙ sym (h.registers q g)
 
+-- a register's copy is what the register held as the procedure was entered
+pub AreCopies-core : (core : Core) (entry : Activation) (x : MState) → MeansCore core entry x → AreCopies core.registers (entered_with entry) x.processor.registers
+AreCopies-core core entry x m = record { each = λ r s e. (m.registers r).origin (origin_of_register s) e ∙ origin_value-of_register s entry }
+
 pub HoldRelations-covered :
-    (whole : Bool) (registers : Registers Val) (s t : Relations) (x : Registers ℕ) (memory : ℕ → ℕ) (f : Flags)
-    → covers_relations whole registers s t ≡ true → ((r : Register) → In (get r registers) (get r x)) → HoldRelations s x memory f → HoldRelations t x memory f
+    (whole : Bool) (registers : Registers Val) (s t : Relations) (was x : Registers ℕ) (memory : ℕ → ℕ) (f : Flags)
+    → covers_relations whole registers s t ≡ true → ((r : Register) → In (get r registers) (get r x)) → AreCopies registers was x
+    → HoldRelations s was x memory f → HoldRelations t was x memory f
 unfolding covers_relations
-HoldRelations-covered whole registers s t x memory f h in_registers m =
+HoldRelations-covered whole registers s t was x memory f h in_registers copies m =
     let pairs = and_parts _ _ h in
     let zero = and_parts _ _ pairs.0 in
     record {
       byte = (covers_byte_sound s.byte t.byte _ refl zero.0).gives x memory f m.byte;
       zero = zero_covered s.zero t.zero x f zero.1 m.zero;
       pairs =
-          (covers_pairs_sound (places_by whole s) (values_of registers s.pairs) t.pairs _ refl pairs.1).gives x
-          (one_byte whole s x memory f m.byte) (record { registers = in_registers; pairs = m.pairs });
+          (covers_pairs_sound (places_by whole s) (values_of registers s.pairs) t.pairs _ refl pairs.1).gives was x
+          (one_byte whole s x memory f m.byte) copies (record { registers = in_registers; pairs = m.pairs });
     }
 
 -- ---- bytes in RAM
@@ -145,15 +153,20 @@ AreCells-covered v cells s (c ∷ kept) entry x e memory h state =
 
 -- ---- all of it
 
+pub HoldValues-means : (s : AbsState) (entry : Activation) (base : ℕ) (x : MState) → Means s entry base x → HoldValues (values_in s) (entered_with entry) x.processor.registers
+HoldValues-means s entry base x m =
+    record {
+      registers = λ r. In-from (get r s.core.registers) entry (get r x.processor.registers) (m.parts.core.registers r);
+      pairs = m.related.pairs;
+    }
+
 pub HoldsKnown-means :
     (s : AbsState) (entry : Activation) (base : ℕ) (x : MState) → Means s entry base x
     → HoldsKnown entry.program (values_in s) s.core.ctl s.cells s.summary x.processor (peek x.storage) x.storage.banks
 HoldsKnown-means s entry base x m =
     record {
-      values = record {
-        registers = λ r. In-from (get r s.core.registers) entry (get r x.processor.registers) (m.parts.core.registers r);
-        pairs = m.related.pairs;
-      };
+      was = entered_with entry;
+      values = HoldValues-means s entry base x m;
       windows = windows_hold s.core.ctl entry x.storage.banks m.parts.core.controller;
       bytes = λ a. let small = m.parts.memory.bytes a in omega arith;
       cells_hold = HoldCells-means s.cells entry x m.parts.cells;
@@ -163,7 +176,7 @@ HoldsKnown-means s entry base x m =
 -- what a state knows of a byte holds of it, with values that its registers and pairs have
 pub Holds-byte_in_state :
     (v : Values) (s : AbsState) (a : ℕ) (entry : Activation) (base : ℕ) (x : MState)
-    → MeansParts s entry base x → IsSummarized s entry x → HoldValues v x.processor.registers
+    → MeansParts s entry base x → IsSummarized s entry x → HoldValues v (entered_with entry) x.processor.registers
     → Holds (byte_in entry.program v s.cells s.summary a) entry (peek x.storage a)
 Holds-byte_in_state v s a entry base x m said values =
     Holds-byte_in v s.cells s.summary a entry x m.memory m.cells
@@ -172,7 +185,7 @@ Holds-byte_in_state v s a entry base x m said values =
       cells_hold = HoldCells-means s.cells entry x m.cells;
       facts_hold = said.facts;
       fills_hold = said.fills;
-      pointers = PointersIn-known v x.processor values;
+      pointers = PointersIn-known v (entered_with entry) x.processor values;
     })
 
 -- what a state knows of a byte holds of each machine state that it means
@@ -180,7 +193,7 @@ pub Holds-byte :
     (s : AbsState) (a : ℕ) (entry : Activation) (base : ℕ) (x : MState) → Means s entry base x
     → Holds (byte_in entry.program (values_in s) s.cells s.summary a) entry (peek x.storage a)
 Holds-byte s a entry base x m =
-    Holds-byte_in_state (values_in s) s a entry base x m.parts m.summary (HoldsKnown-means s entry base x m).values
+    Holds-byte_in_state (values_in s) s a entry base x m.parts m.summary (HoldValues-means s entry base x m)
 
 and_true : (b : Bool) → b ≡ true → (b && true) ≡ true
 and_true true h = refl
@@ -245,7 +258,8 @@ Means-covered s t entry base x h m =
         items = parts.items;
         cells = AreCells-covered (values_in s) s.cells s.summary t.cells entry x all.cells m.parts.memory m.parts.cells state;
       };
-      related = HoldRelations-covered entry.program.is_whole s.core.registers s.relations t.relations _ _ _ all.relations known.values.registers m.related;
+      related = HoldRelations-covered entry.program.is_whole s.core.registers s.relations t.relations _ _ _ _ all.relations known.values.registers
+          (AreCopies-core s.core entry x m.parts.core) m.related;
       summary = (covers_summary_sound entry.program (values_in s) s.core.ctl s.cells s.summary t.cells t.summary _ refl all.said).gives
           x.processor (peek x.storage) x.storage.banks known;
     }

@@ -1,5 +1,5 @@
 -- Where the items of a stack lie that may be places.
-use Rattle.std.proofs.Common.{◌≡◌, ℕ, ◌+◌, ◌<◌, ◌≤◌, Bool, true, false, ◌==◌, ◌&&◌, ◌||◌, not, cond, nat_le, nat_lt, Option, Some, None, refl, subst, ap, arith}
+use Rattle.std.proofs.Common.{◌≡◌, ℕ, ◌+◌, ◌<◌, ◌≤◌, Bool, true, false, ◌==◌, ◌&&◌, ◌||◌, not, cond, nat_le, Option, Some, None, refl, subst, ap, arith}
 use Rattle.std.proofs.lemmas.Bool.Decides.{nat_tests}
 use Rattle.gb_ops.specs.declared.machine.Region.{Region}
 use Rattle.gb_ops.specs.declared.registers.Registers.{Registers}
@@ -20,7 +20,9 @@ use Rattle.gb_summaries.specs.Below.gb_relations.Sound.{IsByteFree, IsBytePlaced
 use Rattle.gb_summaries.proofs.Below.gb_relations_laws.AddressLaws.{free-placed}
 use Rattle.gb_summaries.proofs.Below.gb_relations_laws.ItemLaws.{held_places_part, held_places_left, places_outside_part, places_outside_free}
 use Rattle.gb_product.specs.Held.{stack_held, held_relations, relations_outside}
-use Rattle.gb_product.specs.Meaning.{AreRelated}
+use Rattle.gb_abs_effects.specs.Below.gb_abs.Meaning.{Activation}
+use Rattle.gb_summaries.proofs.Below.gb_pairs_laws.WrittenLaws.{without_bases_sound}
+use Rattle.gb_product.specs.Meaning.{entered_with, AreRelated}
 
 -- it lies below the base, and not below the items
 pub record IsAmongItems (base count a : ℕ) : Type 0 where
@@ -64,17 +66,22 @@ free_held z region count (Some a) h = free_at z region count a h
 -- ---- what holds of a byte holds of fewer places
 
 HoldRelations-fewer :
-    (r : Relations) (b : OneByte) (x : Registers ℕ) (memory : ℕ → ℕ) (f : Flags)
-    → IsPartOf r.byte b → HoldRelations r x memory f → HoldRelations (record r { byte = b }) x memory f
-HoldRelations-fewer r b x memory f part h = record { byte = part.gives x memory f h.byte; zero = h.zero; pairs = h.pairs }
+    (r : Relations) (b : OneByte) (was x : Registers ℕ) (memory : ℕ → ℕ) (f : Flags)
+    → IsPartOf r.byte b → HoldRelations r was x memory f → HoldRelations (record r { byte = b }) was x memory f
+HoldRelations-fewer r b was x memory f part h = record { byte = part.gives x memory f h.byte; zero = h.zero; pairs = h.pairs }
 
-pub related_held : (stack : StackBytes) (r : Relations) (y : MState) → AreRelated r y → AreRelated (held_relations stack r) y
-related_held stack r y h =
-    HoldRelations-fewer r (held_places stack r.byte) y.processor.registers (peek y.storage) y.processor.flags (held_places_part stack r.byte _ refl) h
+pub related_held : (stack : StackBytes) (r : Relations) (entry : Activation) (y : MState) → AreRelated r entry y → AreRelated (held_relations stack r) entry y
+related_held stack r entry y h =
+    HoldRelations-fewer r (held_places stack r.byte) (entered_with entry) y.processor.registers (peek y.storage) y.processor.flags (held_places_part stack r.byte _ refl) h
 
-pub related_outside : (region : Region) (r : Relations) (y : MState) → AreRelated r y → AreRelated (relations_outside region r) y
-related_outside region r y h =
-    HoldRelations-fewer r (places_outside region r.byte) y.processor.registers (peek y.storage) y.processor.flags (places_outside_part region r.byte _ refl) h
+-- however another procedure was entered
+pub related_outside : (region : Region) (r : Relations) (entry begun : Activation) (y : MState) → AreRelated r entry y → AreRelated (relations_outside region r) begun y
+related_outside region r entry begun y h =
+    record {
+      byte = (places_outside_part region r.byte _ refl).gives y.processor.registers (peek y.storage) y.processor.flags h.byte;
+      zero = h.zero;
+      pairs = (without_bases_sound r.pairs _ refl).gives (entered_with entry) (entered_with begun) y.processor.registers h.pairs;
+    }
 
 -- ---- where they lie then
 

@@ -21,11 +21,11 @@ use Rattle.gb_summaries.specs.Below.gb_pairs.Meaning.{AreBytes, HoldPairs}
 use Rattle.gb_summaries.specs.Below.gb_relations.Meaning.{HoldRelations}
 use Rattle.gb_summaries.proofs.Below.gb_relations_laws.ComparedLaws.{HoldOneByte-nothing}
 use Rattle.gb_summaries.proofs.Below.gb_relations_laws.TransferLaws.{HoldPairs-nothing}
-use Rattle.gb_product.specs.Meaning.{AreRelated}
+use Rattle.gb_product.specs.Meaning.{entered_with, AreRelated}
 
 -- nothing is known together of any machine state
-pub HoldRelations-nothing : (x : Registers ℕ) (memory : ℕ → ℕ) (f : Flags) → AreBytes x → HoldRelations no_relations x memory f
-HoldRelations-nothing x memory f bytes = record { byte = HoldOneByte-nothing x memory f; zero = tt; pairs = HoldPairs-nothing x bytes }
+pub HoldRelations-nothing : (was x : Registers ℕ) (memory : ℕ → ℕ) (f : Flags) → AreBytes x → HoldRelations no_relations was x memory f
+HoldRelations-nothing was x memory f bytes = record { byte = HoldOneByte-nothing x memory f; zero = tt; pairs = HoldPairs-nothing was x bytes }
 
 -- the registers of a machine state that a core means are bytes
 pub AreBytes-core : (c : Core) (entry : Activation) (x : MState) → IsCore c → MeansCore c entry x → AreBytes x.processor.registers
@@ -54,8 +54,10 @@ MeansCore-cut core vals entry x in_vals origin m =
         let bounds = in_vals r in
         record { least = bounds.least; most = bounds.most; low = bounds.low; origin = λ o e. old.origin o (sym (origin r) ∙ e) }
 
-pub AreRelated-cut : (r : Relations) (s : Pairs) (x : MState) → HoldPairs s x.processor.registers → AreRelated r x → AreRelated (record r { pairs = s }) x
-AreRelated-cut r s x pairs m = record { byte = m.byte; zero = m.zero; pairs = pairs }
+pub AreRelated-cut :
+    (r : Relations) (s : Pairs) (entry : Activation) (x : MState)
+    → HoldPairs s (entered_with entry) x.processor.registers → AreRelated r entry x → AreRelated (record r { pairs = s }) entry x
+AreRelated-cut r s entry x pairs m = record { byte = m.byte; zero = m.zero; pairs = pairs }
 
 -- pairs whose bounds are words, whatever their links are
 pub record AreWords (s : Pairs) : Type 0 where

@@ -25,7 +25,7 @@ use Rattle.gb_domain.specs.Rules.{IsVal, IsCore}
 use Rattle.gb_abs_effects.specs.Below.gb_vals.Meaning.{In}
 use Rattle.gb_abs_effects.specs.Below.gb_vals.Tests.{side, IsKept}
 use Rattle.gb_abs_effects.proofs.Below.gb_vals_laws.BranchLaws.{side_kept}
-use Rattle.gb_product.specs.Meaning.{AreRelated}
+use Rattle.gb_product.specs.Meaning.{entered_with, AreRelated}
 use Rattle.gb_abs_effects.specs.Below.gb_abs.Meaning.{Activation, Holds, MeansCore}
 use Rattle.gb_abs_effects.specs.Below.gb_abs.Storage.{peek}
 use Rattle.gb_abs_effects.specs.Sides as Flags
@@ -62,9 +62,9 @@ use Rattle.gb_product.proofs.ReducedLaws.{AreCut-values}
 -- ---- a pair of which Z says whether it is 0
 
 HoldsIn-restricted :
-    (p : WordPair) (first last : ℕ) (v : Values) (x : Registers ℕ)
-    → first ≤ word_of p x → word_of p x ≤ last → pairs.Holds v x → HoldsIn (restricted p (record { first = first; last = last }) v) x
-HoldsIn-restricted p first last v x least most h = (restricted_sound p _ v _ refl).gives x (record { least = least; most = most }) h
+    (p : WordPair) (first last : ℕ) (v : Values) (was x : Registers ℕ)
+    → first ≤ word_of p x → word_of p x ≤ last → pairs.Holds v was x → HoldsIn (restricted p (record { first = first; last = last }) v) was x
+HoldsIn-restricted p first last v was x least most h = (restricted_sound p _ v _ refl).gives was x (record { least = least; most = most }) h
 
 is_zero : (w : ℕ) (b : Bool) → b ≡ true → b ≡ (w == 0) → w ≤ 0
 is_zero w b h e = let z : w ≡ 0 = eqb-true w 0 (sym e ∙ h) in omega arith
@@ -73,18 +73,18 @@ is_above_zero : (w : ℕ) (b : Bool) → not b ≡ true → b ≡ (w == 0) → 1
 is_above_zero w b h e = grind (arith, nat_tests)
 
 HoldsIn-without_others :
-    (z : Option WordPair) (k : Condition) (v : Values) (x : Registers ℕ) (f : Flags)
-    → AreWords v.pairs → is_met k f ≡ true → IsZero z x f → pairs.Holds v x → HoldsIn (without_others z k v) x
+    (z : Option WordPair) (k : Condition) (v : Values) (was x : Registers ℕ) (f : Flags)
+    → AreWords v.pairs → is_met k f ≡ true → IsZero z x f → pairs.Holds v was x → HoldsIn (without_others z k v) was x
 unfolding is_met
-HoldsIn-without_others None k v x f are met zero h = h
-HoldsIn-without_others (Some p) condition.Zero v x f are met zero h =
-    HoldsIn-restricted p 0 0 v x (omega arith) (is_zero (word_of p x) f.zero met zero) h
-HoldsIn-without_others (Some p) condition.NotZero v x f are met zero h =
+HoldsIn-without_others None k v was x f are met zero h = h
+HoldsIn-without_others (Some p) condition.Zero v was x f are met zero h =
+    HoldsIn-restricted p 0 0 v was x (omega arith) (is_zero (word_of p x) f.zero met zero) h
+HoldsIn-without_others (Some p) condition.NotZero v was x f are met zero h =
     let below = are.each p in
     let last = (h.pairs.each p).last in
-    HoldsIn-restricted p 1 0xFFFF v x (is_above_zero (word_of p x) f.zero met zero) (omega arith) h
-HoldsIn-without_others (Some p) condition.Carry v x f are met zero h = h
-HoldsIn-without_others (Some p) condition.NotCarry v x f are met zero h = h
+    HoldsIn-restricted p 1 0xFFFF v was x (is_above_zero (word_of p x) f.zero met zero) (omega arith) h
+HoldsIn-without_others (Some p) condition.Carry v was x f are met zero h = h
+HoldsIn-without_others (Some p) condition.NotCarry v was x f are met zero h = h
 
 without_others_cuts : (z : Option WordPair) (k : Condition) (v : Values) → IfSome (without_others z k v) (pair_sound.IsCut v)
 without_others_cuts None k v = IsCut-itself v
@@ -145,14 +145,14 @@ AreCut-contents b c left h =
 
 IsMeantBranch-with_values :
     (core : Core) (r : Relations) (vals : Registers Val) (cell : Option Cell) (o : Option Values) (entry : Activation) (x : MState)
-    → HoldsIn o x.processor.registers → AreCut core.registers vals → IfSome o (pair_sound.IsCut (values_of vals r.pairs))
-    → MeansCore core entry x → AreRelated r x → IfSome cell (λ c. HoldsCell entry x c)
+    → HoldsIn o (entered_with entry) x.processor.registers → AreCut core.registers vals → IfSome o (pair_sound.IsCut (values_of vals r.pairs))
+    → MeansCore core entry x → AreRelated r entry x → IfSome cell (λ c. HoldsCell entry x c)
     → IsMeantBranch (with_values_if core r cell o) entry x
 IsMeantBranch-with_values core r vals cell None entry x holds byte cut m n held = holds
 IsMeantBranch-with_values core r vals cell (Some v) entry x holds byte cut m n held =
     record {
       core = MeansCore-cut core v.registers entry x holds.registers (AreCut-trans core.registers vals v.registers byte (AreCut-values _ v cut)).origin m;
-      related = AreRelated-cut r v.pairs x holds.pairs n;
+      related = AreRelated-cut r v.pairs entry x holds.pairs n;
       cell = held;
     }
 
@@ -165,7 +165,7 @@ IsMeantBranch-with_contents k memory core r None entry x are met known m in_o cu
 IsMeantBranch-with_contents k memory core r (Some left) entry x are met known m in_o cut =
     let v = values_of left.registers r.pairs in
     IsMeantBranch-with_values core r left.registers (known_cell r.byte.address left.memory) (without_others r.zero k v) entry x
-    (HoldsIn-without_others r.zero k v x.processor.registers x.processor.flags are met known.related.zero
+    (HoldsIn-without_others r.zero k v (entered_with entry) x.processor.registers x.processor.flags are met known.related.zero
     (record { registers = in_o.0; pairs = known.related.pairs }))
     (AreCut-contents r.byte (contents_of core memory) left cut)
     (without_others_cuts r.zero k v) m known.related

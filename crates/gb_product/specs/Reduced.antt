@@ -4,6 +4,7 @@ use Rattle.std.specs.Prelude.{◌+◌, ◌*◌, ◌/◌, ◌%◌, Bool, true, fa
 use Rattle.gb_ops.specs.declared.machine.Kind.{Kind}
 use Rattle.gb_ops.specs.declared.machine.Kind.TheVariants as kind
 use Rattle.gb_domain.specs.declared.pairs.Bounds.{Bounds}
+use Rattle.gb_domain.specs.declared.pairs.PairBounds.{PairBounds}
 use Rattle.gb_domain.specs.declared.relations.Relations.{Relations}
 use Rattle.gb_domain.specs.declared.rules.Rules.{Rules}
 use Rattle.gb_domain.specs.declared.rules.Rules.TheVariants.{Simple, Extended}
@@ -32,14 +33,14 @@ abbrev pub with_values_if : Core → Relations → Option Values → Option Prod
 with_values_if core r None = None
 with_values_if core r (Some v) = Some (product_of (record core { registers = v.registers }) (record r { pairs = v.pairs }))
 
--- by the rules of version 3
-abbrev pub reduced_together : Core → Relations → Option Product
-reduced_together core r = with_values_if core r (Pairs.reduced (values_of core.registers r.pairs))
+-- by the rules of version 3, where the pairs lay in these bounds as the procedure was entered
+abbrev pub reduced_together : PairBounds → Core → Relations → Option Product
+reduced_together entered core r = with_values_if core r (Pairs.reduced entered (values_of core.registers r.pairs))
 
 -- the same, cut: none where nothing is meant; versions 1 and 2 leave it as it stands
-unfoldable pub reduced : Rules → Core → Relations → Option Product
-reduced Simple core r = Some (product_of core r)
-reduced Extended core r = reduced_together core r
+unfoldable pub reduced : Rules → PairBounds → Core → Relations → Option Product
+reduced Simple entered core r = Some (product_of core r)
+reduced Extended entered core r = reduced_together entered core r
 
 -- ---- the controller's registers
 
@@ -83,6 +84,6 @@ with_banks_cut program cells s p =
     (reduced_controller program (values_of p.core.registers p.relations.pairs) cells s p.core.ctl)
 
 -- registers and pairs are cut, and then the controller's registers; none where nothing is meant. Versions 1 and 2 leave all as it stands.
-unfoldable pub reduced_wholly : Program → Rules → Core → Relations → List Cell → SummaryParts → Option Product
-reduced_wholly program Simple core r cells s = reduced Simple core r
-reduced_wholly program Extended core r cells s = option_and_then (with_banks_cut program cells s) (reduced Extended core r)
+unfoldable pub reduced_wholly : Program → Rules → PairBounds → Core → Relations → List Cell → SummaryParts → Option Product
+reduced_wholly program Simple entered core r cells s = reduced Simple entered core r
+reduced_wholly program Extended entered core r cells s = option_and_then (with_banks_cut program cells s) (reduced Extended entered core r)

@@ -7,6 +7,7 @@ use Rattle.gb_ops.specs.declared.registers.Processor.{Processor}
 use Rattle.gb_ops.specs.Effects as Effects
 use Rattle.gb_ops.specs.Play.{MState}
 use Rattle.gb_ops.specs.Registers.{get}
+use Rattle.gb_ops.specs.declared.registers.Registers.{Registers}
 use Rattle.gb_domain.specs.declared.relations.Relations.{Relations}
 use Rattle.gb_domain.specs.declared.types.Cell.{Cell}
 use Rattle.gb_domain.specs.declared.types.Core.{Core}
@@ -21,12 +22,14 @@ use Rattle.gb_abs_effects.specs.Below.gb_abs.Meaning.{Activation, Holds, HoldsCo
 use Rattle.gb_abs_effects.specs.Below.gb_abs.Storage.{peek}
 use Rattle.gb_summaries.specs.Below.gb_pairs.declared.values.Values.{Values}
 use Rattle.gb_summaries.specs.Below.gb_pairs.Meaning.{AreBytes, Holds as HoldValues}
+use Rattle.gb_summaries.specs.Below.gb_pairs.Sound.{AreWithin}
 use Rattle.gb_summaries.specs.Below.gb_ram_bounds.Meaning.{HoldCells}
 use Rattle.gb_summaries.specs.Meaning.{HoldSummary}
 use Rattle.gb_product.specs.declared.parts.Branch.{Branch}
 use Rattle.gb_product.specs.declared.parts.Branches.{Branches}
 use Rattle.gb_product.specs.declared.parts.Product.{Product}
-use Rattle.gb_product.specs.Meaning.{Means, AreRelated}
+use Rattle.gb_domain.specs.declared.pairs.PairBounds.{PairBounds}
+use Rattle.gb_product.specs.Meaning.{entered_with, Means, AreRelated}
 
 -- in procedures of this program t means each machine state that s means
 pub record IsPartOf (program : Program) (s t : AbsState) : Type 0 where
@@ -61,17 +64,18 @@ pub record IsCutTogether (s t : Relations) : Type 0 where
 -- x is one of the states that both parts mean
 pub record MeansProduct (p : Product) (entry : Activation) (x : MState) : Type 0 where
   pub core : MeansCore p.core entry x
-  pub related : AreRelated p.relations x
+  pub related : AreRelated p.relations entry x
 
 abbrev pub IsMeantProduct : Option Product → Activation → MState → Type 0
 IsMeantProduct None entry x = ⊥
 IsMeantProduct (Some p) entry x = MeansProduct p entry x
 
--- no machine state is lost
-pub record IsSoundReducing (core : Core) (r : Relations) (o : Option Product) : Type 0 where
+-- no machine state is lost, where the pairs lay in these bounds as the procedure was entered
+pub record IsSoundReducing (entered : PairBounds) (core : Core) (r : Relations) (o : Option Product) : Type 0 where
   pub gives :
       (entry : Activation) (x : MState)
-      → AreBytes x.processor.registers → MeansCore core entry x → AreRelated r x → IsMeantProduct o entry x
+      → AreWithin entered (entered_with entry) → AreBytes x.processor.registers → MeansCore core entry x → AreRelated r entry x
+      → IsMeantProduct o entry x
 
 -- nothing but bounds changes
 pub record IsReduced (s : Core) (r : Relations) (p : Product) : Type 0 where
@@ -89,16 +93,16 @@ HoldsControllerIf (Some c) entry r = HoldsController c entry r
 -- where what a state knows holds, its controller is cut to one that holds too
 pub record IsSoundController (program : Program) (v : Values) (cells : List Cell) (s : SummaryParts) (c : Ctl) (o : Option Ctl) : Type 0 where
   pub gives :
-      (entry : Activation) (p : Processor) (memory : ℕ → ℕ) (r : Banks)
-      → entry.program ≡ program → AreBytes p.registers → HoldValues v p.registers → ((a : ℕ) → memory a < 256) → HoldCells cells memory
+      (entry : Activation) (was : Registers ℕ) (p : Processor) (memory : ℕ → ℕ) (r : Banks)
+      → entry.program ≡ program → AreBytes p.registers → HoldValues v was p.registers → ((a : ℕ) → memory a < 256) → HoldCells cells memory
       → HoldSummary program cells s p memory r → HoldsController c entry r → HoldsControllerIf o entry r
 
 -- where what is known of memory and of the whole program holds too, no machine state is lost
-pub record IsSoundWhole (program : Program) (cells : List Cell) (s : SummaryParts) (core : Core) (r : Relations) (o : Option Product) : Type 0 where
+pub record IsSoundWhole (program : Program) (entered : PairBounds) (cells : List Cell) (s : SummaryParts) (core : Core) (r : Relations) (o : Option Product) : Type 0 where
   pub gives :
       (entry : Activation) (x : MState)
-      → entry.program ≡ program → AreBytes x.processor.registers → ((a : ℕ) → peek x.storage a < 256) → HoldCells cells (peek x.storage)
-      → HoldSummary program cells s x.processor (peek x.storage) x.storage.banks → MeansCore core entry x → AreRelated r x → IsMeantProduct o entry x
+      → entry.program ≡ program → AreWithin entered (entered_with entry) → AreBytes x.processor.registers → ((a : ℕ) → peek x.storage a < 256) → HoldCells cells (peek x.storage)
+      → HoldSummary program cells s x.processor (peek x.storage) x.storage.banks → MeansCore core entry x → AreRelated r entry x → IsMeantProduct o entry x
 
 -- ---- sides
 
@@ -109,12 +113,12 @@ HoldsCell entry x c = Holds c.val entry (peek x.storage c.address)
 -- what is known of the byte at the address among the places, and of several parts together, holds of x
 pub record IsKnown (memory : Val) (r : Relations) (entry : Activation) (x : MState) : Type 0 where
   pub byte : (a : ℕ) → r.byte.address ≡ Some a → Holds memory entry (peek x.storage a)
-  pub related : AreRelated r x
+  pub related : AreRelated r entry x
 
 -- x is one of the states that a side means
 pub record MeansBranch (b : Branch) (entry : Activation) (x : MState) : Type 0 where
   pub core : MeansCore b.core entry x
-  pub related : AreRelated b.relations x
+  pub related : AreRelated b.relations entry x
   pub cell : IfSome b.cell (λ c. HoldsCell entry x c)
 
 -- the side is possible, and means x

@@ -7,7 +7,7 @@ use gb_domain::places::StackBytes;
 use gb_domain::relations::Relations;
 use gb_domain::types::Setting;
 use gb_ops::machine::Region;
-use gb_summaries::{held_places, places_outside};
+use gb_summaries::{held_places, places_outside, without_bases};
 
 /// The stack of a procedure where so many items are held: by the rules of version 4 they may be places, where the base is known.
 #[tactic(auto, unfolding(crate::specs::Held::stack_held))]
@@ -31,12 +31,14 @@ pub fn held_relations(stack: StackBytes, relations: &Relations) -> Relations
     }
 }
 
-/// What is known together but for items.
+/// What is known together as another procedure begins: nothing of items, and no link to what a pair held as the one before was
+/// entered.
 pub fn relations_outside(region: Region, relations: &Relations) -> Relations
     ensures { result ≡ Held.relations_outside region relations.now }
 {
     Relations {
         byte: places_outside(region, &relations.byte),
+        pairs: without_bases(&relations.pairs),
         ..*relations
     }
 }

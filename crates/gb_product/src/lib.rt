@@ -36,6 +36,6 @@ pub use gb_domain::program::Program;
 pub use gb_summaries::instruction::{InstructionStore, summary_after};
 pub use gb_summaries::returning::{GivenBack, KnownRam, is_byte_kept, summary_returned};
 pub use gb_summaries::{
-    AddressSet, Kept, Values, gb_ram_bounds, is_in, known_bits, known_carry, only_of_a,
+    AddressSet, Kept, Values, bounds_of, gb_ram_bounds, is_in, known_bits, known_carry, only_of_a,
     places_outside, pointed_bits, pointer_bounds, reduce, relations_after, returned,
 };

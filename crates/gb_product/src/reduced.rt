@@ -7,7 +7,7 @@ ghost use Rattle.gb_product.specs.Sound.{IsSoundReducing, IsReduced, IsSoundCont
 ghost use Rattle.gb_summaries.specs.Known.{window_bounds as bounds_of_window};
 
 use crate::parts::Product;
-use gb_domain::pairs::Bounds;
+use gb_domain::pairs::{Bounds, PairBounds};
 use gb_domain::program::Program;
 use gb_domain::relations::Relations;
 use gb_domain::summary::Summary;
@@ -20,39 +20,49 @@ use gb_summaries::{BankWindow, Values};
 /// By the rules of version 3.
 #[inline(always)]
 #[tactic(auto, using(crate::proofs::ReducedLaws::reduced_in_place, crate::proofs::ReducedLaws::reduced_in_place_sound))]
-fn reduce_together(core: &mut Core, relations: &mut Relations) -> bool
-    ensures exact { Reducing.reduced_together core.old relations.old ≡ Reducing.product_if result core.new relations.new }
-    ensures sound { IsSoundReducing core.old relations.old (Reducing.product_if result core.new relations.new) }
+fn reduce_together(entered: &PairBounds, core: &mut Core, relations: &mut Relations) -> bool
+    ensures exact { Reducing.reduced_together entered.now core.old relations.old ≡ Reducing.product_if result core.new relations.new }
+    ensures sound { IsSoundReducing entered.now core.old relations.old (Reducing.product_if result core.new relations.new) }
 {
-    gb_summaries::reduce(&mut core.registers, &mut relations.pairs)
+    gb_summaries::reduce(entered, &mut core.registers, &mut relations.pairs)
 }
 
 /// A core and what is known together are cut in place to what registers, pairs and links leave of each other; whether they then
 /// mean something. By the rules of versions 1 and 2 they stay as they stand.
 #[inline(always)]
 #[tactic(auto, using(crate::proofs::ReducedLaws::same_sound), unfolding(crate::specs::Reduced::reduced))]
-pub fn reduce(rules: Rules, core: &mut Core, relations: &mut Relations) -> bool
-    ensures exact { Reducing.reduced rules core.old relations.old ≡ Reducing.product_if result core.new relations.new }
-    ensures sound { IsSoundReducing core.old relations.old (Reducing.product_if result core.new relations.new) }
+pub fn reduce(
+    rules: Rules,
+    entered: &PairBounds,
+    core: &mut Core,
+    relations: &mut Relations,
+) -> bool
+    ensures exact { Reducing.reduced rules entered.now core.old relations.old ≡ Reducing.product_if result core.new relations.new }
+    ensures sound { IsSoundReducing entered.now core.old relations.old (Reducing.product_if result core.new relations.new) }
 {
     match rules {
         Rules::Simple => true,
-        Rules::Extended => reduce_together(core, relations),
+        Rules::Extended => reduce_together(entered, core, relations),
     }
 }
 
 /// A core and relations, cut to what registers, pairs and links leave of each other: none where they mean nothing. By the rules of
 /// versions 1 and 2 they stay as they are.
-pub fn reduced(rules: Rules, core: &Core, relations: &Relations) -> Option<Product>
-    ensures exact { result ≡ Reducing.reduced rules core.now relations.now }
-    ensures sound { IsSoundReducing core.now relations.now result }
+pub fn reduced(
+    rules: Rules,
+    entered: &PairBounds,
+    core: &Core,
+    relations: &Relations,
+) -> Option<Product>
+    ensures exact { result ≡ Reducing.reduced rules entered.now core.now relations.now }
+    ensures sound { IsSoundReducing entered.now core.now relations.now result }
     ensures kept { IfSome result (IsReduced core.now relations.now) }
 {
     let mut product = Product {
         core: *core,
         relations: *relations,
     };
-    if reduce(rules, &mut product.core, &mut product.relations) {
+    if reduce(rules, entered, &mut product.core, &mut product.relations) {
         Some(product)
     } else {
         None
@@ -181,16 +191,17 @@ pub fn reduced_controller(
 #[tactic(auto, using(crate::proofs::ControllerLaws::with_banks_cut_sound, crate::proofs::ControllerLaws::with_banks_cut_stack))]
 fn reduced_with_banks(
     program: &Program<'_>,
+    entered: &PairBounds,
     core: &Core,
     relations: &Relations,
     cells: &[Cell],
     summary: &Summary,
 ) -> Option<Product>
-    ensures exact { result ≡ option_and_then (Reducing.with_banks_cut program.now cells.now summary.now) (Reducing.reduced Extended core.now relations.now) }
-    ensures sound { IsSoundWhole program.now cells.now summary.now core.now relations.now result }
+    ensures exact { result ≡ option_and_then (Reducing.with_banks_cut program.now cells.now summary.now) (Reducing.reduced Extended entered.now core.now relations.now) }
+    ensures sound { IsSoundWhole program.now entered.now cells.now summary.now core.now relations.now result }
     ensures stack { IfSome result (λ p. p.core.stack_set ≡ core.now.stack_set) }
 {
-    let product = reduced(Rules::Extended, core, relations)?;
+    let product = reduced(Rules::Extended, entered, core, relations)?;
     let values = Values {
         registers: product.core.registers,
         pairs: product.relations.pairs,
@@ -211,13 +222,14 @@ fn reduced_with_banks(
 pub fn reduced_wholly(
     program: &Program<'_>,
     rules: Rules,
+    entered: &PairBounds,
     core: &Core,
     relations: &Relations,
     cells: &[Cell],
     summary: &Summary,
 ) -> Option<Product>
-    ensures exact { result ≡ Reducing.reduced_wholly program.now rules core.now relations.now cells.now summary.now }
-    ensures sound { IsSoundWhole program.now cells.now summary.now core.now relations.now result }
+    ensures exact { result ≡ Reducing.reduced_wholly program.now rules entered.now core.now relations.now cells.now summary.now }
+    ensures sound { IsSoundWhole program.now entered.now cells.now summary.now core.now relations.now result }
     ensures stack { IfSome result (λ p. p.core.stack_set ≡ core.now.stack_set) }
 {
     match rules {
@@ -225,6 +237,6 @@ pub fn reduced_wholly(
             core: *core,
             relations: *relations,
         }),
-        Rules::Extended => reduced_with_banks(program, core, relations, cells, summary),
+        Rules::Extended => reduced_with_banks(program, entered, core, relations, cells, summary),
     }
 }

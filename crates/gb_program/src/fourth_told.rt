@@ -14,11 +14,11 @@ use gb_ops::op::Register;
 use gb_ops::registers::Registers;
 
 /// The bytes of a node or a procedure.
-pub type Text = ArrayVec<u8, 1208>;
+pub type Text = ArrayVec<u8, 1211>;
 
 /// Adds bytes, for which there is room.
 pub fn push(bytes: &[u8], out: &mut Text)
-    requires { array_vec_len out.old + length bytes.now ≤ 1208 }
+    requires { array_vec_len out.old + length bytes.now ≤ 1211 }
     ensures text { out.new.items ≡ out.old.items ++ bytes.now }
     ensures long { array_vec_len out.new ≡ array_vec_len out.old + length bytes.now }
 {
@@ -88,7 +88,7 @@ fn registers_number(registers: &Registers<bool>) -> u8
 
 /// Adds an address, where there is one.
 fn push_address(address: Option<u16>, out: &mut Text)
-    requires { array_vec_len out.old ≤ 1206 }
+    requires { array_vec_len out.old ≤ 1209 }
     ensures text { out.new.items ≡ out.old.items ++ told.optional number.word address }
     ensures room { array_vec_len out.new ≤ array_vec_len out.old + 2 }
 {
@@ -99,7 +99,7 @@ fn push_address(address: Option<u16>, out: &mut Text)
 
 /// Adds bits, where there are some.
 fn push_bits(bits: Option<u8>, out: &mut Text)
-    requires { array_vec_len out.old ≤ 1207 }
+    requires { array_vec_len out.old ≤ 1210 }
     ensures text { out.new.items ≡ out.old.items ++ told.optional told.byte bits }
     ensures room { array_vec_len out.new ≤ array_vec_len out.old + 1 }
 {
@@ -111,7 +111,7 @@ fn push_bits(bits: Option<u8>, out: &mut Text)
 /// Adds the places that hold one byte.
 #[tactic(auto, unfolding(crate::specs::Opened::places_by))]
 fn push_places(byte: &OneByte, out: &mut Text)
-    requires { array_vec_len out.old ≤ 1204 }
+    requires { array_vec_len out.old ≤ 1207 }
     ensures text { out.new.items ≡ out.old.items ++ told.places_by (told.optional number.word byte.now.address) byte.now }
     ensures room { array_vec_len out.new ≤ array_vec_len out.old + 4 }
 {
@@ -122,7 +122,7 @@ fn push_places(byte: &OneByte, out: &mut Text)
 
 /// Adds them where there are some.
 fn push_byte(byte: &OneByte, out: &mut Text)
-    requires { array_vec_len out.old ≤ 1204 }
+    requires { array_vec_len out.old ≤ 1207 }
     ensures text { out.new.items ≡ out.old.items ++ told.where_there (has_place byte.now) (told.places_by (told.optional number.word byte.now.address) byte.now) }
     ensures room { array_vec_len out.new ≤ array_vec_len out.old + 4 }
 {
@@ -144,9 +144,9 @@ fn pair_number(pair: WordPair) -> u8
     }
 }
 
-/// Adds the pair that is 0 where Z is set, where there is one.
-fn push_zero(pair: Option<WordPair>, out: &mut Text)
-    requires { array_vec_len out.old ≤ 1207 }
+/// Adds the pair that is 0 where Z is set, or a link's base, where there is one.
+fn push_pair(pair: Option<WordPair>, out: &mut Text)
+    requires { array_vec_len out.old ≤ 1210 }
     ensures text { out.new.items ≡ out.old.items ++ told.optional told.pair pair }
     ensures room { array_vec_len out.new ≤ array_vec_len out.old + 1 }
 {
@@ -157,7 +157,7 @@ fn push_zero(pair: Option<WordPair>, out: &mut Text)
 
 fn other_number(other: Other) -> u8
     ensures exact { result ≡ told.other_number other }
-    ensures few { result ≤ 9 }
+    ensures few { result ≤ 12 }
 {
     match other {
         Other::Register(Register::A) => 0,
@@ -168,12 +168,13 @@ fn other_number(other: Other) -> u8
         Other::Register(Register::H) => 5,
         Other::Register(Register::L) => 6,
         Other::Pair(pair) => 7 + pair_number(pair),
+        Other::Nothing => 12,
     }
 }
 
 /// Adds a width, where it is one.
 fn push_width(width: u16, out: &mut Text)
-    requires { array_vec_len out.old ≤ 1206 }
+    requires { array_vec_len out.old ≤ 1209 }
     ensures text { out.new.items ≡ out.old.items ++ told.width width }
     ensures room { array_vec_len out.new ≤ array_vec_len out.old + 2 }
 {
@@ -182,26 +183,37 @@ fn push_width(width: u16, out: &mut Text)
     }
 }
 
-/// A link's form: what else it reads, and 128 more where it has a width.
-fn form_number(other: Other, width: u16) -> u8
-    ensures { result ≡ told.form_number other width }
+/// Adds the factor of what is read, where that is something.
+fn push_factor(other: Other, factor: u16, out: &mut Text)
+    requires { array_vec_len out.old ≤ 1210 }
+    ensures text { out.new.items ≡ out.old.items ++ told.factor other factor }
+    ensures room { array_vec_len out.new ≤ array_vec_len out.old + 1 }
 {
-    let number = 1 + other_number(other);
-    if width == 0 { number } else { 128 + number }
+    if !matches!(other, Other::Nothing) {
+        push(&[(factor % 256) as u8], out);
+    }
 }
 
-/// Adds a link's form, its factor, its sum and its width; 0 where there is none.
+/// A link's form: what else it reads, 64 more where it has a base, and 128 more where it has a width.
+fn form_number(link: &Link) -> u8
+    ensures { result ≡ told.form_number link.now }
+{
+    128 * flag(link.width != 0) + (64 * flag(link.base.is_some()) + (1 + other_number(link.other)))
+}
+
+/// Adds a link's form, its factor, its base, its sum and its width; 0 where there is none.
 fn push_link(link: Option<Link>, out: &mut Text)
-    requires { array_vec_len out.old ≤ 1202 }
+    requires { array_vec_len out.old ≤ 1204 }
     ensures text { out.new.items ≡ out.old.items ++ told.link link }
-    ensures room { array_vec_len out.new ≤ array_vec_len out.old + 6 }
+    ensures room { array_vec_len out.new ≤ array_vec_len out.old + 7 }
 {
     match link {
         None => push(&[0], out),
         Some(link) => {
-            let sum = word(link.sum);
-            let form = form_number(link.other, link.width);
-            push(&[form, (link.factor % 256) as u8, sum[0], sum[1]], out);
+            push(&[form_number(&link)], out);
+            push_factor(link.other, link.factor, out);
+            push_pair(link.base, out);
+            push(&word(link.sum), out);
             push_width(link.width, out);
         }
     }
@@ -209,9 +221,9 @@ fn push_link(link: Option<Link>, out: &mut Text)
 
 #[tactic(auto, unfolding(crate::specs::Opened::facts))]
 fn push_facts(facts: &PairFacts, out: &mut Text)
-    requires { array_vec_len out.old ≤ 1198 }
+    requires { array_vec_len out.old ≤ 1200 }
     ensures text { out.new.items ≡ out.old.items ++ told.facts facts.now }
-    ensures room { array_vec_len out.new ≤ array_vec_len out.old + 10 }
+    ensures room { array_vec_len out.new ≤ array_vec_len out.old + 11 }
 {
     push(&word(facts.bounds.first), out);
     push(&word(facts.bounds.last), out);
@@ -220,9 +232,9 @@ fn push_facts(facts: &PairFacts, out: &mut Text)
 
 /// Adds what is known of a pair, where it is something.
 fn push_known(facts: &PairFacts, out: &mut Text)
-    requires { array_vec_len out.old ≤ 1198 }
+    requires { array_vec_len out.old ≤ 1200 }
     ensures text { out.new.items ≡ out.old.items ++ told.known_facts facts.now }
-    ensures room { array_vec_len out.new ≤ array_vec_len out.old + 10 }
+    ensures room { array_vec_len out.new ≤ array_vec_len out.old + 11 }
 {
     if is_known(facts) {
         push_facts(facts, out);
@@ -233,7 +245,7 @@ fn push_known(facts: &PairFacts, out: &mut Text)
 fn push_pairs(pairs: &Pairs, out: &mut Text)
     requires { array_vec_len out.old ≤ 1178 }
     ensures text { out.new.items ≡ out.old.items ++ told.pairs pairs.now }
-    ensures room { array_vec_len out.new ≤ array_vec_len out.old + 30 }
+    ensures room { array_vec_len out.new ≤ array_vec_len out.old + 33 }
 {
     push_known(&pairs.bc, out);
     push_known(&pairs.de, out);
@@ -246,10 +258,10 @@ fn push_pairs(pairs: &Pairs, out: &mut Text)
 fn push_parts(relations: &Relations, out: &mut Text)
     requires { array_vec_len out.old ≤ 1173 }
     ensures text { out.new.items ≡ out.old.items ++ told.parts relations.now }
-    ensures room { array_vec_len out.new ≤ array_vec_len out.old + 35 }
+    ensures room { array_vec_len out.new ≤ array_vec_len out.old + 38 }
 {
     push_byte(&relations.byte, out);
-    push_zero(relations.zero, out);
+    push_pair(relations.zero, out);
     push_pairs(&relations.pairs, out);
 }
 
@@ -257,7 +269,7 @@ fn push_parts(relations: &Relations, out: &mut Text)
 pub fn push_told(relations: &Relations, out: &mut Text)
     requires { array_vec_len out.old ≤ 1171 }
     ensures text { out.new.items ≡ out.old.items ++ told.present_number (told.present_in relations.now) ∷ 0 ∷ told.parts relations.now }
-    ensures room { array_vec_len out.new ≤ array_vec_len out.old + 37 }
+    ensures room { array_vec_len out.new ≤ array_vec_len out.old + 40 }
 {
     push(&[present_number(relations), 0], out);
     push_parts(relations, out);

@@ -45,20 +45,20 @@ use Rattle.gb_relations.proofs.AluLaws.{HoldOneByte-of_a, HoldOneByte-of_a_with}
 -- ---- addresses
 
 pub Holds-begun :
-    {stack : StackBytes} {o : Op} {sp : Bounds} {vals : Registers Val} {low : Val} {r : Relations} {p : Processor} {memory : ℕ → ℕ} {l h : ℕ}
-    → Begins stack o sp vals low r p memory l h → Holds (values_of vals r.pairs) p.registers
+    {stack : StackBytes} {o : Op} {sp : Bounds} {vals : Registers Val} {low : Val} {r : Relations} {was : Registers ℕ} {p : Processor} {memory : ℕ → ℕ} {l h : ℕ}
+    → Begins stack o sp vals low r was p memory l h → Holds (values_of vals r.pairs) was p.registers
 Holds-begun b = record { registers = b.registers; pairs = b.relations.pairs }
 
-pub Within-hl : (v : Values) (p : Processor) → Holds v p.registers → Within (bytes.at_hl v) (hl p)
+pub Within-hl : (v : Values) (was : Registers ℕ) (p : Processor) → Holds v was p.registers → Within (bytes.at_hl v) (hl p)
 unfolding pair_value
-Within-hl v p m = (bounds_of_sound words.Hl v _ refl).gives p.registers m
+Within-hl v was p m = (bounds_of_sound words.Hl v _ refl).gives was p.registers m
 
-pub Within-indirect : (which : Indirect) (v : Values) (p : Processor) → Holds v p.registers → Within (bytes.at_indirect which v) (indirect_address p which)
+pub Within-indirect : (which : Indirect) (v : Values) (was : Registers ℕ) (p : Processor) → Holds v was p.registers → Within (bytes.at_indirect which v) (indirect_address p which)
 unfolding indirect_address pair_value
-Within-indirect indirect.Bc v p m = (bounds_of_sound words.Bc v _ refl).gives p.registers m
-Within-indirect indirect.De v p m = (bounds_of_sound words.De v _ refl).gives p.registers m
-Within-indirect indirect.HlIncrement v p m = (bounds_of_sound words.Hl v _ refl).gives p.registers m
-Within-indirect indirect.HlDecrement v p m = (bounds_of_sound words.Hl v _ refl).gives p.registers m
+Within-indirect indirect.Bc v was p m = (bounds_of_sound words.Bc v _ refl).gives was p.registers m
+Within-indirect indirect.De v was p m = (bounds_of_sound words.De v _ refl).gives was p.registers m
+Within-indirect indirect.HlIncrement v was p m = (bounds_of_sound words.Hl v _ refl).gives was p.registers m
+Within-indirect indirect.HlDecrement v was p m = (bounds_of_sound words.Hl v _ refl).gives was p.registers m
 
 pub Within-one : (a : ℕ) → Within (bytes.one a) a
 Within-one a = record { least = omega arith; most = omega arith }
@@ -170,53 +170,53 @@ HoldOneByte-forgotten stack o b p memory after l h same m =
     (HoldOneByte-elsewhere b p.registers memory after p.flags same m)
 
 pub HoldOneByte-byte_after :
-    (bits : Option LowBits) (stack : StackBytes) (o : Op) (sp : Bounds) (vals : Registers Val) (low : Val) (r : Relations) (p : Processor) (memory after : ℕ → ℕ) (l h : ℕ)
-    → WritesHas bits (effect_of o p l h).write → HasBytes o → Begins stack o sp vals low r p memory l h → Writes stack (effect_of o p l h).write memory after
+    (bits : Option LowBits) (stack : StackBytes) (o : Op) (sp : Bounds) (vals : Registers Val) (low : Val) (r : Relations) (was : Registers ℕ) (p : Processor) (memory after : ℕ → ℕ) (l h : ℕ)
+    → WritesHas bits (effect_of o p l h).write → HasBytes o → Begins stack o sp vals low r was p memory l h → Writes stack (effect_of o p l h).write memory after
     → HoldOneByte (bytes.byte_after bits stack o (values_of vals r.pairs) low r.byte) (effect_of o p l h).processor.registers after (effect_of o p l h).processor.flags
 unfolding bytes.byte_after effect_of read_of store_operand update_a
-HoldOneByte-byte_after bits stack (op.StoreA to) sp vals low r p memory after l h at has b w =
+HoldOneByte-byte_after bits stack (op.StoreA to) sp vals low r was p memory after l h at has b w =
     HoldOneByte-counted to _ p after
-    (HoldOneByte-stored_a bits stack (bytes.at_indirect to (values_of vals r.pairs)) (indirect_address p to) r.byte p memory after at (Within-indirect to _ p (Holds-begun b)) b.bytes w b.relations.byte)
-HoldOneByte-byte_after bits stack (op.LoadA from) sp vals low r p memory after l h at has b w =
+    (HoldOneByte-stored_a bits stack (bytes.at_indirect to (values_of vals r.pairs)) (indirect_address p to) r.byte p memory after at (Within-indirect to _ was p (Holds-begun b)) b.bytes w b.relations.byte)
+HoldOneByte-byte_after bits stack (op.LoadA from) sp vals low r was p memory after l h at has b w =
     HoldOneByte-counted_beside_a from l _ p after
-    (HoldOneByte-loaded_a stack (bytes.at_indirect from (values_of vals r.pairs)) (indirect_address p from) l r.byte p memory after (Within-indirect from _ p (Holds-begun b)) b.low_small b.reads w b.relations.byte)
-HoldOneByte-byte_after bits stack (op.Increment which) sp vals low r p memory after l h at has b w =
-    HoldOneByte-computed bits stack which (values_of vals r.pairs) r.byte p (incremented (operand_value p which l) p.flags) memory after at (Within-hl _ p (Holds-begun b)) (incremented-byte _ _) (incremented-zero _ _) w b.relations.byte
-HoldOneByte-byte_after bits stack (op.Decrement which) sp vals low r p memory after l h at has b w =
-    HoldOneByte-computed bits stack which (values_of vals r.pairs) r.byte p (decremented (operand_value p which l) p.flags) memory after at (Within-hl _ p (Holds-begun b)) (decremented-byte _ _) (decremented-zero _ _) w b.relations.byte
-HoldOneByte-byte_after bits stack (op.LoadImmediate operand.AtHl n) sp vals low r p memory after l h at has b w =
-    HoldOneByte-without_all bits (bytes.at_hl (values_of vals r.pairs)) (hl p) r.byte p.registers memory after p.flags at (Within-hl _ p (Holds-begun b)) w.1 b.relations.byte
-HoldOneByte-byte_after bits stack (op.StoreSp n) sp vals low r p memory after l h at has b w =
+    (HoldOneByte-loaded_a stack (bytes.at_indirect from (values_of vals r.pairs)) (indirect_address p from) l r.byte p memory after (Within-indirect from _ was p (Holds-begun b)) b.low_small b.reads w b.relations.byte)
+HoldOneByte-byte_after bits stack (op.Increment which) sp vals low r was p memory after l h at has b w =
+    HoldOneByte-computed bits stack which (values_of vals r.pairs) r.byte p (incremented (operand_value p which l) p.flags) memory after at (Within-hl _ was p (Holds-begun b)) (incremented-byte _ _) (incremented-zero _ _) w b.relations.byte
+HoldOneByte-byte_after bits stack (op.Decrement which) sp vals low r was p memory after l h at has b w =
+    HoldOneByte-computed bits stack which (values_of vals r.pairs) r.byte p (decremented (operand_value p which l) p.flags) memory after at (Within-hl _ was p (Holds-begun b)) (decremented-byte _ _) (decremented-zero _ _) w b.relations.byte
+HoldOneByte-byte_after bits stack (op.LoadImmediate operand.AtHl n) sp vals low r was p memory after l h at has b w =
+    HoldOneByte-without_all bits (bytes.at_hl (values_of vals r.pairs)) (hl p) r.byte p.registers memory after p.flags at (Within-hl _ was p (Holds-begun b)) w.1 b.relations.byte
+HoldOneByte-byte_after bits stack (op.StoreSp n) sp vals low r was p memory after l h at has b w =
     HoldOneByte-word n r.byte p.registers memory after p.flags w b.relations.byte
-HoldOneByte-byte_after bits stack (op.Load to from) sp vals low r p memory after l h at has b w =
-    HoldOneByte-moved bits stack to from (values_of vals r.pairs) r.byte p memory after l at (Within-hl _ p (Holds-begun b)) b.bytes b.low_small b.reads w b.relations.byte
-HoldOneByte-byte_after bits stack (op.Alu how from) sp vals low r p memory after l h at has b w =
+HoldOneByte-byte_after bits stack (op.Load to from) sp vals low r was p memory after l h at has b w =
+    HoldOneByte-moved bits stack to from (values_of vals r.pairs) r.byte p memory after l at (Within-hl _ was p (Holds-begun b)) b.bytes b.low_small b.reads w b.relations.byte
+HoldOneByte-byte_after bits stack (op.Alu how from) sp vals low r was p memory after l h at has b w =
     HoldOneByte-elsewhere _ _ memory after _ (λ a e. w a)
     (HoldOneByte-of_a_with how from (values_of vals r.pairs) low l r.byte p memory b.registers b.low_read b.low_small b.bytes b.relations.byte)
-HoldOneByte-byte_after bits stack (op.AluImmediate how n) sp vals low r p memory after l h at has b w =
+HoldOneByte-byte_after bits stack (op.AluImmediate how n) sp vals low r was p memory after l h at has b w =
     HoldOneByte-elsewhere _ _ memory after _ (λ a e. w a)
     (HoldOneByte-of_a how (Some n) n r.byte p.registers memory p.flags refl has b.bytes b.relations.byte)
-HoldOneByte-byte_after bits stack (op.StoreHigh n) sp vals low r p memory after l h at has b w =
+HoldOneByte-byte_after bits stack (op.StoreHigh n) sp vals low r was p memory after l h at has b w =
     HoldOneByte-stored_a None stack (bytes.one (0xFF00 + n)) (0xFF00 + n) r.byte p memory after tt (Within-one _) b.bytes w b.relations.byte
-HoldOneByte-byte_after bits stack (op.LoadHigh n) sp vals low r p memory after l h at has b w =
+HoldOneByte-byte_after bits stack (op.LoadHigh n) sp vals low r was p memory after l h at has b w =
     HoldOneByte-loaded_a stack (bytes.one (0xFF00 + n)) (0xFF00 + n) l r.byte p memory after (Within-one _) b.low_small b.reads w b.relations.byte
-HoldOneByte-byte_after bits stack op.StoreHighC sp vals low r p memory after l h at has b w =
+HoldOneByte-byte_after bits stack op.StoreHighC sp vals low r was p memory after l h at has b w =
     HoldOneByte-stored_a bits stack (bytes.at_high (values_of vals r.pairs)) (0xFF00 + p.registers.c) r.byte p memory after at (Within-high (values_of vals r.pairs) p.registers.c (b.registers C)) b.bytes w b.relations.byte
-HoldOneByte-byte_after bits stack op.LoadHighC sp vals low r p memory after l h at has b w =
+HoldOneByte-byte_after bits stack op.LoadHighC sp vals low r was p memory after l h at has b w =
     HoldOneByte-loaded_a stack (bytes.at_high (values_of vals r.pairs)) (0xFF00 + p.registers.c) l r.byte p memory after (Within-high (values_of vals r.pairs) p.registers.c (b.registers C)) b.low_small b.reads w b.relations.byte
-HoldOneByte-byte_after bits stack (op.StoreAbsolute n) sp vals low r p memory after l h at has b w =
+HoldOneByte-byte_after bits stack (op.StoreAbsolute n) sp vals low r was p memory after l h at has b w =
     HoldOneByte-stored_a None stack (bytes.one n) n r.byte p memory after tt (Within-one n) b.bytes w b.relations.byte
-HoldOneByte-byte_after bits stack (op.LoadAbsolute n) sp vals low r p memory after l h at has b w =
+HoldOneByte-byte_after bits stack (op.LoadAbsolute n) sp vals low r was p memory after l h at has b w =
     HoldOneByte-loaded_a stack (bytes.one n) n l r.byte p memory after (Within-one n) b.low_small b.reads w b.relations.byte
-HoldOneByte-byte_after bits stack (op.Shift how which) sp vals low r p memory after l h at has b w =
-    HoldOneByte-computed bits stack which (values_of vals r.pairs) r.byte p (shifted how (operand_value p which l) p.flags.carry) memory after at (Within-hl _ p (Holds-begun b)) (shift-byte how _ _ (operand-byte which p l b.low_small b.bytes)) (shifted-zero how _ _) w b.relations.byte
-HoldOneByte-byte_after bits stack (op.Bit n which) sp vals low r p memory after l h at has b w =
+HoldOneByte-byte_after bits stack (op.Shift how which) sp vals low r was p memory after l h at has b w =
+    HoldOneByte-computed bits stack which (values_of vals r.pairs) r.byte p (shifted how (operand_value p which l) p.flags.carry) memory after at (Within-hl _ was p (Holds-begun b)) (shift-byte how _ _ (operand-byte which p l b.low_small b.bytes)) (shifted-zero how _ _) w b.relations.byte
+HoldOneByte-byte_after bits stack (op.Bit n which) sp vals low r was p memory after l h at has b w =
     HoldOneByte-elsewhere _ _ memory after _ (λ a e. w a)
-    (HoldOneByte-bit stack n which (values_of vals r.pairs) r.byte p memory l (Within-hl _ p (Holds-begun b)) b.bytes b.low_small b.reads b.relations.byte)
-HoldOneByte-byte_after bits stack (op.Reset n operand.AtHl) sp vals low r p memory after l h at has b w =
-    HoldOneByte-without_all bits (bytes.at_hl (values_of vals r.pairs)) (hl p) r.byte p.registers memory after p.flags at (Within-hl _ p (Holds-begun b)) w.1 b.relations.byte
-HoldOneByte-byte_after bits stack (op.Set n operand.AtHl) sp vals low r p memory after l h at has b w =
-    HoldOneByte-without_all bits (bytes.at_hl (values_of vals r.pairs)) (hl p) r.byte p.registers memory after p.flags at (Within-hl _ p (Holds-begun b)) w.1 b.relations.byte
-HoldOneByte-byte_after bits stack o sp vals low r p memory after l h at has b w =
+    (HoldOneByte-bit stack n which (values_of vals r.pairs) r.byte p memory l (Within-hl _ was p (Holds-begun b)) b.bytes b.low_small b.reads b.relations.byte)
+HoldOneByte-byte_after bits stack (op.Reset n operand.AtHl) sp vals low r was p memory after l h at has b w =
+    HoldOneByte-without_all bits (bytes.at_hl (values_of vals r.pairs)) (hl p) r.byte p.registers memory after p.flags at (Within-hl _ was p (Holds-begun b)) w.1 b.relations.byte
+HoldOneByte-byte_after bits stack (op.Set n operand.AtHl) sp vals low r was p memory after l h at has b w =
+    HoldOneByte-without_all bits (bytes.at_hl (values_of vals r.pairs)) (hl p) r.byte p.registers memory after p.flags at (Within-hl _ was p (Holds-begun b)) w.1 b.relations.byte
+HoldOneByte-byte_after bits stack o sp vals low r was p memory after l h at has b w =
     HoldOneByte-forgotten stack o r.byte p memory after l h
     (places-stay stack (effect_of o p l h).write r.byte.address memory after (effect_of-outside o p l h refl) w b.placed) b.relations.byte

@@ -40,12 +40,12 @@ use Rattle.gb_relations.proofs.TransferLaws.{are_words}
 -- ---- addresses
 
 -- the pair of a pointer holds the address that it points to
-Within-pointed : (q : Pointer) (v : Values) (p : Processor) → Holds v p.registers → WithinIf (bounds_if (pair_at q) v) (pointed p q)
+Within-pointed : (q : Pointer) (v : Values) (was : Registers ℕ) (p : Processor) → Holds v was p.registers → WithinIf (bounds_if (pair_at q) v) (pointed p q)
 unfolding pointed high_register low_register byte_or_page
-Within-pointed at.Bc v p m = Within-bounds_of words.Bc v p.registers m
-Within-pointed at.De v p m = Within-bounds_of words.De v p.registers m
-Within-pointed at.Hl v p m = Within-bounds_of words.Hl v p.registers m
-Within-pointed at.HighC v p m = tt
+Within-pointed at.Bc v was p m = Within-bounds_of words.Bc v was p.registers m
+Within-pointed at.De v was p m = Within-bounds_of words.De v was p.registers m
+Within-pointed at.Hl v was p m = Within-bounds_of words.Hl v was p.registers m
+Within-pointed at.HighC v was p m = tt
 
 -- where nothing is known
 
@@ -63,9 +63,9 @@ writes-anywhere w = tt
 
 -- and where a pair is known
 
-PointsWithin-bounds_if : (o : Option WordPair) (v : Values) (x : Registers ℕ) → Holds v x → PointsWithin (bounds_if o v) o x
-PointsWithin-bounds_if None v x m = tt
-PointsWithin-bounds_if (Some p) v x m = Within-bounds_of p v x m
+PointsWithin-bounds_if : (o : Option WordPair) (v : Values) (was x : Registers ℕ) → Holds v was x → PointsWithin (bounds_if o v) o x
+PointsWithin-bounds_if None v was x m = tt
+PointsWithin-bounds_if (Some p) v was x m = Within-bounds_of p v was x m
 
 ReadsWithin-at : (b : Option Bounds) (a : ℕ) (r : Read) → ReadsAt a r → WithinIf b a → ReadsWithin b r
 unfolding ReadsAt
@@ -82,40 +82,40 @@ abbrev Follows : Option Pointer → Processor → Read → Write → Type 0
 Follows q p r w = IfSome q (λ pointer. ReadsAt (pointed p pointer) r × WritesAt (pointed p pointer) w)
 
 ReadsWithin-followed :
-    (q : Option Pointer) (v : Values) (p : Processor) (r : Read) (w : Write)
-    → Holds v p.registers → Follows q p r w → ReadsWithin (bounds_if (pair_pointed q) v) r
-ReadsWithin-followed None v p r w m h = reads-anywhere r
-ReadsWithin-followed (Some q) v p r w m h = ReadsWithin-at _ _ r h.0 (Within-pointed q v p m)
+    (q : Option Pointer) (v : Values) (was : Registers ℕ) (p : Processor) (r : Read) (w : Write)
+    → Holds v was p.registers → Follows q p r w → ReadsWithin (bounds_if (pair_pointed q) v) r
+ReadsWithin-followed None v was p r w m h = reads-anywhere r
+ReadsWithin-followed (Some q) v was p r w m h = ReadsWithin-at _ _ r h.0 (Within-pointed q v was p m)
 
 WritesWithin-followed :
-    (q : Option Pointer) (v : Values) (p : Processor) (r : Read) (w : Write)
-    → Holds v p.registers → Follows q p r w → WritesWithin (bounds_if (pair_pointed q) v) w
-WritesWithin-followed None v p r w m h = writes-anywhere w
-WritesWithin-followed (Some q) v p r w m h = WritesWithin-at _ _ w h.1 (Within-pointed q v p m)
+    (q : Option Pointer) (v : Values) (was : Registers ℕ) (p : Processor) (r : Read) (w : Write)
+    → Holds v was p.registers → Follows q p r w → WritesWithin (bounds_if (pair_pointed q) v) w
+WritesWithin-followed None v was p r w m h = writes-anywhere w
+WritesWithin-followed (Some q) v was p r w m h = WritesWithin-at _ _ w h.1 (Within-pointed q v was p m)
 
-ReadsWithin-pointer : (o : Op) (v : Values) (p : Processor) → Holds v p.registers → ReadsWithin (bounds_if (pointer_of o) v) (read_of o p)
+ReadsWithin-pointer : (o : Op) (v : Values) (was : Registers ℕ) (p : Processor) → Holds v was p.registers → ReadsWithin (bounds_if (pointer_of o) v) (read_of o p)
 unfolding pointer_of read_of
-ReadsWithin-pointer op.JumpHl v p m = tt
-ReadsWithin-pointer op.LoadSpHl v p m = tt
-ReadsWithin-pointer o v p m = ReadsWithin-followed (Pointers.pointer_of o) v p (read_of o p) (effect_of o p 0 0).write m (follows o p 0 0)
+ReadsWithin-pointer op.JumpHl v was p m = tt
+ReadsWithin-pointer op.LoadSpHl v was p m = tt
+ReadsWithin-pointer o v was p m = ReadsWithin-followed (Pointers.pointer_of o) v was p (read_of o p) (effect_of o p 0 0).write m (follows o p 0 0)
 
 WritesWithin-pointer :
-    (o : Op) (v : Values) (p : Processor) (l h : ℕ) → Holds v p.registers → WritesWithin (bounds_if (pointer_of o) v) (effect_of o p l h).write
+    (o : Op) (v : Values) (was : Registers ℕ) (p : Processor) (l h : ℕ) → Holds v was p.registers → WritesWithin (bounds_if (pointer_of o) v) (effect_of o p l h).write
 unfolding pointer_of effect_of Effects.jump
-WritesWithin-pointer op.JumpHl v p l h m = tt
-WritesWithin-pointer op.LoadSpHl v p l h m = tt
-WritesWithin-pointer o v p l h m = WritesWithin-followed (Pointers.pointer_of o) v p (read_of o p) (effect_of o p l h).write m (follows o p l h)
+WritesWithin-pointer op.JumpHl v was p l h m = tt
+WritesWithin-pointer op.LoadSpHl v was p l h m = tt
+WritesWithin-pointer o v was p l h m = WritesWithin-followed (Pointers.pointer_of o) v was p (read_of o p) (effect_of o p l h).write m (follows o p l h)
 
 IsSoundPointer-pointer_bounds : (rules : Rules) (o : Op) (registers : Registers Val) (s : Pairs) → IsSoundPointer o registers s (pointer_bounds rules o registers s)
 unfolding pointer_bounds
 IsSoundPointer-pointer_bounds Simple o registers s =
-    record { word = λ x m. points-anywhere (pointer_of o) x; reads = λ p m. reads-anywhere (read_of o p); writes = λ p l h m. writes-anywhere (effect_of o p l h).write }
+    record { word = λ was x m. points-anywhere (pointer_of o) x; reads = λ was p m. reads-anywhere (read_of o p); writes = λ was p l h m. writes-anywhere (effect_of o p l h).write }
 IsSoundPointer-pointer_bounds Extended o registers s =
     let v = values_of registers s in
     record {
-      word = λ x m. PointsWithin-bounds_if (pointer_of o) v x m;
-      reads = λ p m. ReadsWithin-pointer o v p m;
-      writes = λ p l h m. WritesWithin-pointer o v p l h m;
+      word = λ was x m. PointsWithin-bounds_if (pointer_of o) v was x m;
+      reads = λ was p m. ReadsWithin-pointer o v was p m;
+      writes = λ was p l h m. WritesWithin-pointer o v was p l h m;
     }
 
 pub pointer_bounds_sound :
@@ -131,31 +131,31 @@ IsIfKnown-carry (Some known) n h = h
 
 -- the carry of a sum of HL and a word
 IsCarry-added :
-    (which : Pair) (sp : Bounds) (v : Values) (p : Processor)
-    → sp.last < 65536 → AreWords v.pairs → AreBytes p.registers → Holds v p.registers → sp.first ≤ p.sp → p.sp ≤ sp.last
-    → IsCarry (added (addend which sp v) (is_hl which) v).carry (hl p + pair_value p which)
+    (which : Pair) (sp : Bounds) (v : Values) (was : Registers ℕ) (p : Processor)
+    → sp.last < 65536 → AreWords v.pairs → AreBytes p.registers → Holds v was p.registers → sp.first ≤ p.sp → p.sp ≤ sp.last
+    → IsCarry (added (addend which sp v) (is_hl which) None v).carry (hl p + pair_value p which)
 unfolding pair_value
-IsCarry-added which sp v p small are bytes m low high =
-    let in_it = Within-addend which sp v p low high m in
-    (added_sound (addend which sp v) (is_hl which) v _ refl (bounds-below words.Hl v are) (addend-below which sp v small are)).carry
-    p.registers (pair_value p which) bytes m in_it.least in_it.most
+IsCarry-added which sp v was p small are bytes m low high =
+    let in_it = Within-addend which sp v was p low high m in
+    (added_sound (addend which sp v) (is_hl which) None v _ refl (bounds-below words.Hl v are) (addend-below which sp v small are)).carry
+    was p.registers (pair_value p which) bytes m in_it.least in_it.most
 
 IsIfKnown-after :
-    (o : Op) (sp : Bounds) (v : Values) (p : Processor) (l h : ℕ)
-    → sp.last < 65536 → AreWords v.pairs → AreBytes p.registers → Holds v p.registers → sp.first ≤ p.sp → p.sp ≤ sp.last
+    (o : Op) (sp : Bounds) (v : Values) (was : Registers ℕ) (p : Processor) (l h : ℕ)
+    → sp.last < 65536 → AreWords v.pairs → AreBytes p.registers → Holds v was p.registers → sp.first ≤ p.sp → p.sp ≤ sp.last
     → IsIfKnown (carry_after o sp v) (effect_of o p l h).processor.flags.carry
 unfolding effect_of word_sum_flags
-IsIfKnown-after (op.AddHl which) sp v p l h small are bytes m low high =
-    IsIfKnown-carry _ (hl p + pair_value p which) (IsCarry-added which sp v p small are bytes m low high)
-IsIfKnown-after o sp v p l h small are bytes m low high = tt
+IsIfKnown-after (op.AddHl which) sp v was p l h small are bytes m low high =
+    IsIfKnown-carry _ (hl p + pair_value p which) (IsCarry-added which sp v was p small are bytes m low high)
+IsIfKnown-after o sp v was p l h small are bytes m low high = tt
 
 IsSoundCarry-known_carry :
     (rules : Rules) (o : Op) (sp : Bounds) (registers : Registers Val) (s : Pairs)
     → sp.last < 65536 → AreWords s → IsSoundCarry o sp registers s (known_carry rules o sp registers s)
 unfolding known_carry
-IsSoundCarry-known_carry Simple o sp registers s small are = record { gives = λ p l h bytes m low high. tt }
+IsSoundCarry-known_carry Simple o sp registers s small are = record { gives = λ was p l h bytes m low high. tt }
 IsSoundCarry-known_carry Extended o sp registers s small are =
-    record { gives = λ p l h bytes m low high. IsIfKnown-after o sp (values_of registers s) p l h small are bytes m low high }
+    record { gives = λ was p l h bytes m low high. IsIfKnown-after o sp (values_of registers s) was p l h small are bytes m low high }
 
 pub known_carry_sound :
     (rules : Rules) (o : Op) (sp : Bounds) (registers : Registers Val) (s : Pairs) (c : Option Bool)

@@ -1,6 +1,6 @@
 -- What is known together behind a call holds: each part is the caller's, where all that it reads is kept, or the exit's.
-use Rattle.std.proofs.Common.{◌≡◌, ℕ, ◌≤◌, Bool, true, false, cond, ◌&&◌, ◌==◌, Option, Some, None, refl, sym, ◌∙◌, ap, subst}
-use Rattle.std.proofs.lemmas.Bool.{and_parts}
+use Rattle.std.proofs.Common.{◌≡◌, ℕ, ◌+◌, ◌*◌, ◌%◌, ◌≤◌, ◌<◌, Bool, true, false, cond, ◌&&◌, ◌||◌, ◌==◌, nat_le, arith, Option, Some, None, refl, sym, ◌∙◌, ap, subst}
+use Rattle.std.proofs.lemmas.Bool.{and_parts, leb-true}
 use Rattle.gb_ops.specs.declared.op.Register.{Register}
 use Rattle.gb_ops.specs.declared.op.Register.TheVariants.{A, B, C, D, E, H, L}
 use Rattle.gb_ops.specs.declared.registers.Registers.{Registers}
@@ -16,12 +16,22 @@ use Rattle.gb_domain.specs.declared.pairs.PairFacts.{PairFacts}
 use Rattle.gb_domain.specs.declared.places.OneByte.{OneByte}
 use Rattle.gb_domain.specs.declared.relations.Relations.{Relations}
 use Rattle.gb_domain.specs.Pairs.{facts_of}
-use Rattle.gb_pairs.specs.Meaning.{word_of, other_of, AreLinked, IsLinked, HoldsPair}
+use Rattle.gb_domain.specs.declared.pairs.Bounds.{Bounds}
+use Rattle.gb_domain.specs.declared.types.Val.{Val}
+use Rattle.gb_pairs.specs.declared.values.Values.{Values}
+use Rattle.gb_pairs.specs.Bounds.{cut, bounds_of}
+use Rattle.gb_pairs.specs.Covering.{is_as_entered}
+use Rattle.gb_pairs.specs.Meaning.{word_of, other_of, base_of, AreLinked, IsLinked, HoldsPair, AreBytes, Holds}
+use Rattle.gb_pairs.specs.Reduced.{values_of, last_sum, without_base}
+use Rattle.gb_pairs.specs.Sound.{Within, AreCopies}
+use Rattle.gb_pairs.proofs.BaseLaws.{IsAlone, IsAlone-without, AreSmall, AreSmall-without_base, IsLinked-without_base}
+use Rattle.gb_pairs.proofs.BoundsLaws.{Within-cut, word_below, bounds_of_sound}
+use Rattle.gb_pairs.proofs.CoveringLaws.{word_entered}
 use Rattle.gb_copies.specs.Meaning.{HoldOneByte}
 use Rattle.gb_copies.specs.Places.{has_place, of_places, without_test}
 use Rattle.gb_relations.specs.declared.returned.Kept.{Kept}
 use Rattle.gb_relations.specs.Meaning.{IsZero, HoldRelations}
-use Rattle.gb_relations.specs.Returned.{is_pair_kept, is_other_kept, both, kept_places, byte_returned, pair_if_kept, zero_returned, link_if_kept, link_returned, facts_returned, returned, IsKept, IsSoundReturn}
+use Rattle.gb_relations.specs.Returned.{is_nothing, either, with_sums, is_fit, told_by_link, pair_entered, told_by_entry, told_by_bounds, told_link, cut_to_sums, cut_by_base, cut_by_exit, AreAmong, is_pair_kept, is_other_kept, both, kept_places, byte_returned, pair_if_kept, zero_returned, link_if_kept, link_returned, facts_returned, returned, IsKept, IsSoundReturn}
 
 -- ---- what is kept
 
@@ -33,6 +43,7 @@ word_kept pair.Hl k x y kept h = let parts = and_parts _ _ h in ap (λ b. word b
 other_kept : (o : Other) (k : Kept) (x y : Registers ℕ) → ((r : Register) → get r k.registers ≡ true → get r y ≡ get r x) → is_other_kept o k ≡ true → other_of o y ≡ other_of o x
 other_kept (other.Register r) k x y kept h = kept r h
 other_kept (other.Pair p) k x y kept h = word_kept p k x y kept h
+other_kept other.Nothing k x y kept h = refl
 
 -- ---- the byte
 
@@ -107,59 +118,235 @@ zero_returned-holds k s t address x y before after f g kept z i = by k.flags ref
     by true e = subst (λ u. IsZero (pair_if_kept k s) y u) (sym (kept.flags e)) (zero_kept k s x y f kept.registers z)
     by false e = i
 
--- ---- pairs
+-- ---- links
 
 link_kept :
-    (p : WordPair) (k : Kept) (s : Option Link) (x y : Registers ℕ)
-    → ((r : Register) → get r k.registers ≡ true → get r y ≡ get r x) → IsLinked s p x → IsLinked (link_if_kept p k s) p y
-link_kept p k None x y kept h = tt
-link_kept p k (Some l) x y kept h = by (is_pair_kept p k && is_other_kept l.other k) refl
+    (p : WordPair) (k : Kept) (s : Option Link) (was x y : Registers ℕ)
+    → ((r : Register) → get r k.registers ≡ true → get r y ≡ get r x) → IsLinked s p was x → IsLinked (link_if_kept p k s) p was y
+link_kept p k None was x y kept h = tt
+link_kept p k (Some l) was x y kept h = by (is_pair_kept p k && is_other_kept l.other k) refl
   where
-    by : (b : Bool) → (is_pair_kept p k && is_other_kept l.other k) ≡ b → IsLinked (cond b (Some l) None) p y
+    by : (b : Bool) → (is_pair_kept p k && is_other_kept l.other k) ≡ b → IsLinked (cond b (Some l) None) p was y
     by true e =
         let parts = and_parts (is_pair_kept p k) (is_other_kept l.other k) e in
-        subst (λ w. AreLinked l w (other_of l.other y)) (sym (word_kept p k x y kept parts.0))
-        (subst (λ n. AreLinked l (word_of p x) n) (sym (other_kept l.other k x y kept parts.1)) h)
+        subst (λ w. AreLinked l (base_of l.base was) w (other_of l.other y)) (sym (word_kept p k x y kept parts.0))
+        (subst (λ n. AreLinked l (base_of l.base was) (word_of p x) n) (sym (other_kept l.other k x y kept parts.1)) h)
     by false e = tt
 
+-- what the base is, put in: w and m are the pair and what it reads, b is the base, which with n has the sum t
+put_in :
+    (w m b n base s t more less : ℕ)
+    → (w + m) % 65536 ≡ (b + s + more) % 65536 → (b + n) % 65536 ≡ (base + t + less) % 65536
+    → (w + (m + n)) % 65536 ≡ (base + (s + t) % 65536 + (more + less)) % 65536
+put_in w m b n base s t more less h i = omega arith
+
+nothing_read : (o : Other) (x : Registers ℕ) → is_nothing o ≡ true → other_of o x ≡ 0
+nothing_read other.Nothing x h = refl
+nothing_read (other.Register r) x h = cc
+nothing_read (other.Pair p) x h = cc
+
+times_nothing : (f n m : ℕ) → n ≡ 0 → f * n + m ≡ m
+times_nothing f n m e = subst (λ i. f * i + m ≡ m) (sym e) (omega arith)
+
+nothing_times : (f n m : ℕ) → n ≡ 0 → m + f * n ≡ m
+nothing_times f n m e = subst (λ i. m + f * i ≡ m) (sym e) (omega arith)
+
+-- at most one of both reads something
+AreLinked-with_sums :
+    (l g : Link) (w b base : ℕ) (y : Registers ℕ)
+    → (is_nothing l.other || is_nothing g.other) ≡ true → AreLinked l b w (other_of l.other y) → AreLinked g base b (other_of g.other y)
+    → AreLinked (with_sums l g) base w (other_of (with_sums l g).other y)
+AreLinked-with_sums l g w b base y one h i = by (is_nothing l.other) refl
+  where
+    sum : (w + (l.factor * other_of l.other y + g.factor * other_of g.other y)) % 65536 ≡ (base + (l.sum + g.sum) % 65536 + (h.more + i.more)) % 65536
+    sum = put_in w (l.factor * other_of l.other y) b (g.factor * other_of g.other y) base l.sum g.sum h.more i.more h.sum i.sum
+
+    most : h.more + i.more ≤ l.width + g.width
+    most = let few = h.most in let less = i.most in omega arith
+
+    by :
+        (c : Bool) → is_nothing l.other ≡ c
+        → AreLinked (record { other = cond c g.other l.other; factor = cond c g.factor l.factor; base = g.base; sum = (l.sum + g.sum) % 65536; width = l.width + g.width })
+        base w (other_of (cond c g.other l.other) y)
+    by true e =
+        record {
+          more = h.more + i.more;
+          most = most;
+          sum =
+              subst (λ m. (w + m) % 65536 ≡ (base + (l.sum + g.sum) % 65536 + (h.more + i.more)) % 65536)
+              (times_nothing l.factor _ _ (nothing_read l.other y e)) sum;
+        }
+    by false e =
+        let none : is_nothing g.other ≡ true = subst (λ c. (c || is_nothing g.other) ≡ true) e one in
+        record {
+          more = h.more + i.more;
+          most = most;
+          sum =
+              subst (λ m. (w + m) % 65536 ≡ (base + (l.sum + g.sum) % 65536 + (h.more + i.more)) % 65536)
+              (nothing_times g.factor _ _ (nothing_read g.other y none)) sum;
+        }
+
+-- of p, whose base b was the caller's pair: before the call the registers were x, then y
+told_by_link-holds :
+    (k : Kept) (l : Link) (g : Option Link) (p b : WordPair) (was x y : Registers ℕ)
+    → ((r : Register) → get r k.registers ≡ true → get r y ≡ get r x) → IsLinked g b was x
+    → AreLinked l (word_of b x) (word_of p y) (other_of l.other y) → IsLinked (told_by_link k l g) p was y
+told_by_link-holds k l None p b was x y kept i h = tt
+told_by_link-holds k l (Some g) p b was x y kept i h = by (is_fit k l g) refl
+  where
+    by : (c : Bool) → is_fit k l g ≡ c → IsLinked (cond c (Some (with_sums l g)) None) p was y
+    by false e = tt
+    by true e =
+        let last = and_parts _ _ e in
+        let parts = and_parts (is_other_kept g.other k) (is_nothing l.other || is_nothing g.other) last.0 in
+        AreLinked-with_sums l g (word_of p y) (word_of b x) (base_of g.base was) y parts.1 h
+        (subst (λ n. AreLinked g (base_of g.base was) (word_of b x) n) (sym (other_kept g.other k x y kept parts.0)) i)
+
+-- the pair's word is the one that this pair had as the caller was entered, if there is one
+WasEntered : Option WordPair → ℕ → Registers ℕ → Type 0
+WasEntered None w was = Unit {0}
+WasEntered (Some q) w was = w ≡ word_of q was
+
+pair_entered-is : (b : WordPair) (v : Values) (was x : Registers ℕ) → AreCopies v.registers was x → WasEntered (pair_entered b v) (word_of b x) was
+unfolding WasEntered
+pair_entered-is b v was x h = by (is_as_entered b pair.Bc v) (is_as_entered b pair.De v) (is_as_entered b pair.Hl v) refl refl refl
+  where
+    by :
+        (c d e : Bool) → is_as_entered b pair.Bc v ≡ c → is_as_entered b pair.De v ≡ d → is_as_entered b pair.Hl v ≡ e
+        → WasEntered (cond c (Some pair.Bc) (cond d (Some pair.De) (cond e (Some pair.Hl) None))) (word_of b x) was
+    by true d e i j k = word_entered b pair.Bc v was x i h
+    by false true e i j k = word_entered b pair.De v was x j h
+    by false false true i j k = word_entered b pair.Hl v was x k h
+    by false false false i j k = tt
+
+told_by_entry-holds :
+    (l : Link) (o : Option WordPair) (p b : WordPair) (was x y : Registers ℕ)
+    → WasEntered o (word_of b x) was → AreLinked l (word_of b x) (word_of p y) (other_of l.other y) → IsLinked (told_by_entry l o) p was y
+unfolding WasEntered
+told_by_entry-holds l None p b was x y is h = tt
+told_by_entry-holds l (Some q) p b was x y is h =
+    let sum = h.sum in
+    record {
+      more = h.more;
+      most = h.most;
+      sum = subst (λ n. (word_of p y + l.factor * other_of l.other y) % 65536 ≡ (n + l.sum + h.more) % 65536) is sum;
+    }
+
+told_by_bounds-holds :
+    (l : Link) (c : Bounds) (p : WordPair) (n : ℕ) (was y : Registers ℕ)
+    → Within c n → AreLinked l n (word_of p y) (other_of l.other y) → IsLinked (told_by_bounds l c) p was y
+told_by_bounds-holds l c p n was y within h = by (is_nothing l.other)
+  where
+    by : (d : Bool) → IsLinked (cond d None (without_base c l)) p was y
+    by true = tt
+    by false = IsLinked-without_base c l n p was y within h
+
+either-holds : (s t : Option Link) (p : WordPair) (was y : Registers ℕ) → IsLinked s p was y → IsLinked t p was y → IsLinked (either s t) p was y
+either-holds (Some l) t p was y h i = h
+either-holds None t p was y h i = i
+
+told_link-holds :
+    (k : Kept) (v : Values) (l : Link) (base : Option WordPair) (p : WordPair) (was x y : Registers ℕ)
+    → ((r : Register) → get r k.registers ≡ true → get r y ≡ get r x) → AreCopies v.registers was x → Holds v was x → l.base ≡ base
+    → AreLinked l (base_of base x) (word_of p y) (other_of l.other y) → IsLinked (told_link k v l base) p was y
+told_link-holds k v l None p was x y kept copies h e i =
+    subst (λ c. AreLinked l (base_of c was) (word_of p y) (other_of l.other y)) (sym e) i
+told_link-holds k v l (Some b) p was x y kept copies h e i =
+    either-holds _ _ p was y (told_by_link-holds k l (facts_of b v.pairs).link p b was x y kept (h.pairs.each b).link i)
+    (either-holds _ _ p was y (told_by_entry-holds l (pair_entered b v) p b was x y (pair_entered-is b v was x copies) i)
+    (told_by_bounds-holds l (bounds_of b v) p (word_of b x) was y ((bounds_of_sound b v _ refl).gives was x h) i))
+
 link_returned-holds :
-    (p : WordPair) (k : Kept) (s t : Option Link) (x y : Registers ℕ)
-    → ((r : Register) → get r k.registers ≡ true → get r y ≡ get r x) → IsLinked s p x → IsLinked t p y → IsLinked (link_returned p k s t) p y
-link_returned-holds p k s (Some l) x y kept h i = i
-link_returned-holds p k s None x y kept h i = link_kept p k s x y kept h
+    (p : WordPair) (k : Kept) (v : Values) (t : Option Link) (was x y : Registers ℕ)
+    → ((r : Register) → get r k.registers ≡ true → get r y ≡ get r x) → AreCopies v.registers was x → Holds v was x → IsLinked t p x y
+    → IsLinked (link_returned p k v t) p was y
+link_returned-holds p k v (Some l) was x y kept copies h i = told_link-holds k v l l.base p was x y kept copies h refl i
+link_returned-holds p k v None was x y kept copies h i = link_kept p k (facts_of p v.pairs).link was x y kept (h.pairs.each p).link
+
+-- ---- bounds
+
+times_zero : (f n : ℕ) → n ≡ 0 → f * n ≡ 0
+times_zero f n e = subst (λ i. f * i ≡ 0) (sym e) (omega arith)
+
+in_sums :
+    (w s width more last : ℕ) → w < 65536 → s < 65536 → (w + 0) % 65536 ≡ (0 + s + more) % 65536 → more ≤ width → width ≤ 65535 → last ≡ (s + width) % 65536 → s ≤ last
+    → (s ≤ w) × (w ≤ last)
+in_sums w s width more last small first h most few e order = (omega arith, omega arith)
+
+cut_to_sums-holds :
+    (o : Option Link) (b : Bounds) (w : ℕ) (y : Registers ℕ)
+    → w < 65536 → AreSmall o → IsAlone o w y → Within b w → Within (cut_to_sums o b) w
+cut_to_sums-holds None b w y small few h k = k
+cut_to_sums-holds (Some l) b w y small few h k = by (is_nothing l.other) (nat_le l.sum (last_sum l)) refl refl
+  where
+    by :
+        (c d : Bool) → is_nothing l.other ≡ c → nat_le l.sum (last_sum l) ≡ d
+        → Within (cond (c && d) (cut b (record { first = l.sum; last = last_sum l })) b) w
+    by false d e f = k
+    by true false e f = k
+    by true true e f =
+        let sum : (w + 0) % 65536 ≡ (0 + l.sum + h.more) % 65536 =
+        subst (λ n. (w + n) % 65536 ≡ (0 + l.sum + h.more) % 65536) (times_zero l.factor _ (nothing_read l.other y e)) h.sum in
+        let ends = in_sums w l.sum l.width h.more (last_sum l) small few.sum sum h.most few.width refl (leb-true _ _ f) in
+        Within-cut b _ w k (record { least = ends.0; most = ends.1 })
+
+cut_by_base-holds :
+    (v : Values) (l : Link) (base : Option WordPair) (b : Bounds) (p : WordPair) (was x y : Registers ℕ)
+    → AreBytes y → Holds v was x → AreLinked l (base_of base x) (word_of p y) (other_of l.other y) → Within b (word_of p y)
+    → Within (cut_by_base v l base b) (word_of p y)
+cut_by_base-holds v l None b p was x y bytes h i k = k
+cut_by_base-holds v l (Some q) b p was x y bytes h i k =
+    cut_to_sums-holds _ b (word_of p y) y (word_below p y bytes) (AreSmall-without_base (bounds_of q v) l)
+    (IsAlone-without (bounds_of q v) l (word_of q x) (word_of p y) y ((bounds_of_sound q v _ refl).gives was x h) i) k
+
+cut_by_exit-holds :
+    (v : Values) (t : Option Link) (b : Bounds) (p : WordPair) (was x y : Registers ℕ)
+    → AreBytes y → Holds v was x → IsLinked t p x y → Within b (word_of p y) → Within (cut_by_exit v t b) (word_of p y)
+cut_by_exit-holds v None b p was x y bytes h i k = k
+cut_by_exit-holds v (Some l) b p was x y bytes h i k = cut_by_base-holds v l l.base b p was x y bytes h i k
 
 facts_returned-hold :
-    (p : WordPair) (k : Kept) (s t : PairFacts) (x y : Registers ℕ)
-    → ((r : Register) → get r k.registers ≡ true → get r y ≡ get r x) → HoldsPair s p x → HoldsPair t p y → HoldsPair (facts_returned p k s t) p y
+    (p : WordPair) (k : Kept) (v : Values) (t : PairFacts) (was x y : Registers ℕ)
+    → ((r : Register) → get r k.registers ≡ true → get r y ≡ get r x) → AreBytes y → AreCopies v.registers was x → Holds v was x → HoldsPair t p x y
+    → HoldsPair (facts_returned p k v t) p was y
 unfolding facts_returned
-facts_returned-hold p k s t x y kept h i =
-    let bounds = by (is_pair_kept p k) refl in
-    record { first = bounds.0; last = bounds.1; link = link_returned-holds p k s.link t.link x y kept h.link i.link }
+facts_returned-hold p k v t was x y kept bytes copies h i =
+    let cut = cut_by_exit-holds v t.link _ p was x y bytes h i.link (by (is_pair_kept p k) refl) in
+    record { first = cut.least; last = cut.most; link = link_returned-holds p k v t.link was x y kept copies h i.link }
   where
-    by : (b : Bool) → is_pair_kept p k ≡ b → ((cond b s.bounds t.bounds).first ≤ word_of p y) × (word_of p y ≤ (cond b s.bounds t.bounds).last)
+    by : (b : Bool) → is_pair_kept p k ≡ b → Within (cond b (facts_of p v.pairs).bounds t.bounds) (word_of p y)
     by true e =
         let same = sym (word_kept p k x y kept e) in
-        (subst (λ w. s.bounds.first ≤ w) same h.first, subst (λ w. w ≤ s.bounds.last) same h.last)
-    by false e = (i.first, i.last)
+        let own = h.pairs.each p in
+        subst (λ w. Within (facts_of p v.pairs).bounds w) same (record { least = own.first; most = own.last })
+    by false e = record { least = i.first; most = i.last }
 
 -- ---- all of it
 
 HoldRelations-returned :
-    (k : Kept) (s t : Relations) (x y : Registers ℕ) (before after : ℕ → ℕ) (f g : Flags)
-    → IsKept k s.byte.address x y before after f g → HoldRelations s x before f → HoldRelations t y after g → HoldRelations (returned k s t) y after g
+    (k : Kept) (registers : Registers Val) (s t : Relations) (was x y : Registers ℕ) (before after : ℕ → ℕ) (f g : Flags)
+    → IsKept k s.byte.address x y before after f g → AreBytes y → AreAmong registers was x
+    → HoldRelations s was x before f → HoldRelations t x y after g → HoldRelations (returned k registers s t) was y after g
 unfolding returned
-HoldRelations-returned k s t x y before after f g kept h i =
+HoldRelations-returned k registers s t was x y before after f g kept bytes among h i =
     record {
       byte = byte_returned-holds k s.byte t.byte x y before after f g kept h.byte i.byte;
       zero = zero_returned-holds k s.zero t.zero s.byte.address x y before after f g kept h.zero i.zero;
       pairs = record { each = λ p. pairs p };
     }
   where
-    pairs : (p : WordPair) → HoldsPair (facts_of p (returned k s t).pairs) p y
-    pairs pair.Bc = facts_returned-hold pair.Bc k s.pairs.bc t.pairs.bc x y kept.registers (h.pairs.each pair.Bc) (i.pairs.each pair.Bc)
-    pairs pair.De = facts_returned-hold pair.De k s.pairs.de t.pairs.de x y kept.registers (h.pairs.each pair.De) (i.pairs.each pair.De)
-    pairs pair.Hl = facts_returned-hold pair.Hl k s.pairs.hl t.pairs.hl x y kept.registers (h.pairs.each pair.Hl) (i.pairs.each pair.Hl)
+    v : Values
+    v = values_of registers s.pairs
 
-pub returned_sound : (k : Kept) (s t after : Relations) → after ≡ returned k s t → IsSoundReturn k s t after
-returned_sound k s t after e =
-    subst (λ r. IsSoundReturn k s t r) (sym e) (record { gives = λ x y before after f g. HoldRelations-returned k s t x y before after f g })
+    held : Holds v was x
+    held = record { registers = among.within; pairs = h.pairs }
+
+    pairs : (p : WordPair) → HoldsPair (facts_of p (returned k registers s t).pairs) p was y
+    pairs pair.Bc = facts_returned-hold pair.Bc k v t.pairs.bc was x y kept.registers bytes among.copies held (i.pairs.each pair.Bc)
+    pairs pair.De = facts_returned-hold pair.De k v t.pairs.de was x y kept.registers bytes among.copies held (i.pairs.each pair.De)
+    pairs pair.Hl = facts_returned-hold pair.Hl k v t.pairs.hl was x y kept.registers bytes among.copies held (i.pairs.each pair.Hl)
+
+pub returned_sound : (k : Kept) (registers : Registers Val) (s t after : Relations) → after ≡ returned k registers s t → IsSoundReturn k registers s t after
+returned_sound k registers s t after e =
+    subst (λ r. IsSoundReturn k registers s t r) (sym e)
+    (record { gives = λ was x y before after f g kept bytes among. HoldRelations-returned k registers s t was x y before after f g kept bytes among })

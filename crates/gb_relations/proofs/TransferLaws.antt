@@ -38,10 +38,10 @@ are_words s b d h = record { each = each }
     each words.Hl = h
 
 -- of pairs of which nothing is known
-pub HoldPairs-nothing : (x : Registers ℕ) → AreBytes x → HoldPairs no_pairs x
-HoldPairs-nothing x bytes = record { each = each }
+pub HoldPairs-nothing : (was x : Registers ℕ) → AreBytes x → HoldPairs no_pairs was x
+HoldPairs-nothing was x bytes = record { each = each }
   where
-    each : (p : WordPair) → HoldsPair (facts_of p no_pairs) p x
+    each : (p : WordPair) → HoldsPair (facts_of p no_pairs) p was x
     each words.Bc = let h = bytes.each B in let l = bytes.each C in record { first = omega arith; last = omega arith; link = tt }
     each words.De = let h = bytes.each D in let l = bytes.each E in record { first = omega arith; last = omega arith; link = tt }
     each words.Hl = let h = bytes.each H in let l = bytes.each L in record { first = omega arith; last = omega arith; link = tt }
@@ -61,25 +61,25 @@ relations_after-placed Simple is_whole stack o sp vals low r h = compared_after-
 relations_after-placed Extended is_whole stack o sp vals low r h = byte_after-placed stack (known_bits Extended is_whole o vals) o (values_of vals r.pairs) low r.byte h
 
 HoldRelations-relations_after :
-    (rules : Rules) (is_whole : Bool) (stack : StackBytes) (o : Op) (sp : Bounds) (vals : Registers Val) (low : Val) (r : Relations) (p : Processor) (memory after : ℕ → ℕ) (l h : ℕ)
+    (rules : Rules) (is_whole : Bool) (stack : StackBytes) (o : Op) (sp : Bounds) (vals : Registers Val) (low : Val) (r : Relations) (was : Registers ℕ) (p : Processor) (memory after : ℕ → ℕ) (l h : ℕ)
     → HasBytes o → sp.last < 65536 → AreWords r.pairs
-    → Begins stack o sp vals low r p memory l h → Writes stack (effect_of o p l h).write memory after
-    → HoldRelations (relations_after rules is_whole stack o sp vals low r) (effect_of o p l h).processor.registers after (effect_of o p l h).processor.flags
+    → Begins stack o sp vals low r was p memory l h → Writes stack (effect_of o p l h).write memory after
+    → HoldRelations (relations_after rules is_whole stack o sp vals low r) was (effect_of o p l h).processor.registers after (effect_of o p l h).processor.flags
 unfolding relations_after
-HoldRelations-relations_after Simple is_whole stack o sp vals low r p memory after l h has small are b w =
+HoldRelations-relations_after Simple is_whole stack o sp vals low r was p memory after l h has small are b w =
     record {
       byte = HoldOneByte-compared_after o r.byte p memory after l h has b.bytes b.relations.byte;
       zero = tt;
-      pairs = HoldPairs-nothing _ (effect_of-bytes o p l h has b.low_small b.high_small b.bytes);
+      pairs = HoldPairs-nothing was _ (effect_of-bytes o p l h has b.low_small b.high_small b.bytes);
     }
-HoldRelations-relations_after Extended is_whole stack o sp vals low r p memory after l h has small are b w =
+HoldRelations-relations_after Extended is_whole stack o sp vals low r was p memory after l h has small are b w =
     record {
-      byte = HoldOneByte-byte_after (known_bits Extended is_whole o vals) stack o sp vals low r p memory after l h
+      byte = HoldOneByte-byte_after (known_bits Extended is_whole o vals) stack o sp vals low r was p memory after l h
           ((known_bits_sound Extended is_whole o vals _ refl).writes p l h b.bytes b.registers) has b w;
       zero = IsZero-zero_after o r.byte r.zero p memory l h b.relations.byte b.relations.zero;
       pairs =
-          HoldPairs-with_pair_copied is_whole o r.byte (values_of vals r.pairs) _ p memory l h b.relations.byte (Holds-begun b)
-          (HoldPairs-pairs_after o sp (values_of vals r.pairs) p l h has b.sp_first b.sp_last small are b.low_small b.high_small b.bytes (Holds-begun b));
+          HoldPairs-with_pair_copied is_whole o r.byte (values_of vals r.pairs) _ was p memory l h b.relations.byte (Holds-begun b)
+          (HoldPairs-pairs_after is_whole o sp (values_of vals r.pairs) was p l h has b.sp_first b.sp_last small are b.low_small b.high_small b.bytes (Holds-begun b));
     }
 
 pub relations_after_sound :
@@ -92,7 +92,7 @@ relations_after_sound rules is_whole stack o sp vals low r after e has small bc 
     let are = are_words r.pairs bc de hl in
     subst (λ k. IsSoundTransfer stack o sp vals low r k) (sym e)
     (record {
-      gives = λ p memory written l h b w. HoldRelations-relations_after rules is_whole stack o sp vals low r p memory written l h has small are b w;
+      gives = λ was p memory written l h b w. HoldRelations-relations_after rules is_whole stack o sp vals low r was p memory written l h has small are b w;
       placed = λ h. relations_after-placed rules is_whole stack o sp vals low r h;
     })
 
@@ -105,4 +105,4 @@ relations_after_kept rules is_whole stack o sp vals low r after e are =
   where
     kept : (z : Rules) → ArePairs (relations_after z is_whole stack o sp vals low r).pairs
     kept Simple = ArePairs-nothing
-    kept Extended = with_pair_copied-kept is_whole o r.byte (values_of vals r.pairs) _ are (pairs_after-kept o sp (values_of vals r.pairs) are)
+    kept Extended = with_pair_copied-kept is_whole o r.byte (values_of vals r.pairs) _ are (pairs_after-kept is_whole o sp (values_of vals r.pairs) are)

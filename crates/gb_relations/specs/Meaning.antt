@@ -13,8 +13,8 @@ abbrev pub IsZero : Option WordPair → Registers ℕ → Flags → Type 0
 IsZero None x f = Unit {0}
 IsZero (Some p) x f = f.zero ≡ (word_of p x == 0)
 
--- memory by address
-pub record HoldRelations (r : Relations) (x : Registers ℕ) (memory : ℕ → ℕ) (f : Flags) : Type 0 where
+-- in a procedure that was entered with these registers; memory by address
+pub record HoldRelations (r : Relations) (was x : Registers ℕ) (memory : ℕ → ℕ) (f : Flags) : Type 0 where
   pub byte : HoldOneByte r.byte x memory f
   pub zero : IsZero r.zero x f
-  pub pairs : HoldPairs r.pairs x
+  pub pairs : HoldPairs r.pairs was x

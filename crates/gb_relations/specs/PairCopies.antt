@@ -1,4 +1,4 @@
--- A copy that makes two pairs equal, which then have the same bounds (own rules: pair copies, version 4).
+-- A copy that makes two pairs equal, which then have the same bounds and links (own rules: pair copies, version 4).
 use Rattle.std.specs.Prelude.{Bool, true, false, not, ◌&&◌, ◌||◌, Option, Some, None, if◌then◌else◌}
 use Rattle.gb_ops.specs.declared.op.Register.{Register}
 use Rattle.gb_ops.specs.declared.op.Register.TheVariants.{B, C, D, E, H, L}
@@ -7,12 +7,13 @@ use Rattle.gb_ops.specs.declared.op.Op.{Op}
 use Rattle.gb_ops.specs.declared.op.Op.TheVariants as op
 use Rattle.gb_ops.specs.Registers.{get}
 use Rattle.gb_domain.specs.declared.pairs.WordPair.{WordPair}
-use Rattle.gb_domain.specs.declared.pairs.Bounds.{Bounds}
+use Rattle.gb_domain.specs.declared.pairs.PairFacts.{PairFacts}
 use Rattle.gb_domain.specs.declared.pairs.Pairs.{Pairs}
 use Rattle.gb_domain.specs.declared.places.OneByte.{OneByte}
 use Rattle.gb_domain.specs.Pairs.{facts_of}
 use Rattle.gb_pairs.specs.declared.values.Values.{Values}
 use Rattle.gb_pairs.specs.Bounds.{bounds_of}
+use Rattle.gb_pairs.specs.Copied.{link_copied}
 use Rattle.gb_pairs.specs.Written.{is_same_pair}
 use Rattle.gb_pairs.specs.Reduced.{with_facts}
 use Rattle.gb_relations.specs.declared.pair_copies.PairCopy.{PairCopy}
@@ -53,14 +54,14 @@ unfoldable pub pair_copy : Bool → Op → OneByte → Option PairCopy
 pair_copy is_whole (op.Load (operand.Register to) (operand.Register from)) b = copy_by is_whole to from b (other_half to) (other_half from)
 pair_copy is_whole _ b = None
 
-abbrev pub with_own_bounds : WordPair → Bounds → Pairs → Pairs
-with_own_bounds p b s = with_facts p (record (facts_of p s) { bounds = b }) s
+-- the one gets the other's bounds, and a link by the other's, as they are before the instruction
+abbrev pub facts_copied : PairCopy → Values → PairFacts
+facts_copied c v = record { bounds = bounds_of c.from v; link = Some (link_copied c.to c.from (facts_of c.from v.pairs).link) }
 
--- the one gets the other's bounds, which are those before the instruction
-abbrev pub with_bounds_by : Option PairCopy → Values → Pairs → Pairs
-with_bounds_by None v s = s
-with_bounds_by (Some c) v s = with_own_bounds c.to (bounds_of c.from v) s
+abbrev pub with_copy : Option PairCopy → Values → Pairs → Pairs
+with_copy None v s = s
+with_copy (Some c) v s = with_facts c.to (facts_copied c v) s
 
 -- the pairs s behind an instruction, where the one byte and the values are those before it
 abbrev pub with_pair_copied : Bool → Op → OneByte → Values → Pairs → Pairs
-with_pair_copied is_whole o b v s = with_bounds_by (pair_copy is_whole o b) v s
+with_pair_copied is_whole o b v s = with_copy (pair_copy is_whole o b) v s

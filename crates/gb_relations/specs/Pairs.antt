@@ -64,16 +64,22 @@ abbrev pub is_hl : Pair → Bool
 is_hl pair.Hl = true
 is_hl _ = false
 
+-- the pair whose word is added, of which the rules of version 4 know
+abbrev pub added_pair : Bool → Pair → Option WordPair
+added_pair false which = None
+added_pair true which = pair_of which
+
 abbrev pub with_pairs : Values → Pairs → Values
 with_pairs v s = record v { pairs = s }
 
--- the pairs behind a taken instruction, where the values are those before it; sp has SP's bounds
-unfoldable pub pairs_after : Op → Bounds → Values → Pairs
-pairs_after (op.StoreA to) sp v = after_indirect to v
-pairs_after (op.LoadA from) sp v = without_registers (A ∷ []) (after_indirect from v)
-pairs_after (op.IncrementPair which) sp v = after_increment (pair_of which) v
-pairs_after (op.DecrementPair which) sp v = after_decrement (pair_of which) v
-pairs_after (op.Increment (operand.Register r)) sp v = byte_incremented r v
-pairs_after (op.Decrement (operand.Register r)) sp v = byte_decremented r v
-pairs_after (op.AddHl which) sp v = (added (addend which sp v) (is_hl which) v).pairs
-pairs_after o sp v = without_registers (written o) v.pairs
+-- the pairs behind a taken instruction, by the rules of version 4, is_whole, or of version 3, where the values are those before it; sp
+-- has SP's bounds
+unfoldable pub pairs_after : Bool → Op → Bounds → Values → Pairs
+pairs_after is_whole (op.StoreA to) sp v = after_indirect to v
+pairs_after is_whole (op.LoadA from) sp v = without_registers (A ∷ []) (after_indirect from v)
+pairs_after is_whole (op.IncrementPair which) sp v = after_increment (pair_of which) v
+pairs_after is_whole (op.DecrementPair which) sp v = after_decrement (pair_of which) v
+pairs_after is_whole (op.Increment (operand.Register r)) sp v = byte_incremented r v
+pairs_after is_whole (op.Decrement (operand.Register r)) sp v = byte_decremented r v
+pairs_after is_whole (op.AddHl which) sp v = (added (addend which sp v) (is_hl which) (added_pair is_whole which) v).pairs
+pairs_after is_whole o sp v = without_registers (written o) v.pairs

@@ -60,7 +60,7 @@ pointer_bounds Extended o registers s = bounds_if (pointer_of o) (values_of regi
 
 -- the carry of ADD HL, where it is known; sp has SP's bounds
 abbrev pub carry_after : Op → Bounds → Values → Option Bool
-carry_after (op.AddHl which) sp v = (added (addend which sp v) (is_hl which) v).carry
+carry_after (op.AddHl which) sp v = (added (addend which sp v) (is_hl which) None v).carry
 carry_after o sp v = None
 
 unfoldable pub known_carry : Rules → Op → Bounds → Registers Val → Pairs → Option Bool
@@ -90,9 +90,9 @@ PointsWithin b (Some p) x = WithinIf b (word_of p x)
 
 -- where registers and pairs hold of the machine's, the instruction reads and writes its byte within the bounds
 pub record IsSoundPointer (o : Op) (registers : Registers Val) (s : Pairs) (b : Option Bounds) : Type 0 where
-  pub word : (x : Registers ℕ) → Holds (values_of registers s) x → PointsWithin b (pointer_of o) x
-  pub reads : (p : Processor) → Holds (values_of registers s) p.registers → ReadsWithin b (Effects.read_of o p)
-  pub writes : (p : Processor) (l h : ℕ) → Holds (values_of registers s) p.registers → WritesWithin b (Effects.effect_of o p l h).write
+  pub word : (was x : Registers ℕ) → Holds (values_of registers s) was x → PointsWithin b (pointer_of o) x
+  pub reads : (was : Registers ℕ) (p : Processor) → Holds (values_of registers s) was p.registers → ReadsWithin b (Effects.read_of o p)
+  pub writes : (was : Registers ℕ) (p : Processor) (l h : ℕ) → Holds (values_of registers s) was p.registers → WritesWithin b (Effects.effect_of o p l h).write
 
 abbrev pub IsIfKnown : Option Bool → Bool → Type 0
 IsIfKnown None c = Unit {0}
@@ -101,6 +101,6 @@ IsIfKnown (Some known) c = c ≡ known
 -- where SP's bounds hold too, the machine's C behind the instruction is as it is known
 pub record IsSoundCarry (o : Op) (sp : Bounds) (registers : Registers Val) (s : Pairs) (c : Option Bool) : Type 0 where
   pub gives :
-      (p : Processor) (l h : ℕ)
-      → AreBytes p.registers → Holds (values_of registers s) p.registers → sp.first ≤ p.sp → p.sp ≤ sp.last
+      (was : Registers ℕ) (p : Processor) (l h : ℕ)
+      → AreBytes p.registers → Holds (values_of registers s) was p.registers → sp.first ≤ p.sp → p.sp ≤ sp.last
       → IsIfKnown c (Effects.effect_of o p l h).processor.flags.carry

@@ -1,6 +1,6 @@
 -- What is known together of a caller's states behind a call: of what was known as it called, and of what the callee's exit says
--- (own rules: calls, version 3).
-use Rattle.std.specs.Prelude.{◌≡◌, ℕ, Bool, true, ◌&&◌, if◌then◌else◌, Option, Some, None}
+-- (own rules: calls, versions 3 and 4).
+use Rattle.std.specs.Prelude.{◌≡◌, ℕ, ◌+◌, ◌%◌, Bool, true, false, ◌&&◌, ◌||◌, nat_le, if◌then◌else◌, Option, Some, None}
 use Rattle.gb_ops.specs.declared.op.Register.{Register}
 use Rattle.gb_ops.specs.declared.registers.Registers.{Registers}
 use Rattle.gb_ops.specs.declared.registers.Flags.{Flags}
@@ -13,7 +13,16 @@ use Rattle.gb_domain.specs.declared.pairs.Link.{Link}
 use Rattle.gb_domain.specs.declared.pairs.PairFacts.{PairFacts}
 use Rattle.gb_domain.specs.declared.places.OneByte.{OneByte}
 use Rattle.gb_domain.specs.declared.relations.Relations.{Relations}
-use Rattle.gb_pairs.specs.Bounds.{high_of, low_of}
+use Rattle.gb_domain.specs.declared.pairs.Bounds.{Bounds}
+use Rattle.gb_domain.specs.declared.types.Val.{Val}
+use Rattle.gb_domain.specs.Pairs.{facts_of}
+use Rattle.gb_pairs.specs.Below.gb_vals.Meaning.{In}
+use Rattle.gb_pairs.specs.declared.values.Values.{Values}
+use Rattle.gb_pairs.specs.Bounds.{cut, high_of, low_of, bounds_of}
+use Rattle.gb_pairs.specs.Covering.{is_as_entered}
+use Rattle.gb_pairs.specs.Meaning.{AreBytes}
+use Rattle.gb_pairs.specs.Reduced.{values_of, last_sum, without_base}
+use Rattle.gb_pairs.specs.Sound.{AreCopies}
 use Rattle.gb_copies.specs.Places.{has_place, of_places, without_test}
 use Rattle.gb_relations.specs.declared.returned.Kept.{Kept}
 use Rattle.gb_relations.specs.Meaning.{HoldRelations}
@@ -25,6 +34,7 @@ is_pair_kept p k = get (high_of p) k.registers && get (low_of p) k.registers
 abbrev pub is_other_kept : Other → Kept → Bool
 is_other_kept (other.Register r) k = get r k.registers
 is_other_kept (other.Pair p) k = is_pair_kept p k
+is_other_kept other.Nothing k = true
 
 abbrev pub both : Registers Bool → Registers Bool → Registers Bool
 both r s = record { a = r.a && s.a; b = r.b && s.b; c = r.c && s.c; d = r.d && s.d; e = r.e && s.e; h = r.h && s.h; l = r.l && s.l }
@@ -50,25 +60,97 @@ abbrev pub link_if_kept : WordPair → Kept → Option Link → Option Link
 link_if_kept p k None = None
 link_if_kept p k (Some l) = if is_pair_kept p k && is_other_kept l.other k then Some l else None
 
+-- ---- the base of an exit's link, which is what the caller's pair was as it called
+
+abbrev pub is_nothing : Other → Bool
+is_nothing other.Nothing = true
+is_nothing _ = false
+
+abbrev pub either : Option Link → Option Link → Option Link
+either (Some l) other = Some l
+either None other = other
+
+-- what the base is by the caller's link g of its pair, put into l; at most one of both reads something
+abbrev pub with_sums : Link → Link → Link
+with_sums l g =
+    record {
+      other = if is_nothing l.other then g.other else l.other;
+      factor = if is_nothing l.other then g.factor else l.factor;
+      base = g.base;
+      sum = (l.sum + g.sum) % 65536;
+      width = l.width + g.width;
+    }
+
+-- what g reads is kept, not both read something, and not all sums are some
+abbrev pub is_fit : Kept → Link → Link → Bool
+is_fit k l g = is_other_kept g.other k && (is_nothing l.other || is_nothing g.other) && nat_le (l.width + g.width) 65535
+
+abbrev pub told_by_link : Kept → Link → Option Link → Option Link
+told_by_link k l None = None
+told_by_link k l (Some g) = if is_fit k l g then Some (with_sums l g) else None
+
+-- which pair's word as the caller was entered p's is
+abbrev pub pair_entered : WordPair → Values → Option WordPair
+pair_entered p v =
+    if is_as_entered p pair.Bc v then Some pair.Bc
+    else if is_as_entered p pair.De v then Some pair.De
+    else if is_as_entered p pair.Hl v then Some pair.Hl
+    else None
+
+-- the base is a word that the caller's pair had as the caller was entered
+abbrev pub told_by_entry : Link → Option WordPair → Option Link
+told_by_entry l None = None
+told_by_entry l (Some q) = Some (record l { base = Some q })
+
+-- the base lies within the bounds of the caller's pair
+abbrev pub told_by_bounds : Link → Bounds → Option Link
+told_by_bounds l b = if is_nothing l.other then None else without_base b l
+
+-- a link of the exit, with what the caller, whose values are v, says of its base
+abbrev pub told_link : Kept → Values → Link → Option WordPair → Option Link
+told_link k v l None = Some l
+told_link k v l (Some b) =
+    either (told_by_link k l (facts_of b v.pairs).link) (either (told_by_entry l (pair_entered b v)) (told_by_bounds l (bounds_of b v)))
+
 -- the exit's link, or if it has none the caller's where all that it reads is kept
-abbrev pub link_returned : WordPair → Kept → Option Link → Option Link → Option Link
-link_returned p k s (Some l) = Some l
-link_returned p k s None = link_if_kept p k s
+abbrev pub link_returned : WordPair → Kept → Values → Option Link → Option Link
+link_returned p k v (Some l) = told_link k v l l.base
+link_returned p k v None = link_if_kept p k (facts_of p v.pairs).link
 
--- the caller's bounds, where both bytes are kept, else the exit's
-unfoldable pub facts_returned : WordPair → Kept → PairFacts → PairFacts → PairFacts
-facts_returned p k s x =
-    record { bounds = if is_pair_kept p k then s.bounds else x.bounds; link = link_returned p k s.link x.link }
+-- a pair's bounds, where its link reads nothing and has no base: its sums, where they stand in order
+abbrev pub cut_to_sums : Option Link → Bounds → Bounds
+cut_to_sums None b = b
+cut_to_sums (Some l) b =
+    if is_nothing l.other && nat_le l.sum (last_sum l) then cut b (record { first = l.sum; last = last_sum l }) else b
 
-unfoldable pub returned : Kept → Relations → Relations → Relations
-returned k s x =
+-- bounds, cut by a link of the exit whose base lies within those of the caller's pair
+abbrev pub cut_by_base : Values → Link → Option WordPair → Bounds → Bounds
+cut_by_base v l None b = b
+cut_by_base v l (Some p) b = cut_to_sums (without_base (bounds_of p v) l) b
+
+abbrev pub cut_by_exit : Values → Option Link → Bounds → Bounds
+cut_by_exit v None b = b
+cut_by_exit v (Some l) b = cut_by_base v l l.base b
+
+-- the caller's bounds, where both bytes are kept, else the exit's, cut to what the exit's link says
+unfoldable pub facts_returned : WordPair → Kept → Values → PairFacts → PairFacts
+facts_returned p k v x =
+    record {
+      bounds = cut_by_exit v x.link (if is_pair_kept p k then (facts_of p v.pairs).bounds else x.bounds);
+      link = link_returned p k v x.link;
+    }
+
+-- the caller had these registers
+unfoldable pub returned : Kept → Registers Val → Relations → Relations → Relations
+returned k registers s x =
+    let v = values_of registers s.pairs in
     record {
       byte = byte_returned k s.byte x.byte;
       zero = zero_returned k s.zero x.zero;
       pairs = record {
-        bc = facts_returned pair.Bc k s.pairs.bc x.pairs.bc;
-        de = facts_returned pair.De k s.pairs.de x.pairs.de;
-        hl = facts_returned pair.Hl k s.pairs.hl x.pairs.hl;
+        bc = facts_returned pair.Bc k v x.pairs.bc;
+        de = facts_returned pair.De k v x.pairs.de;
+        hl = facts_returned pair.Hl k v x.pairs.hl;
       };
     }
 
@@ -78,8 +160,15 @@ pub record IsKept (k : Kept) (address : Option ℕ) (x y : Registers ℕ) (befor
   pub memory : k.address ≡ true → (a : ℕ) → address ≡ Some a → after a ≡ before a
   pub flags : k.flags ≡ true → g ≡ f
 
--- what holds as the procedure is called, and of what its exit says, holds together behind the call
-pub record IsSoundReturn (k : Kept) (s x after : Relations) : Type 0 where
+-- registers are among the values, and are copies where these say so of what they were as the procedure was entered
+pub record AreAmong (registers : Registers Val) (was p : Registers ℕ) : Type 0 where
+  pub within : (r : Register) → In (get r registers) (get r p)
+  pub copies : AreCopies registers was p
+
+-- what holds as the procedure is called, with registers p, and what its exit says, holds together behind the call
+pub record IsSoundReturn (k : Kept) (registers : Registers Val) (s x after : Relations) : Type 0 where
   pub gives :
-      (p q : Registers ℕ) (old new : ℕ → ℕ) (f g : Flags)
-      → IsKept k s.byte.address p q old new f g → HoldRelations s p old f → HoldRelations x q new g → HoldRelations after q new g
+      (was p q : Registers ℕ) (old new : ℕ → ℕ) (f g : Flags)
+      → IsKept k s.byte.address p q old new f g → AreBytes q → AreAmong registers was p
+      → HoldRelations s was p old f → HoldRelations x p q new g
+      → HoldRelations after was q new g

@@ -57,8 +57,9 @@ abbrev pub IsBytePlaced : StackBytes → Option ℕ → Type 0
 IsBytePlaced stack None = Unit {0}
 IsBytePlaced stack (Some a) = is_place_at stack a ≡ true
 
--- the machine as an instruction, taken or not, begins its work: its bytes are fetched, and its reads gave l and h
-pub record Begins (stack : StackBytes) (o : Op) (sp : Bounds) (vals : Registers Val) (low : Val) (r : Relations) (p : Processor) (memory : ℕ → ℕ) (l h : ℕ) : Type 0 where
+-- the machine as an instruction, taken or not, begins its work, in a procedure that was entered with these registers: its bytes are
+-- fetched, and its reads gave l and h
+pub record Begins (stack : StackBytes) (o : Op) (sp : Bounds) (vals : Registers Val) (low : Val) (r : Relations) (was : Registers ℕ) (p : Processor) (memory : ℕ → ℕ) (l h : ℕ) : Type 0 where
   pub registers : (q : Register) → In (get q vals) (get q p.registers)
   pub bytes : AreBytes p.registers
   pub sp_first : sp.first ≤ p.sp
@@ -67,14 +68,14 @@ pub record Begins (stack : StackBytes) (o : Op) (sp : Bounds) (vals : Registers 
   pub low_small : l < 256
   pub high_small : h < 256
   pub placed : IsBytePlaced stack r.byte.address
-  pub relations : HoldRelations r p.registers memory p.flags
+  pub relations : HoldRelations r was p.registers memory p.flags
   pub reads : Reads (Effects.read_of o p) memory l
 
 -- what is known together holds behind each effect of the instruction, whatever it makes of the rest of memory
 pub record IsSoundTransfer (stack : StackBytes) (o : Op) (sp : Bounds) (vals : Registers Val) (low : Val) (r after : Relations) : Type 0 where
   pub gives :
-      (p : Processor) (memory written : ℕ → ℕ) (l h : ℕ)
-      → Begins stack o sp vals low r p memory l h
+      (was : Registers ℕ) (p : Processor) (memory written : ℕ → ℕ) (l h : ℕ)
+      → Begins stack o sp vals low r was p memory l h
       → Writes stack (Effects.effect_of o p l h).write memory written
-      → HoldRelations after (Effects.effect_of o p l h).processor.registers written (Effects.effect_of o p l h).processor.flags
+      → HoldRelations after was (Effects.effect_of o p l h).processor.registers written (Effects.effect_of o p l h).processor.flags
   pub placed : IsBytePlaced stack r.byte.address → IsBytePlaced stack after.byte.address

@@ -36,4 +36,4 @@ pub use gb_pairs::bounds::bounds_of;
 pub use gb_pairs::covering::covers_pairs;
 pub use gb_pairs::reduced::{reduce, restricted};
 pub use gb_pairs::values::Values;
-pub use gb_pairs::written::is_same_pair;
+pub use gb_pairs::written::{is_same_pair, without_bases};

@@ -1,13 +1,15 @@
-//! A copy that makes two pairs equal, which then have the same bounds.
+//! A copy that makes two pairs equal, which then have the same bounds and links.
 
 ghost use Rattle.std.specs.Prelude.{◌≡◌};
+ghost use Rattle.gb_pairs.specs.Reduced.{with_facts};
 ghost use Rattle.gb_relations.specs.PairCopies as PairCopies;
 
 use crate::pairs::other_half;
-use gb_domain::pairs::{Bounds, PairFacts, Pairs, WordPair};
+use gb_domain::pairs::{PairFacts, Pairs, WordPair};
 use gb_domain::places::OneByte;
 use gb_ops::op::{Op, Operand, Register};
 use gb_pairs::bounds::{bounds_of, facts_of};
+use gb_pairs::copied::link_copied;
 use gb_pairs::values::Values;
 use gb_pairs::written::is_same_pair;
 
@@ -87,13 +89,20 @@ fn pair_copy(is_whole: bool, op: Op, byte: &OneByte) -> Option<PairCopy>
     }
 }
 
-fn with_bounds(pair: WordPair, bounds: Bounds, pairs: Pairs) -> Pairs
-    ensures { result ≡ PairCopies.with_own_bounds pair bounds pairs }
+/// What is known of a pair that becomes what another one is.
+fn facts_copied(copy: PairCopy, values: &Values) -> PairFacts
+    ensures { result ≡ PairCopies.facts_copied copy values.now }
 {
-    let facts = PairFacts {
-        bounds,
-        ..facts_of(pair, &pairs)
-    };
+    let link = facts_of(copy.from, &values.pairs).link;
+    PairFacts {
+        bounds: bounds_of(copy.from, values),
+        link: Some(link_copied(copy.to, copy.from, link)),
+    }
+}
+
+fn with_facts(pair: WordPair, facts: PairFacts, pairs: Pairs) -> Pairs
+    ensures { result ≡ with_facts pair facts pairs }
+{
     match pair {
         WordPair::Bc => Pairs { bc: facts, ..pairs },
         WordPair::De => Pairs { de: facts, ..pairs },
@@ -101,7 +110,7 @@ fn with_bounds(pair: WordPair, bounds: Bounds, pairs: Pairs) -> Pairs
     }
 }
 
-/// The pairs behind an instruction, one of which has another one's bounds where it is a copy of it. The one byte and the values
+/// The pairs behind an instruction, one of which has another one's bounds and link where it is a copy of it. The one byte and the values
 /// are those before the instruction.
 #[inline(always)]
 pub(crate) fn copy_pair(
@@ -115,6 +124,6 @@ pub(crate) fn copy_pair(
 {
     match pair_copy(is_whole, op, byte) {
         None => pairs,
-        Some(copy) => with_bounds(copy.to, bounds_of(copy.from, values), pairs),
+        Some(copy) => with_facts(copy.to, facts_copied(copy, values), pairs),
     }
 }

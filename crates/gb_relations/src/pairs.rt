@@ -2,7 +2,7 @@
 
 ghost use Rattle.std.specs.Prelude.{◌≡◌};
 ghost use Rattle.gb_relations.specs.Written.{list_of};
-ghost use Rattle.gb_relations.specs.Pairs.{without_registers, other_half, pair_of, after_increment, after_decrement, after_indirect, addend, is_hl, pairs_after};
+ghost use Rattle.gb_relations.specs.Pairs.{without_registers, other_half, pair_of, after_increment, after_decrement, after_indirect, addend, is_hl, added_pair, pairs_after};
 
 use crate::written::{Written, written_by};
 use gb_domain::pairs::{Bounds, Pairs, WordPair};
@@ -100,10 +100,18 @@ pub fn is_hl(pair: Pair) -> bool
     matches!(pair, Pair::Hl)
 }
 
-/// The pairs behind a taken instruction; the values are those before it, and SP has these bounds.
+/// The pair whose word is added, of which the rules of version 4 know.
+fn added_pair(is_whole: bool, pair: Pair) -> Option<WordPair>
+    ensures { result ≡ added_pair is_whole pair }
+{
+    if is_whole { pair_of(pair) } else { None }
+}
+
+/// The pairs behind a taken instruction, by the rules of version 4, `is_whole`, or of version 3; the values are those before it,
+/// and SP has these bounds.
 #[tactic(auto, unfolding(crate::specs::Pairs::pairs_after))]
-pub(crate) fn pairs_after(op: Op, sp: Bounds, values: &Values) -> Pairs
-    ensures { result ≡ pairs_after op sp values.now }
+pub(crate) fn pairs_after(is_whole: bool, op: Op, sp: Bounds, values: &Values) -> Pairs
+    ensures { result ≡ pairs_after is_whole op sp values.now }
 {
     match op {
         Op::StoreA(to) => after_indirect(to, values),
@@ -112,7 +120,10 @@ pub(crate) fn pairs_after(op: Op, sp: Bounds, values: &Values) -> Pairs
         Op::DecrementPair(pair) => after_decrement(pair_of(pair), values),
         Op::Increment(Operand::Register(register)) => byte_incremented(register, values),
         Op::Decrement(Operand::Register(register)) => byte_decremented(register, values),
-        Op::AddHl(pair) => added(addend(pair, sp, values), is_hl(pair), values).pairs,
+        Op::AddHl(pair) => {
+            let from = added_pair(is_whole, pair);
+            added(addend(pair, sp, values), is_hl(pair), from, values).pairs
+        }
         _ => without_registers(written_by(op), &values.pairs),
     }
 }

@@ -97,7 +97,7 @@ fn sum_carry(pair: Pair, sp: Bounds, registers: &Registers<Val>, pairs: &Pairs) 
         registers: *registers,
         pairs: *pairs,
     };
-    added(addend(pair, sp, &values), is_hl(pair), &values).carry
+    added(addend(pair, sp, &values), is_hl(pair), None, &values).carry
 }
 
 #[inline(always)]

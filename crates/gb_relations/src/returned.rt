@@ -1,15 +1,19 @@
 //! What is known together of a caller's states behind a call.
 
-ghost use Rattle.std.specs.Prelude.{◌≡◌};
+ghost use Rattle.std.specs.Prelude.{◌≡◌, ◌+◌, ◌≤◌};
 ghost use Rattle.gb_relations.specs.Returned as Returned;
 ghost use Rattle.gb_relations.specs.Returned.{IsSoundReturn};
 
 use gb_copies::places::without_test;
-use gb_domain::pairs::{Link, Other, PairFacts, Pairs, WordPair};
+use gb_domain::pairs::{Bounds, Link, Other, PairFacts, Pairs, WordPair};
 use gb_domain::places::{OneByte, has_place};
 use gb_domain::relations::Relations;
+use gb_domain::types::Val;
 use gb_ops::registers::Registers;
-use gb_pairs::bounds::{high_of, low_of};
+use gb_pairs::bounds::{bounds_of, cut, facts_of, high_of, low_of};
+use gb_pairs::covering::is_as_entered;
+use gb_pairs::reduced::{last_sum, without_base};
+use gb_pairs::values::Values;
 
 /// What a callee gives back as it was.
 #[derive(Clone, Copy)]
@@ -32,6 +36,7 @@ fn is_other_kept(other: Other, kept: &Kept) -> bool
     match other {
         Other::Register(register) => kept.registers.get(register),
         Other::Pair(pair) => is_pair_kept(pair, kept),
+        Other::Nothing => true,
     }
 }
 
@@ -109,46 +114,194 @@ fn link_if_kept(pair: WordPair, kept: &Kept, link: Option<Link>) -> Option<Link>
     }
 }
 
-/// The caller's bounds where both bytes are kept, else the exit's; the exit's link, or if it has none the caller's where all that
-/// it reads is kept.
+// ---- the base of an exit's link, which is what the caller's pair was as it called
+
+fn is_nothing(other: Other) -> bool
+    ensures { result ≡ Returned.is_nothing other }
+{
+    matches!(other, Other::Nothing)
+}
+
+/// Puts what the base is, by the caller's link of its pair, into an exit's link. At most one of both reads something.
+fn with_sums(link: Link, base: Link) -> Link
+    requires { link.width + base.width ≤ 65535 }
+    ensures { result ≡ Returned.with_sums link base }
+{
+    let read = if is_nothing(link.other) { base } else { link };
+    Link {
+        other: read.other,
+        factor: read.factor,
+        base: base.base,
+        sum: link.sum.wrapping_add(base.sum),
+        width: link.width + base.width,
+    }
+}
+
+/// Whether what the caller's link reads is kept, not both read something, and not all sums are some.
+fn is_fit(kept: &Kept, link: Link, base: Link) -> bool
+    ensures { result ≡ Returned.is_fit kept.now link base }
+{
+    is_other_kept(base.other, kept)
+        && (is_nothing(link.other) || is_nothing(base.other))
+        && u32::from(link.width) + u32::from(base.width) <= 65_535
+}
+
+fn told_by_link(kept: &Kept, link: Link, base: Option<Link>) -> Option<Link>
+    ensures { result ≡ Returned.told_by_link kept.now link base }
+{
+    match base {
+        Some(base) if is_fit(kept, link, base) => Some(with_sums(link, base)),
+        _ => None,
+    }
+}
+
+/// Which pair's word as the caller was entered a pair's word is.
+fn pair_entered(pair: WordPair, caller: &Values) -> Option<WordPair>
+    ensures { result ≡ Returned.pair_entered pair caller.now }
+{
+    if is_as_entered(pair, WordPair::Bc, caller) {
+        Some(WordPair::Bc)
+    } else if is_as_entered(pair, WordPair::De, caller) {
+        Some(WordPair::De)
+    } else if is_as_entered(pair, WordPair::Hl, caller) {
+        Some(WordPair::Hl)
+    } else {
+        None
+    }
+}
+
+/// The base is a word that the caller's pair had as the caller was entered.
+fn told_by_entry(link: Link, entered: Option<WordPair>) -> Option<Link>
+    ensures { result ≡ Returned.told_by_entry link entered }
+{
+    let base = Some(entered?);
+    Some(Link { base, ..link })
+}
+
+/// The base lies within the bounds of the caller's pair.
+fn told_by_bounds(link: Link, base: Bounds) -> Option<Link>
+    ensures { result ≡ Returned.told_by_bounds link base }
+{
+    if is_nothing(link.other) {
+        None
+    } else {
+        without_base(base, link)
+    }
+}
+
+/// A link of the exit, with what the caller says of its base.
+fn told_link(kept: &Kept, caller: &Values, link: Link) -> Option<Link>
+    ensures { result ≡ Returned.told_link kept.now caller.now link link.base }
+{
+    let Some(base) = link.base else {
+        return Some(link);
+    };
+    if let Some(told) = told_by_link(kept, link, facts_of(base, &caller.pairs).link) {
+        return Some(told);
+    }
+    if let Some(told) = told_by_entry(link, pair_entered(base, caller)) {
+        return Some(told);
+    }
+    told_by_bounds(link, bounds_of(base, caller))
+}
+
+/// The exit's link, or if it has none the caller's where all that it reads is kept.
+fn link_returned(pair: WordPair, kept: &Kept, caller: &Values, exit: Option<Link>) -> Option<Link>
+    ensures { result ≡ Returned.link_returned pair kept.now caller.now exit }
+{
+    match exit {
+        Some(link) => told_link(kept, caller, link),
+        None => link_if_kept(pair, kept, facts_of(pair, &caller.pairs).link),
+    }
+}
+
+/// A pair's bounds, where its link reads nothing and has no base: its sums, where they stand in order.
+fn cut_to_sums(link: Option<Link>, bounds: Bounds) -> Bounds
+    ensures { result ≡ Returned.cut_to_sums link bounds }
+{
+    match link {
+        Some(link) if is_nothing(link.other) && link.sum <= last_sum(link) => {
+            let sums = Bounds {
+                first: link.sum,
+                last: last_sum(link),
+            };
+            cut(bounds, sums)
+        }
+        _ => bounds,
+    }
+}
+
+/// Bounds, cut by a link of the exit whose base lies within those of the caller's pair.
+fn cut_by_base(caller: &Values, link: Link, bounds: Bounds) -> Bounds
+    ensures { result ≡ Returned.cut_by_base caller.now link link.base bounds }
+{
+    match link.base {
+        None => bounds,
+        Some(base) => cut_to_sums(without_base(bounds_of(base, caller), link), bounds),
+    }
+}
+
+fn cut_by_exit(caller: &Values, exit: Option<Link>, bounds: Bounds) -> Bounds
+    ensures { result ≡ Returned.cut_by_exit caller.now exit bounds }
+{
+    match exit {
+        None => bounds,
+        Some(link) => cut_by_base(caller, link, bounds),
+    }
+}
+
+/// The caller's bounds where both bytes are kept, else the exit's, cut to what the exit's link says.
 #[tactic(auto, unfolding(crate::specs::Returned::facts_returned))]
-fn facts_returned(pair: WordPair, kept: &Kept, caller: &PairFacts, exit: &PairFacts) -> PairFacts
+fn facts_returned(pair: WordPair, kept: &Kept, caller: &Values, exit: &PairFacts) -> PairFacts
     ensures { result ≡ Returned.facts_returned pair kept.now caller.now exit.now }
 {
+    let bounds = if is_pair_kept(pair, kept) {
+        facts_of(pair, &caller.pairs).bounds
+    } else {
+        exit.bounds
+    };
     PairFacts {
-        bounds: if is_pair_kept(pair, kept) {
-            caller.bounds
-        } else {
-            exit.bounds
-        },
-        link: match exit.link {
-            Some(link) => Some(link),
-            None => link_if_kept(pair, kept, caller.link),
-        },
+        bounds: cut_by_exit(caller, exit.link, bounds),
+        link: link_returned(pair, kept, caller, exit.link),
     }
 }
 
 #[tactic(auto, unfolding(crate::specs::Returned::returned))]
-fn joined(kept: &Kept, caller: &Relations, exit: &Relations) -> Relations
-    ensures { result ≡ Returned.returned kept.now caller.now exit.now }
+fn joined(
+    kept: &Kept,
+    registers: &Registers<Val>,
+    caller: &Relations,
+    exit: &Relations,
+) -> Relations
+    ensures { result ≡ Returned.returned kept.now registers.now caller.now exit.now }
 {
-    let (before, behind) = (&caller.pairs, &exit.pairs);
+    let values = Values {
+        registers: *registers,
+        pairs: caller.pairs,
+    };
+    let behind = &exit.pairs;
     Relations {
         byte: byte_returned(kept, &caller.byte, &exit.byte),
         zero: zero_returned(kept, caller.zero, exit.zero),
         pairs: Pairs {
-            bc: facts_returned(WordPair::Bc, kept, &before.bc, &behind.bc),
-            de: facts_returned(WordPair::De, kept, &before.de, &behind.de),
-            hl: facts_returned(WordPair::Hl, kept, &before.hl, &behind.hl),
+            bc: facts_returned(WordPair::Bc, kept, &values, &behind.bc),
+            de: facts_returned(WordPair::De, kept, &values, &behind.de),
+            hl: facts_returned(WordPair::Hl, kept, &values, &behind.hl),
         },
     }
 }
 
-/// What is known together behind a call, of what was known as the caller called and of what the callee's exit says.
+/// What is known together behind a call, of what was known as the caller called with these registers, and of what the callee's exit
+/// says.
 #[tactic(auto, using(crate::proofs::ReturnLaws::returned_sound))]
-pub fn returned(kept: &Kept, caller: &Relations, exit: &Relations) -> Relations
-    ensures exact { result ≡ Returned.returned kept.now caller.now exit.now }
-    ensures sound { IsSoundReturn kept.now caller.now exit.now result }
+pub fn returned(
+    kept: &Kept,
+    registers: &Registers<Val>,
+    caller: &Relations,
+    exit: &Relations,
+) -> Relations
+    ensures exact { result ≡ Returned.returned kept.now registers.now caller.now exit.now }
+    ensures sound { IsSoundReturn kept.now registers.now caller.now exit.now result }
 {
-    joined(kept, caller, exit)
+    joined(kept, registers, caller, exit)
 }

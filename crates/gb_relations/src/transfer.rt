@@ -103,7 +103,13 @@ fn related_after(
     Relations {
         byte: byte_after(bits, stack, op, &values, low, byte),
         zero: zero_after(op, byte, relations.zero),
-        pairs: copy_pair(is_whole, op, byte, &values, pairs_after(op, sp, &values)),
+        pairs: copy_pair(
+            is_whole,
+            op,
+            byte,
+            &values,
+            pairs_after(is_whole, op, sp, &values),
+        ),
     }
 }
 

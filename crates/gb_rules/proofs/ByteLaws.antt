@@ -1,4 +1,5 @@
 -- Value by value of a byte of RAM: the addresses at which nodes have cells, each tried once, are all that count.
+use Rattle.gb_successors.specs.Below.gb_domain.declared.pairs.PairBounds.{PairBounds}
 use Rattle.std.proofs.Common.{◌≡◌, ℕ, suc, ◌+◌, ◌≤◌, ◌<◌, ◌⊎◌, inl, inr, Bool, true, false, ◌&&◌, ◌||◌, ◌==◌, List, [], ◌∷◌, map, slice_get, Option, Some, None, refl, sym, ◌∙◌, ap, subst, arith}
 use Rattle.std.proofs.lemmas.Bool.{and_parts, eqb-true, or_right}
 use Rattle.std.proofs.lemmas.Bool.Decides.{nat_tests}
@@ -55,15 +56,15 @@ at_no_cell test (c ∷ cells) h =
 
 -- some node's cell is told apart, where one of the addresses is
 pub bytes_found :
-    (program : Program) (rules : Rules) (nodes : List Node) (procedure a : ℕ) (s : AbsState) (at : ℕ)
-    → has_cell_there nodes procedure a at ≡ true → is_covered_by_byte program rules nodes procedure a s at ≡ true → is_covered_by_bytes program rules nodes procedure a s ≡ true
+    (program : Program) (rules : Rules) (entered : PairBounds) (nodes : List Node) (procedure a : ℕ) (s : AbsState) (at : ℕ)
+    → has_cell_there nodes procedure a at ≡ true → is_covered_by_byte program rules entered nodes procedure a s at ≡ true → is_covered_by_bytes program rules entered nodes procedure a s ≡ true
 unfolding has_cell_there is_covered_by_bytes
-bytes_found program rules nodes procedure a s at there covered =
+bytes_found program rules entered nodes procedure a s at there covered =
     any_more (λ n. is_node_at procedure a n && list_any (is_at at) n.state.cells)
-    (λ n. is_node_at procedure a n && list_any (is_covered_by_cell program rules nodes procedure a s) n.state.cells) nodes
+    (λ n. is_node_at procedure a n && list_any (is_covered_by_cell program rules entered nodes procedure a s) n.state.cells) nodes
     (λ n e.
     let p = and_parts _ _ e in
-    both (is_node_at procedure a n) _ p.0 (at_cell (is_covered_by_byte program rules nodes procedure a s) n.state.cells at p.1 covered)) there
+    both (is_node_at procedure a n) _ p.0 (at_cell (is_covered_by_byte program rules entered nodes procedure a s) n.state.cells at p.1 covered)) there
 
 none_of : (test : ℕ → Bool) (nodes : List Node) (procedure a : ℕ) → ((at : ℕ) → list_any (λ n. is_node_at procedure a n && list_any (is_at at) n.state.cells) nodes ≡ true → test at ≡ false)
     → list_any (λ n. is_node_at procedure a n && list_any (λ c. test c.address) n.state.cells) nodes ≡ false
@@ -77,10 +78,10 @@ none_of test (n ∷ nodes) procedure a h =
 
 -- none is, where none of them is
 pub bytes_not_found :
-    (program : Program) (rules : Rules) (nodes : List Node) (procedure a : ℕ) (s : AbsState)
-    → ((at : ℕ) → has_cell_there nodes procedure a at ≡ true → is_covered_by_byte program rules nodes procedure a s at ≡ false) → is_covered_by_bytes program rules nodes procedure a s ≡ false
+    (program : Program) (rules : Rules) (entered : PairBounds) (nodes : List Node) (procedure a : ℕ) (s : AbsState)
+    → ((at : ℕ) → has_cell_there nodes procedure a at ≡ true → is_covered_by_byte program rules entered nodes procedure a s at ≡ false) → is_covered_by_bytes program rules entered nodes procedure a s ≡ false
 unfolding has_cell_there is_covered_by_bytes
-bytes_not_found program rules nodes procedure a s h = none_of (is_covered_by_byte program rules nodes procedure a s) nodes procedure a h
+bytes_not_found program rules entered nodes procedure a s h = none_of (is_covered_by_byte program rules entered nodes procedure a s) nodes procedure a h
 
 -- ---- the nodes that are found
 

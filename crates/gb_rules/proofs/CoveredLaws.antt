@@ -2,6 +2,7 @@
 use Rattle.std.proofs.Common.{◌≡◌, ℕ, zero, suc, ◌+◌, ◌-◌, ◌≤◌, ◌<◌, ◌⊎◌, inl, inr, Bool, true, false, ◌&&◌, refl, sym, ◌∙◌, ap, subst, arith}
 use Rattle.std.specs.Prelude.{List, Option, option_map}
 use Rattle.gb_ops.specs.declared.op.Register.{Register}
+use Rattle.gb_successors.specs.Below.gb_domain.declared.pairs.PairBounds.{PairBounds}
 use Rattle.gb_successors.specs.Below.gb_domain.declared.relations.Relations.{Relations}
 use Rattle.gb_successors.specs.Below.gb_domain.declared.rules.Rules.{Rules}
 use Rattle.gb_successors.specs.Below.gb_domain.declared.rules.Rules.TheVariants.{Extended}
@@ -45,27 +46,27 @@ all_from-stopped test first (suc n) v le lt apart = elim (split first n v lt) [
 
 -- what is left of the states with a value in a register, and whether a node stands for it
 pub register_left :
-    (program : Program) (rules : Rules) (nodes : List Node) (procedure a : ℕ) (core : Core) (relations : Relations) (m : SummaryParts) (lists : AbsState)
+    (program : Program) (rules : Rules) (entered : PairBounds) (nodes : List Node) (procedure a : ℕ) (core : Core) (relations : Relations) (m : SummaryParts) (lists : AbsState)
     (r : Register) (v : ℕ) (left : Option Product) (b : Bool)
-    → left ≡ reduced_wholly program rules (core_with_value r v core) relations lists.cells m
+    → left ≡ reduced_wholly program rules entered (core_with_value r v core) relations lists.cells m
     → b ≡ is_covered_if program nodes procedure a (option_map (with_product (with_parts core relations m lists)) left)
-    → b ≡ is_covered_if program nodes procedure a (reduced_state program rules (with_value r (with_parts core relations m lists) v))
+    → b ≡ is_covered_if program nodes procedure a (reduced_state program rules entered (with_value r (with_parts core relations m lists) v))
 unfolding reduced_state with_value
-register_left program rules nodes procedure a core relations m lists r v left b e h =
+register_left program rules entered nodes procedure a core relations m lists r v left b e h =
     h ∙ ap (λ o. is_covered_if program nodes procedure a (option_map (with_product (with_parts core relations m lists)) o)) e
 
 -- the same of a byte of RAM
 pub byte_left :
-    (program : Program) (rules : Rules) (nodes : List Node) (procedure a : ℕ) (core : Core) (relations : Relations) (m : SummaryParts) (lists other : AbsState)
+    (program : Program) (rules : Rules) (entered : PairBounds) (nodes : List Node) (procedure a : ℕ) (core : Core) (relations : Relations) (m : SummaryParts) (lists other : AbsState)
     (at : ℕ) (known : Val) (v : ℕ) (left : Option Product) (b : Bool)
     → other ≡ record lists { cells = with_cell (cell_room Extended) (record { address = at; val = record { lo = v; hi = v; low_bits = 0; origin = known.origin } }) lists.cells }
-    → left ≡ reduced_wholly program rules core relations other.cells m
+    → left ≡ reduced_wholly program rules entered core relations other.cells m
     → b ≡ is_covered_if program nodes procedure a (option_map (with_product (with_parts core relations m other)) left)
-    → b ≡ is_covered_if program nodes procedure a (reduced_state program rules (with_byte at known (with_parts core relations m lists) v))
+    → b ≡ is_covered_if program nodes procedure a (reduced_state program rules entered (with_byte at known (with_parts core relations m lists) v))
 unfolding reduced_state with_byte
-byte_left program rules nodes procedure a core relations m lists other at known v left b is e h =
+byte_left program rules entered nodes procedure a core relations m lists other at known v left b is e h =
     h ∙ ap (λ o. is_covered_if program nodes procedure a (option_map (with_product (with_parts core relations m other)) o)) e
-    ∙ ap (λ s. is_covered_if program nodes procedure a (option_map (with_product (with_parts core relations m s)) (reduced_wholly program rules core relations s.cells m))) is
+    ∙ ap (λ s. is_covered_if program nodes procedure a (option_map (with_product (with_parts core relations m s)) (reduced_wholly program rules entered core relations s.cells m))) is
 
 -- ---- states by their parts
 

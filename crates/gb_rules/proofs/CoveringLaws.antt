@@ -1,4 +1,8 @@
 -- Where states are covered at an address, some node of the procedure there means each of their machine states.
+use Rattle.gb_successors.specs.Below.gb_domain.declared.pairs.PairBounds.{PairBounds}
+use Rattle.gb_successors.specs.Below.gb_pairs.Sound.{AreWithin}
+use Rattle.gb_successors.specs.Below.gb_product.Meaning.{entered_with}
+use Rattle.gb_rules.specs.Procedures.{entered_of}
 use Rattle.std.proofs.Common.{◌≡◌, ℕ, zero, suc, ◌+◌, ◌≤◌, ◌<◌, Bool, true, false, ◌&&◌, ◌||◌, ◌==◌, ◌⊎◌, inl, inr, List, [], ◌∷◌, length, refl, sym, ◌∙◌, ap, subst, arith}
 use Rattle.std.proofs.lemmas.Bool.{and_parts, eqb-true}
 use Rattle.std.specs.List.{Contains, list_any}
@@ -150,28 +154,33 @@ one_of_them test first (suc n) v h le lt =
 -- ---- reducing
 
 -- what reducing asks of states and a machine state: by the rules of versions 1 and 2 nothing
-abbrev IsReducible : Rules → AbsState → MState → Type 0
-IsReducible Simple s y = Unit {0}
-IsReducible Extended s y = ArePairs s.relations.pairs × AreBytes y.processor.registers
+record CanReduce (entered : PairBounds) (s : AbsState) (entry : Activation) (y : MState) : Type 0 where
+  pairs : ArePairs s.relations.pairs
+  bytes : AreBytes y.processor.registers
+  within : AreWithin entered (entered_with entry)
 
-pairs_of : (rules : Rules) (s : AbsState) (y : MState) → IsReducible rules s y → rules ≡ Extended → ArePairs s.relations.pairs
-pairs_of Simple s y can e = cc
-pairs_of Extended s y can e = can.0
+abbrev IsReducible : Rules → PairBounds → AbsState → Activation → MState → Type 0
+IsReducible Simple entered s entry y = Unit {0}
+IsReducible Extended entered s entry y = CanReduce entered s entry y
+
+pairs_of : (rules : Rules) (entered : PairBounds) (s : AbsState) (entry : Activation) (y : MState) → IsReducible rules entered s entry y → rules ≡ Extended → ArePairs s.relations.pairs
+pairs_of Simple entered s entry y can e = cc
+pairs_of Extended entered s entry y can e = can.pairs
 
 left_is_meant :
-    (rules : Rules) (s : AbsState) (entry : Activation) (base : ℕ) (y : MState) → IsReducible rules s y → Means s entry base y
-    → IsMeantProduct (reduced_wholly entry.program rules s.core s.relations s.cells s.summary) entry y
+    (rules : Rules) (entered : PairBounds) (s : AbsState) (entry : Activation) (base : ℕ) (y : MState) → IsReducible rules entered s entry y → Means s entry base y
+    → IsMeantProduct (reduced_wholly entry.program rules entered s.core s.relations s.cells s.summary) entry y
 unfolding reduced_wholly reduced
-left_is_meant Simple s entry base y can m = record { core = m.parts.core; related = m.related }
-left_is_meant Extended s entry base y can m =
+left_is_meant Simple entered s entry base y can m = record { core = m.parts.core; related = m.related }
+left_is_meant Extended entered s entry base y can m =
     let known = HoldsKnown-means s entry base y m in
-    (reduced_wholly_sound entry.program Extended s.core s.relations s.cells s.summary (pairs_of Extended s y can)).gives entry y refl can.1 known.bytes known.cells_hold known.summary m.parts.core m.related
+    (reduced_wholly_sound entry.program Extended entered s.core s.relations s.cells s.summary (pairs_of Extended entered s entry y can)).gives entry y refl can.within can.bytes known.bytes known.cells_hold known.summary m.parts.core m.related
 
 MeansParts-with_product : (s : AbsState) (p : Product) (entry : Activation) (base : ℕ) (y : MState) → p.core.stack_set ≡ s.core.stack_set → MeansProduct p entry y → MeansParts s entry base y
     → MeansParts (with_core s p.core) entry base y
 MeansParts-with_product s p entry base y stack q m = MeansParts-with_core s p.core entry base y y m q.core refl refl refl (λ set. sym stack ∙ set)
 
-product_means : (s : AbsState) (p : Product) (entry : Activation) (base : ℕ) (y : MState) → MeansParts (with_core s p.core) entry base y → AreRelated p.relations y → IsSummarized s entry y → Means (with_product s p) entry base y
+product_means : (s : AbsState) (p : Product) (entry : Activation) (base : ℕ) (y : MState) → MeansParts (with_core s p.core) entry base y → AreRelated p.relations entry y → IsSummarized s entry y → Means (with_product s p) entry base y
 product_means s p entry base y m related summary =
     record {
       parts = record { core = m.core; memory = m.memory; sp = m.sp; stack = m.stack; items = m.items; cells = m.cells };
@@ -189,12 +198,12 @@ found_left cert procedure a s (Some p) entry base y q cut h m summary =
 
 -- a node stands for what reducing leaves of states that mean y
 found_reduced :
-    (rules : Rules) (cert : Certificate) (procedure a : ℕ) (s : AbsState) (entry : Activation) (base : ℕ) (y : MState) → IsReducible rules s y
-    → is_covered_if entry.program cert.nodes procedure a (reduced_state entry.program rules s) ≡ true → Means s entry base y → IsFoundAt cert procedure a (length s.items) s.relations.byte.address entry base y
+    (rules : Rules) (entered : PairBounds) (cert : Certificate) (procedure a : ℕ) (s : AbsState) (entry : Activation) (base : ℕ) (y : MState) → IsReducible rules entered s entry y
+    → is_covered_if entry.program cert.nodes procedure a (reduced_state entry.program rules entered s) ≡ true → Means s entry base y → IsFoundAt cert procedure a (length s.items) s.relations.byte.address entry base y
 unfolding reduced_state
-found_reduced rules cert procedure a s entry base y can h m =
-    found_left cert procedure a s (reduced_wholly entry.program rules s.core s.relations s.cells s.summary) entry base y (left_is_meant rules s entry base y can m)
-    (reduced_wholly_kept entry.program rules s.core s.relations s.cells s.summary) h m.parts m.summary
+found_reduced rules entered cert procedure a s entry base y can h m =
+    found_left cert procedure a s (reduced_wholly entry.program rules entered s.core s.relations s.cells s.summary) entry base y (left_is_meant rules entered s entry base y can m)
+    (reduced_wholly_kept entry.program rules entered s.core s.relations s.cells s.summary) h m.parts m.summary
 
 -- ---- value by value
 
@@ -235,9 +244,10 @@ unfolding with_value with_byte
 same_items (parted.Register r) s n = refl
 same_items (parted.Byte at v) s n = refl
 
-reducible_one : (rules : Rules) (by : Parted) (s : AbsState) (n : ℕ) (y : MState) → IsReducible rules s y → IsReducible rules (with_one by s n) y
-reducible_one Simple by s n y can = tt
-reducible_one Extended by s n y can = (subst (λ (r : Relations). ArePairs r.pairs) (sym (same_relations by s n)) can.0, can.1)
+reducible_one : (rules : Rules) (entered : PairBounds) (by : Parted) (s : AbsState) (n : ℕ) (entry : Activation) (y : MState) → IsReducible rules entered s entry y → IsReducible rules entered (with_one by s n) entry y
+reducible_one Simple entered by s n entry y can = tt
+reducible_one Extended entered by s n entry y can =
+    record { pairs = subst (λ (r : Relations). ArePairs r.pairs) (sym (same_relations by s n)) can.pairs; bytes = can.bytes; within = can.within }
 
 asked : (b c : Bool) → b ≡ true → (not b || c) ≡ true → c ≡ true
 asked true c e h = h
@@ -245,57 +255,61 @@ asked false c e h = cc
 
 -- a node stands for those with the machine's own value, as far as they are left
 found_by_values :
-    (rules : Rules) (cert : Certificate) (procedure a : ℕ) (s : AbsState) (by : Parted) (entry : Activation) (base : ℕ) (y : MState)
-    → IsReducible rules s y → Holds (known_of by s) entry (value_at by y) → is_covered_by_values entry.program rules cert.nodes procedure a s by ≡ true → Means s entry base y
+    (rules : Rules) (entered : PairBounds) (cert : Certificate) (procedure a : ℕ) (s : AbsState) (by : Parted) (entry : Activation) (base : ℕ) (y : MState)
+    → IsReducible rules entered s entry y → Holds (known_of by s) entry (value_at by y) → is_covered_by_values entry.program rules entered cert.nodes procedure a s by ≡ true → Means s entry base y
     → IsFoundAt cert procedure a (length s.items) s.relations.byte.address entry base y
 unfolding is_covered_by_values is_value_covered
-found_by_values rules cert procedure a s by entry base y can holds h m =
+found_by_values rules entered cert procedure a s by entry base y can holds h m =
     let n = value_at by y in
     let least = holds.least in
     let most = holds.most in
-    let one = one_of_them (λ v. not (has_low_bits (known_of by s) v) || is_covered_if entry.program cert.nodes procedure a (reduced_state entry.program rules (with_one by s v)))
+    let one = one_of_them (λ v. not (has_low_bits (known_of by s) v) || is_covered_if entry.program cert.nodes procedure a (reduced_state entry.program rules entered (with_one by s v)))
     (known_of by s).lo (count_of (known_of by s)) n h least (omega arith) in
     subst (λ items. IsFoundAt cert procedure a (length items) s.relations.byte.address entry base y) (same_items by s n)
     (subst (λ (r : Relations). IsFoundAt cert procedure a (length (with_one by s n).items) r.byte.address entry base y) (same_relations by s n)
-    (found_reduced rules cert procedure a (with_one by s n) entry base y (reducible_one rules by s n y can) (asked _ _ holds.low one) (with_one_means by s entry base y holds m)))
+    (found_reduced rules entered cert procedure a (with_one by s n) entry base y (reducible_one rules entered by s n entry y can) (asked _ _ holds.low one) (with_one_means by s entry base y holds m)))
 
 found_by_byte :
-    (rules : Rules) (cert : Certificate) (procedure a : ℕ) (s : AbsState) (at : ℕ) (entry : Activation) (base : ℕ) (y : MState)
-    → IsReducible rules s y → is_covered_by_byte entry.program rules cert.nodes procedure a s at ≡ true → Means s entry base y
+    (rules : Rules) (entered : PairBounds) (cert : Certificate) (procedure a : ℕ) (s : AbsState) (at : ℕ) (entry : Activation) (base : ℕ) (y : MState)
+    → IsReducible rules entered s entry y → is_covered_by_byte entry.program rules entered cert.nodes procedure a s at ≡ true → Means s entry base y
     → IsFoundAt cert procedure a (length s.items) s.relations.byte.address entry base y
 unfolding is_covered_by_byte
-found_by_byte rules cert procedure a s at entry base y can h m =
-    found_by_values rules cert procedure a s (parted.Byte at (byte_in entry.program (values_in s) s.cells s.summary at)) entry base y can
+found_by_byte rules entered cert procedure a s at entry base y can h m =
+    found_by_values rules entered cert procedure a s (parted.Byte at (byte_in entry.program (values_in s) s.cells s.summary at)) entry base y can
     (Holds-byte s at entry base y m) (and_parts _ _ h).1 m
 
 found_by_bytes :
-    (rules : Rules) (cert : Certificate) (procedure a : ℕ) (s : AbsState) (entry : Activation) (base : ℕ) (y : MState)
-    → IsReducible rules s y → is_covered_by_bytes entry.program rules cert.nodes procedure a s ≡ true → Means s entry base y
+    (rules : Rules) (entered : PairBounds) (cert : Certificate) (procedure a : ℕ) (s : AbsState) (entry : Activation) (base : ℕ) (y : MState)
+    → IsReducible rules entered s entry y → is_covered_by_bytes entry.program rules entered cert.nodes procedure a s ≡ true → Means s entry base y
     → IsFoundAt cert procedure a (length s.items) s.relations.byte.address entry base y
 unfolding is_covered_by_bytes
-found_by_bytes rules cert procedure a s entry base y can h m =
-    let node = Any-from_list_any (λ n. is_node_at procedure a n && list_any (is_covered_by_cell entry.program rules cert.nodes procedure a s) n.state.cells) cert.nodes h in
-    let cell = Any-from_list_any (is_covered_by_cell entry.program rules cert.nodes procedure a s) node.1.state.cells (and_parts _ _ node.4).1 in
-    found_by_byte rules cert procedure a s cell.1.address entry base y can cell.4 m
+found_by_bytes rules entered cert procedure a s entry base y can h m =
+    let node = Any-from_list_any (λ n. is_node_at procedure a n && list_any (is_covered_by_cell entry.program rules entered cert.nodes procedure a s) n.state.cells) cert.nodes h in
+    let cell = Any-from_list_any (is_covered_by_cell entry.program rules entered cert.nodes procedure a s) node.1.state.cells (and_parts _ _ node.4).1 in
+    found_by_byte rules entered cert procedure a s cell.1.address entry base y can cell.4 m
 
 -- states that are covered at an address: a node there means each of their machine states
 found_where :
     (rules : Rules) (cert : Certificate) (procedure a : ℕ) (s : AbsState) (entry : Activation) (base : ℕ) (y : MState)
-    → IsReducible rules s y → covered_at entry.program rules cert procedure a s ≡ true → Means s entry base y → IsFoundAt cert procedure a (length s.items) s.relations.byte.address entry base y
+    → IsReducible rules (entered_of cert procedure) s entry y → covered_at entry.program rules cert procedure a s ≡ true → Means s entry base y → IsFoundAt cert procedure a (length s.items) s.relations.byte.address entry base y
 unfolding covered_at
-found_where rules cert procedure a s entry base y can h m = by (is_covered_by_one entry.program cert.nodes procedure a s) (list_any (is_covered_by_register entry.program rules cert.nodes procedure a s) registers) refl refl h
+found_where rules cert procedure a s entry base y can h m =
+    by (is_covered_by_one entry.program cert.nodes procedure a s) (list_any (is_covered_by_register entry.program rules entered cert.nodes procedure a s) registers) refl refl h
   where
-    register : list_any (is_covered_by_register entry.program rules cert.nodes procedure a s) registers ≡ true → IsFoundAt cert procedure a (length s.items) s.relations.byte.address entry base y
+    entered : PairBounds
+    entered = entered_of cert procedure
+
+    register : list_any (is_covered_by_register entry.program rules entered cert.nodes procedure a s) registers ≡ true → IsFoundAt cert procedure a (length s.items) s.relations.byte.address entry base y
     register e =
-        let p = Any-from_list_any (is_covered_by_register entry.program rules cert.nodes procedure a s) registers e in
-        found_by_values rules cert procedure a s (parted.Register p.1) entry base y can (m.parts.core.registers p.1) p.4 m
+        let p = Any-from_list_any (is_covered_by_register entry.program rules entered cert.nodes procedure a s) registers e in
+        found_by_values rules entered cert procedure a s (parted.Register p.1) entry base y can (m.parts.core.registers p.1) p.4 m
 
     by :
-        (b c : Bool) → is_covered_by_one entry.program cert.nodes procedure a s ≡ b → list_any (is_covered_by_register entry.program rules cert.nodes procedure a s) registers ≡ c
-        → ((b || c) || (cert.version == 4) && is_covered_by_bytes entry.program rules cert.nodes procedure a s) ≡ true → IsFoundAt cert procedure a (length s.items) s.relations.byte.address entry base y
+        (b c : Bool) → is_covered_by_one entry.program cert.nodes procedure a s ≡ b → list_any (is_covered_by_register entry.program rules entered cert.nodes procedure a s) registers ≡ c
+        → (b || (c || (cert.version == 4) && is_covered_by_bytes entry.program rules entered cert.nodes procedure a s)) ≡ true → IsFoundAt cert procedure a (length s.items) s.relations.byte.address entry base y
     by true c e f t = found_by_one cert procedure a s entry base y e m
     by false true e f t = register f
-    by false false e f t = found_by_bytes rules cert procedure a s entry base y can (and_parts _ _ t).1 m
+    by false false e f t = found_by_bytes rules entered cert procedure a s entry base y can (and_parts _ _ t).1 m
 
 -- by the rules of versions 1 and 2
 pub found_at : (cert : Certificate) (procedure a : ℕ) (s : AbsState) (entry : Activation) (base : ℕ) (y : MState) → covered_at entry.program Simple cert procedure a s ≡ true → Means s entry base y
@@ -303,7 +317,7 @@ pub found_at : (cert : Certificate) (procedure a : ℕ) (s : AbsState) (entry : 
 found_at cert procedure a s entry base y h m = found_where Simple cert procedure a s entry base y tt h m
 
 -- by any rules
-pub found_by : (rules : Rules) (cert : Certificate) (procedure a : ℕ) (s : AbsState) (entry : Activation) (base : ℕ) (y : MState) → ArePairs s.relations.pairs → AreBytes y.processor.registers
+pub found_by : (rules : Rules) (cert : Certificate) (procedure a : ℕ) (s : AbsState) (entry : Activation) (base : ℕ) (y : MState) → ArePairs s.relations.pairs → AreBytes y.processor.registers → AreWithin (entered_of cert procedure) (entered_with entry)
     → covered_at entry.program rules cert procedure a s ≡ true → Means s entry base y → IsFoundAt cert procedure a (length s.items) s.relations.byte.address entry base y
-found_by Simple cert procedure a s entry base y pairs bytes h m = found_where Simple cert procedure a s entry base y tt h m
-found_by Extended cert procedure a s entry base y pairs bytes h m = found_where Extended cert procedure a s entry base y (pairs, bytes) h m
+found_by Simple cert procedure a s entry base y pairs bytes within h m = found_where Simple cert procedure a s entry base y tt h m
+found_by Extended cert procedure a s entry base y pairs bytes within h m = found_where Extended cert procedure a s entry base y (record { pairs = pairs; bytes = bytes; within = within }) h m

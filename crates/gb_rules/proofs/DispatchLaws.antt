@@ -1,4 +1,6 @@
 -- An interrupt's dispatch: the procedure is left as by a call, and its handler is entered.
+use Rattle.gb_rules.proofs.EntryLaws.{entry_pairs}
+use Rattle.gb_successors.specs.Below.gb_product.Meaning.{entered_with}
 use Rattle.std.proofs.Common.{◌≡◌, ℕ, ◌+◌, ◌-◌, ◌/◌, ◌%◌, ◌≤◌, ◌<◌, Bool, true, false, not, ◌&&◌, nat_lt, ◌⊎◌, inl, inr, List, length, Option, Some, None, refl, sym, ◌∙◌, ap, subst, arith}
 use Rattle.std.proofs.lemmas.Bool.{and_parts, not-true}
 use Rattle.std.specs.Option.{IfSome}
@@ -203,7 +205,7 @@ IsSummarized-dispatched rom region s entry x i a facts free on banks left h =
     (stays_elsewhere entry.program region s.cells s.summary (left_by rom x i a).processor (peek x.storage) (peek (left_by rom x i a).storage) x.storage.banks facts free left
     (HoldSummary-handler entry.program s.cells s.summary x.processor i ((x.processor.sp + 65534) % 65536) (peek x.storage) x.storage.banks on h))
 
-dispatched_means : (s : AbsState) (a : ℕ) (entry : Activation) (base : ℕ) (y : MState) → MeansParts (pushed (known_word a) (dispatched s)) entry base y → AreRelated s.relations y
+dispatched_means : (s : AbsState) (a : ℕ) (entry : Activation) (base : ℕ) (y : MState) → MeansParts (pushed (known_word a) (dispatched s)) entry base y → AreRelated s.relations entry y
     → IsSummarized s entry y → Means (pushed (known_word a) (dispatched s)) entry base y
 unfolding pushed dispatched
 dispatched_means s a entry base y parts related said = record { parts = parts; related = related; summary = said }
@@ -213,8 +215,8 @@ unfolding passed
 passed_banks m n = refl
 
 -- memory that stays where a byte of the places is
-HoldRelations-apart : (r : Relations) (x : Registers ℕ) (memory after : ℕ → ℕ) (f : Flags) → ((a : ℕ) → r.byte.address ≡ Some a → after a ≡ memory a) → HoldRelations r x memory f → HoldRelations r x after f
-HoldRelations-apart r x memory after f same h = record {
+HoldRelations-apart : (r : Relations) (was x : Registers ℕ) (memory after : ℕ → ℕ) (f : Flags) → ((a : ℕ) → r.byte.address ≡ Some a → after a ≡ memory a) → HoldRelations r was x memory f → HoldRelations r was x after f
+HoldRelations-apart r was x memory after f same h = record {
   byte = record { byte = h.byte.byte; small = h.byte.small; registers = h.byte.registers; address = λ a e. same a e ∙ h.byte.address a e; test = h.byte.test };
   zero = h.zero;
   pairs = h.pairs;
@@ -293,7 +295,7 @@ is_dispatched rom cert n entry base x i at is_node certificate on set unlimited 
       means = dispatched_means n.state n.address entry base (left_by rom x i n.address) (subst (λ z. MeansParts z entry base (left_by rom x i n.address)) (pushed_ended n.state n.address)
           (MeansParts-related n.state.relations (ended false 5 (pushed (known_word n.address) (with_core n.state (masked n.state.core)))) entry base (left_by rom x i n.address)
           (MeansParts-ended rom (pushed (known_word n.address) (with_core n.state (masked n.state.core))) entry base (left_by rom x i n.address).processor (stored (view rom x false) (write.Push x.processor.sp n.address)) false 5 done.starting done.means)))
-          (HoldRelations-apart n.state.relations x.processor.registers (peek x.storage) (peek (left_by rom x i n.address).storage) x.processor.flags
+          (HoldRelations-apart n.state.relations (entered_with entry) x.processor.registers (peek x.storage) (peek (left_by rom x i n.address).storage) x.processor.flags
           held
           at.means.related)
           (IsSummarized-dispatched rom cert.region n.state entry x i n.address facts s.apart on
@@ -359,6 +361,7 @@ handled rom cert n entry base x i q at is_node certificate simple d mark set han
       is_node = Contains-slice_get cert.nodes callee.procedure.entry begin.node begin.is_node;
       not_main = subst (λ m. 0 < m) (sym number) callee.not_main;
       address = sym begin.address;
+      enters = entry_pairs cert begin.node.procedure q callee.procedure begin.node number callee.is_procedure begin.is_node;
       begins = subst (λ ks. covers entry.program (entered_by entry.program cert.region Simple (length begin.node.state.items) ks (dispatched n.state)) begin.node.state ≡ true)
           (sym (ap (kept_of cert) number ∙ kept_is cert q callee.procedure callee.is_procedure)) begin.covering;
       mark = mark;

@@ -1,5 +1,6 @@
 -- One event from a state of a node that passes: no fault, certified places, a node that means the state behind it, and
 -- what the procedure keeps is unchanged.
+use Rattle.gb_successors.specs.Below.gb_product.Meaning.{entered_with}
 use Rattle.std.proofs.Common.{◌≡◌, ℕ, ◌+◌, ◌-◌, ◌%◌, ◌≤◌, ◌<◌, Bool, true, false, cond, not, ◌&&◌, ◌||◌, ◌==◌, nat_lt, inl, inr, List, [], ◌∷◌, map, length, slice_index, slice_get, Option, Some, None, refl, sym, ◌∙◌, ap, subst, arith}
 use Rattle.std.specs.Prelude.{option_and_then}
 use Rattle.std.proofs.lemmas.Bool.{and_parts, eqb-true}
@@ -179,7 +180,7 @@ itself rom cert n entry base x y k address means mark = record {
   node = n;
   is_node = k.is_node;
   procedure_is = refl;
-  at = record { address = address; program = k.program; names = k.names; means = means; mark = mark; main = k.main; based = k.based; return_word = k.return_word; room = k.room; held = k.held; place = k.place };
+  at = record { address = address; program = k.program; names = k.names; means = means; mark = mark; main = k.main; based = k.based; within = k.within; return_word = k.return_word; room = k.room; held = k.held; place = k.place };
 }
 
 -- a smaller count, and the same processor but for PC and the mark
@@ -209,9 +210,9 @@ same_means : (s : AbsState) (entry : Activation) (base : ℕ) (x y : MState) →
     → y.processor.locked ≡ x.processor.locked → y.processor.stopped ≡ x.processor.stopped → Means s entry base y
 same_means s entry base x y m storage less registers flags i sp locked stopped = record {
   parts = same_core s entry base x y m.parts storage less registers flags i sp locked stopped;
-  related = subst (λ q. HoldRelations s.relations q (peek y.storage) y.processor.flags) (sym registers)
-      (subst (λ f. HoldRelations s.relations x.processor.registers (peek y.storage) f) (sym flags)
-      (HoldRelations-same s.relations x.processor.registers (peek x.storage) (peek y.storage) x.processor.flags
+  related = subst (λ q. HoldRelations s.relations (entered_with entry) q (peek y.storage) y.processor.flags) (sym registers)
+      (subst (λ f. HoldRelations s.relations (entered_with entry) x.processor.registers (peek y.storage) f) (sym flags)
+      (HoldRelations-same s.relations (entered_with entry) x.processor.registers (peek x.storage) (peek y.storage) x.processor.flags
       (λ b. ap (λ (t : Storage). peek t b) storage ∙ count_peek x.storage y.storage.count b) m.related));
   summary = HoldSummary-same entry.program s.cells s.summary x.processor y.processor (peek x.storage) (peek y.storage) x.storage.banks y.storage.banks registers sp i
       (ap (λ (t : Storage). t.banks) storage) (λ b. ap (λ (t : Storage). peek t b) storage ∙ count_peek x.storage y.storage.count b) m.summary;
@@ -462,7 +463,7 @@ mark_waited : (rom : List ℕ) (cert : Certificate) (n : Node) (entry : Activati
 mark_waited rom cert n entry base x k count m (inl clear) = inl clear
 mark_waited rom cert n entry base x k count m (inr nop) =
     let later : OnNode rom cert n entry base (counted count x) =
-    record { cartridge = k.cartridge; certificate = k.certificate; is_node = k.is_node; state = k.state; passes = k.passes; address = k.address; program = k.program; names = k.names; means = m; main = k.main; return_word = k.return_word; room = k.room; based = k.based; held = k.held; place = k.place } in
+    record { cartridge = k.cartridge; certificate = k.certificate; is_node = k.is_node; state = k.state; passes = k.passes; address = k.address; program = k.program; names = k.names; means = m; main = k.main; return_word = k.return_word; room = k.room; based = k.based; within = k.within; held = k.held; place = k.place } in
     let first = FetchesFirst-known (program_of rom cert) rom n entry base (counted count x) k.passes.bytes (is_known rom cert n entry base x k) (on_code rom cert n entry base (counted count x) later) in
     inr (nop.0, first.fixed, same_bytes rom x count x.processor.pc ∙ nop.2)
 
@@ -540,6 +541,7 @@ IsSafeNode-right rom cert n cartridge certificate is_node right entry base x e o
       return_word = at.return_word;
       room = at.room;
       based = at.based;
+      within = at.within;
       held = at.held;
       place = at.place;
     } in

@@ -1,4 +1,9 @@
 -- The procedures that wait, by the rules of versions 1 and 2: the machine stays in the one on top, calls another one, or returns.
+use Rattle.gb_rules.proofs.NodeLaws.{IsNodeState-node}
+use Rattle.gb_rules.proofs.EntryLaws.{AreWithin-entered}
+use Rattle.gb_successors.specs.Below.gb_pairs.Sound.{AreWithin}
+use Rattle.gb_successors.specs.Below.gb_product.Meaning.{entered_with}
+use Rattle.gb_rules.specs.Procedures.{entered_of}
 use Rattle.std.proofs.Common.{◌≡◌, ℕ, ◌+◌, ◌≤◌, ◌<◌, true, inl, List, ◌∷◌, length, Some, refl, sym, ◌∙◌, ap, subst, arith}
 use Rattle.gb_ops.specs.Pairs.{word}
 use Rattle.gb_ops.specs.Play.{MState}
@@ -106,15 +111,18 @@ IsAt-called rom cert procedure entry base t certificate simple program c p =
     let some = c.not_main in
     let first = p.callee_room.first in
     let last = p.callee_room.last in
+    let met =
+    Means-covered (entered_by (program_of rom cert) cert.region Simple (length c.node.state.items) (kept_of cert c.node.procedure) c.state) c.node.state (begun rom cert c.node.procedure t.processor.sp t) t.processor.sp t
+    (subst (λ q. covers q (entered_by q cert.region Simple (length c.node.state.items) (kept_of cert c.node.procedure) c.state) c.node.state ≡ true) program c.begins)
+    (Means-entered (program_of rom cert) cert.region (length c.node.state.items) (kept_of cert c.node.procedure) c.state entry base (begun rom cert c.node.procedure t.processor.sp t) program refl refl (caller_means cert procedure entry base t c p) small) in
     record {
       address = c.address;
       program = refl;
       names = record { kept = refl; mark = refl };
-      means = Means-covered (entered_by (program_of rom cert) cert.region Simple (length c.node.state.items) (kept_of cert c.node.procedure) c.state) c.node.state (begun rom cert c.node.procedure t.processor.sp t) t.processor.sp t
-          (subst (λ q. covers q (entered_by q cert.region Simple (length c.node.state.items) (kept_of cert c.node.procedure) c.state) c.node.state ≡ true) program c.begins)
-          (Means-entered (program_of rom cert) cert.region (length c.node.state.items) (kept_of cert c.node.procedure) c.state entry base (begun rom cert c.node.procedure t.processor.sp t) program refl refl (caller_means cert procedure entry base t c p) small);
+      means = met;
       mark = inl c.mark;
       main = λ e. absurd (omega arith);
+      within = AreWithin-entered cert c.node (begun rom cert c.node.procedure t.processor.sp t) t.processor.sp t c.enters (IsNodeState-node cert c.node certificate c.is_node).core met;
       based = based_setting cert c.node.procedure t.processor.sp certificate simple (λ e. absurd (omega arith));
       return_word = HasReturnWord-simply (rules_of cert.version) cert.region c.node.procedure t.processor.sp simple (λ _. p.return_word);
       room = p.callee_room;
@@ -150,6 +158,7 @@ Stands-called rom cert frames procedure entry base s t certificate simple stands
           callee = refl;
           base_is = refl;
           main = λ e. at.main (same ∙ e);
+          within = subst (λ n. AreWithin (entered_of cert n) (entered_with entry)) same at.within;
           return_word = λ some. return_word_of (rules_of cert.version) cert.region stands.meant.node.procedure base simple at.return_word (subst (λ n. 0 < n) (sym same) some);
           room = room;
           keeps = Keeps-then cert procedure base entry.entered s t stands.keeps keeps;
@@ -269,6 +278,7 @@ IsMeant-returned rom cert f procedure entry base s t certificate simple program 
         means = g.means;
         mark = inl r.mark;
         main = λ e. w.main (sym same ∙ e);
+        within = subst (λ n. AreWithin (entered_of cert n) (entered_with f.entry)) (sym same) w.within;
         based = based_setting cert g.node.procedure f.base certificate simple (λ e. w.main (sym same ∙ e));
         return_word = HasReturnWord-simply (rules_of cert.version) cert.region g.node.procedure f.base simple (λ some. w.return_word (subst (λ n. 0 < n) same some));
         room = subst (λ n. AreInRegion cert.region f.base (need_of cert n)) (sym same) w.room;

@@ -1,5 +1,11 @@
 -- The procedures that wait, by the rules of version 3: one hands its newest items over, its others wait above the callee's
 -- base, and it goes on with these and with what it is given back.
+use Rattle.gb_rules.proofs.NodeLaws.{IsNodeState-node}
+use Rattle.gb_ops.specs.declared.registers.Registers.{Registers}
+use Rattle.gb_rules.proofs.EntryLaws.{AreWithin-entered}
+use Rattle.gb_successors.specs.Below.gb_pairs.Sound.{AreWithin}
+use Rattle.gb_successors.specs.Below.gb_product.Meaning.{entered_with}
+use Rattle.gb_rules.specs.Procedures.{entered_of}
 use Rattle.std.proofs.Common.{◌≡◌, ℕ, ◌+◌, ◌-◌, ◌≤◌, ◌<◌, true, not, ◌==◌, inl, inr, List, ◌∷◌, length, Option, Some, None, refl, sym, ◌∙◌, ap, subst, arith}
 use Rattle.std.specs.Prelude.{IfSome}
 use Rattle.std.proofs.lemmas.Bool.Decides.{nat_tests}
@@ -109,22 +115,27 @@ place_begun z callee program region k n count kept s t place h =
     (free_held callee region count (places_outside region s.relations.byte).address (outside_free z region n s.relations.byte place))
 
 -- the callee stands at its entry, and was entered just now
-IsAt-handed : (rom : List ℕ) (cert : Certificate) (procedure : ℕ) (entry : Activation) (base : ℕ) (t : MState) → rules_of cert.version ≡ Extended → entry.program ≡ program_of rom cert
+IsAt-handed : (rom : List ℕ) (cert : Certificate) (procedure : ℕ) (entry : Activation) (base : ℕ) (t : MState) → IsCertificate cert → rules_of cert.version ≡ Extended → entry.program ≡ program_of rom cert
     → (h : HandsOver cert procedure entry base t) → IsPlacedAbove cert procedure entry base t h → IsAt rom cert h.node (begun rom cert h.node.procedure (base_below (taken_by cert h.node.procedure) h.state.items base) t) (base_below (taken_by cert h.node.procedure) h.state.items base) t
-IsAt-handed rom cert procedure entry base t extended program h p =
+IsAt-handed rom cert procedure entry base t certificate extended program h p =
     let k = taken_by cert h.node.procedure in
     let kept = kept_of cert h.node.procedure in
     let some = h.not_main in
+    let under : ℕ = base_below k h.state.items base in
+    let begun_there = begun rom cert h.node.procedure under t in
+    let met =
+    Means-covered (entered_by (program_of rom cert) cert.region Extended k kept h.state) h.node.state begun_there under t
+    (subst (λ q. covers q (entered_by q cert.region Extended k kept h.state) h.node.state ≡ true) program h.begins)
+    (Means-taken_over (program_of rom cert) cert.region k kept h.state entry base begun_there program refl refl (is_called cert procedure entry base t h)) in
     record {
       address = h.address;
       program = refl;
       names = record { kept = refl; mark = refl };
-      means = Means-covered (entered_by (program_of rom cert) cert.region Extended k kept h.state) h.node.state (begun rom cert h.node.procedure (base_below k h.state.items base) t) (base_below k h.state.items base) t
-          (subst (λ q. covers q (entered_by q cert.region Extended k kept h.state) h.node.state ≡ true) program h.begins)
-          (Means-taken_over (program_of rom cert) cert.region k kept h.state entry base (begun rom cert h.node.procedure (base_below k h.state.items base) t) program refl refl (is_called cert procedure entry base t h));
+      means = met;
       mark = inl h.mark;
       main = λ e. absurd (omega arith);
       based = h.based;
+      within = AreWithin-entered cert h.node begun_there under t h.enters (IsNodeState-node cert h.node certificate h.is_node).core met;
       return_word = HasReturnWord-widely (rules_of cert.version) cert.region h.node.procedure (base_below k h.state.items base) extended;
       room = p.room;
       held = p.held;
@@ -132,16 +143,16 @@ IsAt-handed rom cert procedure entry base t extended program h p =
     }
 
 -- the machine has called: the procedure waits above the items that it keeps, and the callee was entered just now
-pub Stands-handed : (rom : List ℕ) (cert : Certificate) (frames : List Frame) (procedure : ℕ) (entry : Activation) (base : ℕ) (s t : MState) → rules_of cert.version ≡ Extended
+pub Stands-handed : (rom : List ℕ) (cert : Certificate) (frames : List Frame) (procedure : ℕ) (entry : Activation) (base : ℕ) (s t : MState) → IsCertificate cert → rules_of cert.version ≡ Extended
     → Stands rom cert frames procedure entry base s → (h : HandsOver cert procedure entry base t) → Keeps cert procedure base s t
     → Stands rom cert (record { procedure = procedure; entry = entry; base = base } ∷ frames) h.node.procedure (begun rom cert h.node.procedure (base_below (taken_by cert h.node.procedure) h.state.items base) t) (base_below (taken_by cert h.node.procedure) h.state.items base) t
-Stands-handed rom cert frames procedure entry base s t extended stands h keeps =
+Stands-handed rom cert frames procedure entry base s t certificate extended stands h keeps =
     let at = stands.meant.at in
     let same = stands.meant.procedure_is in
     let room = subst (λ n. AreInRegion cert.region base (need_of cert n)) same at.room in
     let under = base_below (taken_by cert h.node.procedure) h.state.items base in
     record {
-      meant = record { node = h.node; is_node = h.is_node; procedure_is = refl; at = IsAt-handed rom cert procedure entry base t extended at.program h (placed_above cert procedure entry base t room h) };
+      meant = record { node = h.node; is_node = h.is_node; procedure_is = refl; at = IsAt-handed rom cert procedure entry base t certificate extended at.program h (placed_above cert procedure entry base t room h) };
       waiting = waiting_in cert Extended (record { procedure = procedure; entry = entry; base = base } ∷ frames) h.node.procedure (begun rom cert h.node.procedure under t) under extended (
         record {
           calls = h;
@@ -150,6 +161,7 @@ Stands-handed rom cert frames procedure entry base s t extended stands h keeps =
           callee = refl;
           base_is = refl;
           main = λ e. at.main (same ∙ e);
+          within = subst (λ n. AreWithin (entered_of cert n) (entered_with entry)) same at.within;
           based = subst (λ n. IsBase (setting_of cert n) base) same at.based;
           room = room;
           keeps = Keeps-then cert procedure base entry.entered s t stands.keeps keeps;
@@ -179,6 +191,10 @@ apart_widely : (z : Setting) (region : Region) (s : AbsState) → IsApart z regi
 unfolding stack_held
 apart_widely z region s h = record { cells = h.cells; byte = h.byte; summary = h.summary }
 
+within_widely : (cert : Certificate) (procedure : ℕ) (was : Registers ℕ) → AreWithin (entered_of cert procedure) was → AreWithin (setting_by Extended cert procedure).entered was
+unfolding setting_of
+within_widely cert procedure was h = h
+
 based_widely : (z : Setting) (base : ℕ) → IsBase z base → IsBase (record z { rules = Extended }) base
 unfolding known_base
 based_widely z base h = h
@@ -197,6 +213,7 @@ hands_back rom cert f procedure entry base s t certificate extended program name
       apart = ranges_apart cert procedure certificate;
       placed = apart_widely (setting_of cert f.procedure) cert.region c.state c.placed;
       based = based_widely (setting_of cert f.procedure) f.base w.based;
+      within = within_widely cert f.procedure (entered_with f.entry) w.within;
       room = c.held;
       begins = subst (λ n. IsCalled (taken_by cert n) c.state f.entry f.base entry.entered) w.callee (is_called cert f.procedure f.entry f.base entry.entered c);
       callee = setting_of cert procedure;
@@ -220,15 +237,15 @@ record IsFoundBack (cert : Certificate) (waiting : StackBytes) (procedure a item
   found : IsFoundAt cert procedure a items places entry base y
 
 -- where something is left, it is covered, and means the machine's state, a node stands for it
-found_if : (cert : Certificate) (waiting : StackBytes) (procedure a : ℕ) (k : ℕ) (s x : AbsState) (entry called : Activation) (base : ℕ) (y : MState) (o : Option AbsState) → HasStateParts Extended role.Exit cert.region x → Means x called base y
+found_if : (cert : Certificate) (waiting : StackBytes) (procedure a : ℕ) (k : ℕ) (s x : AbsState) (entry called : Activation) (base : ℕ) (y : MState) (o : Option AbsState) → AreWithin (entered_of cert procedure) (entered_with entry) → HasStateParts Extended role.Exit cert.region x → Means x called base y
     → (top : ℕ) → MeansIf o entry top y → IfSome o (λ after. covered_at entry.program Extended cert procedure a after ≡ true) → IfSome o (IsGivenBack waiting k s x)
     → IsFoundBack cert waiting procedure a (length (given_back_items k s.items x.items)) entry top y
-found_if cert waiting procedure a k s x entry called base y None is exits top m covered given = absurd m
-found_if cert waiting procedure a k s x entry called base y (Some after) is exits top m covered given = record {
+found_if cert waiting procedure a k s x entry called base y None within is exits top m covered given = absurd m
+found_if cert waiting procedure a k s x entry called base y (Some after) within is exits top m covered given = record {
   places = after.relations.byte.address;
   placed = given.place;
   found = subst (λ n. IsFoundAt cert procedure a n after.relations.byte.address entry top y) given.count
-      (found_by Extended cert procedure a after entry top y given.pairs (AreBytes-core x.core called y is.core exits.parts.core) covered m);
+      (found_by Extended cert procedure a after entry top y given.pairs (AreBytes-core x.core called y is.core exits.parts.core) within covered m);
 }
 
 -- the caller's state behind the call is meant by a node
@@ -247,7 +264,7 @@ goes_on rom cert f procedure entry base s t certificate extended program names w
     let resumes : IfSome (resumed f.entry.program z cert.region k (ranges_of cert procedure) kept c.state r.exit) (λ after. covered_at f.entry.program Extended cert f.procedure c.back after ≡ true) =
     subst (λ n. IfSome (resumed f.entry.program z cert.region (taken_by cert n) (ranges_of cert n) (kept_of cert n) c.state r.exit) (λ after. covered_at f.entry.program Extended cert f.procedure c.back after ≡ true)) w.callee
     (c.resumes r.exit (ap (exit_of cert) w.callee ∙ r.is_exit)) in
-    found_if cert (waiting_stack z cert.region k c.state) f.procedure c.back k c.state r.exit f.entry entry base t (resumed f.entry.program z cert.region k (ranges_of cert procedure) kept c.state r.exit) exit r.means f.base
+    found_if cert (waiting_stack z cert.region k c.state) f.procedure c.back k c.state r.exit f.entry entry base t (resumed f.entry.program z cert.region k (ranges_of cert procedure) kept c.state r.exit) w.within exit r.means f.base
     (Means-resumed f.entry.program Extended z k cert.region (ranges_of cert procedure) kept c.state r.exit f.entry f.base entry t c.pairs pairs back) resumes
     (IsGivenBack-resumed f.entry.program z cert.region k (ranges_of cert procedure) kept c.state r.exit c.pairs pairs back.placed.byte (exit.place (inr refl)))
 
@@ -302,6 +319,7 @@ IsMeant-given_back rom cert f procedure entry base s t certificate extended prog
         mark = inl r.mark;
         main = λ e. w.main (sym same ∙ e);
         based = subst (λ n. IsBase (setting_of cert n) f.base) (sym same) w.based;
+        within = subst (λ n. AreWithin (entered_of cert n) (entered_with f.entry)) (sym same) w.within;
         return_word = HasReturnWord-widely (rules_of cert.version) cert.region g.node.procedure f.base extended;
         room = subst (λ n. AreInRegion cert.region f.base (need_of cert n)) (sym same) w.room;
         held = subst (λ n. AreInRegion cert.region f.base n) (sym g.count) (given_back_room cert f procedure entry base t certificate w r);

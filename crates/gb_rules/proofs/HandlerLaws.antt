@@ -1,4 +1,7 @@
 -- An interrupt's dispatch by the rules of version 3: its handler takes over, or without one the procedure goes on at the vector.
+use Rattle.gb_successors.specs.Below.gb_pairs.Sound.{AreWithin}
+use Rattle.gb_successors.specs.Below.gb_product.Meaning.{entered_with}
+use Rattle.gb_rules.specs.Procedures.{entered_of}
 use Rattle.std.proofs.Common.{◌≡◌, ℕ, ◌+◌, ◌≤◌, Bool, true, false, cond, ◌&&◌, nat_lt, ◌∷◌, [], List, length, Option, Some, None, refl, sym, ◌∙◌, ap, subst, arith, length-append}
 use Rattle.std.proofs.lemmas.Bool.{not-false, or_parts}
 use Rattle.std.proofs.lemmas.Bool.Decides.{nat_tests}
@@ -56,12 +59,12 @@ some_left None entry x h = absurd h
 some_left (Some p) entry x h = refl
 
 -- what is asked where something is meant before the instruction is asked wherever the machine stands
-pub is_possible-meant : (cert : Certificate) (n : Node) (entry : Activation) (base : ℕ) (x : MState) → IsNodeState cert n → Means n.state entry base x → possible_at cert n ≡ true
+pub is_possible-meant : (cert : Certificate) (n : Node) (entry : Activation) (base : ℕ) (x : MState) → IsNodeState cert n → AreWithin (entered_of cert n.procedure) (entered_with entry) → Means n.state entry base x → possible_at cert n ≡ true
 unfolding product_before
-is_possible-meant cert n entry base x s m =
+is_possible-meant cert n entry base x s within m =
     let y = moved x.processor.pc x in
-    some_left (reduced (rules_of cert.version) (core_settle n.state.core) n.state.relations) entry y
-    ((reduced_sound (rules_of cert.version) (core_settle n.state.core) n.state.relations _ refl s.pairs).gives entry y (AreBytes-core n.state.core entry x s.core m.parts.core)
+    some_left (reduced (rules_of cert.version) (entered_of cert n.procedure) (core_settle n.state.core) n.state.relations) entry y
+    ((reduced_sound (rules_of cert.version) (entered_of cert n.procedure) (core_settle n.state.core) n.state.relations _ refl s.pairs).gives entry y within (AreBytes-core n.state.core entry x s.core m.parts.core)
     (MeansCore-settle n.state.core entry x x.processor.pc m.parts.core) m.related)
 
 -- ---- what is left
@@ -161,6 +164,7 @@ is_calling rom cert n entry base x i o at s ready d mark =
         held = subst (λ m. AreInRegion cert.region base m) (sym (left_count n)) (fewer_bytes cert.region base (need_of cert n.procedure) (length n.state.items + 2) at.room ready.held);
         main = at.main;
         based = at.based;
+        within = at.within;
         room = at.room;
         place = place;
       };

@@ -14,6 +14,7 @@ pub mod StandLaws
 pub mod WayLaws
 pub mod ReachingLaws
 pub mod WideWayLaws
+pub mod EntryLaws
 pub mod EventLaws
 pub mod DispatchLaws
 pub mod HandlerLaws

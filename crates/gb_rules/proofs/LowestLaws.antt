@@ -1,4 +1,6 @@
 -- The lowest reason against an instruction is the lowest of those against its successors, one by one.
+use Rattle.gb_successors.specs.Below.gb_domain.declared.pairs.PairBounds.{PairBounds}
+use Rattle.gb_rules.specs.Procedures.{entered_of}
 use Rattle.std.proofs.Common.{◌≡◌, ℕ, Bool, true, false, cond, ◌&&◌, ◌||◌, List, [], ◌∷◌, Option, Some, None, refl, sym, ◌∙◌, ap, subst}
 use Rattle.std.specs.Prelude.{⊤, nat_le, is_some, option_and_then}
 use Rattle.std.specs.List.{AllByRecursion, find}
@@ -328,7 +330,7 @@ IsLowest rom cert n row k before =
     (lowest_in (applies_to_way rom cert n row) (option_and_then (λ (p : Product). stays row n.address n.state) before))
 
 lowest-before : (rom : List ℕ) (cert : Certificate) (n : Node) (row : Row)
-    → IsLowest rom cert n row (stack_of cert n.procedure) (product_before (stack_of cert n.procedure).setting.rules n.state)
+    → IsLowest rom cert n row (stack_of cert n.procedure) (product_before (stack_of cert n.procedure).setting.rules (stack_of cert n.procedure).setting.entered n.state)
 unfolding ways_of successors_of
 lowest-before rom cert n row =
     let ss = ways_of rom cert n row in
@@ -342,7 +344,7 @@ lowest-before rom cert n row =
 
 -- where it is given, by the state itself
 pub lowest_of_ways : (rom : List ℕ) (cert : Certificate) (n : Node) (row : Row) (k : Stack) (s : AbsState) (p : Product)
-    → k ≡ stack_of cert n.procedure → s ≡ n.state → Some p ≡ product_before k.setting.rules s
+    → k ≡ stack_of cert n.procedure → s ≡ n.state → Some p ≡ product_before k.setting.rules k.setting.entered s
     → lowest (applies_to_row rom cert n row)
     ≡ lower (lower (lower (lowest (applies_alone rom cert n row)) (lowest_in (applies_to_taken rom cert n row) (taken_from k (program_of rom cert) rom row (behind n.address row) s p)))
     (lowest_in (applies_to_way rom cert n row) (not_taken_from k (program_of rom cert) row (behind n.address row) s p)))
@@ -353,12 +355,12 @@ lowest_of_ways rom cert n row k s p stack state before =
     (lowest_in (applies_to_way rom cert n row) (not_taken_from k (program_of rom cert) row (behind n.address row) t p)))
     (lowest_in (applies_to_way rom cert n row) (stays row n.address t)))
     (sym state)
-    (subst (IsLowest rom cert n row k) (sym (before ∙ ap (product_before k.setting.rules) state))
-    (subst (λ m. IsLowest rom cert n row m (product_before m.setting.rules n.state)) (sym stack) (lowest-before rom cert n row)))
+    (subst (IsLowest rom cert n row k) (sym (before ∙ ap (product_before k.setting.rules k.setting.entered) state))
+    (subst (λ m. IsLowest rom cert n row m (product_before m.setting.rules m.setting.entered n.state)) (sym stack) (lowest-before rom cert n row)))
 
 -- the side that is taken, as far as something is meant
 abbrev side_way : Stack → Core → Option Cell → Successor → Option Successor
-side_way k core cell t = held_way k.setting.rules k (reduced_successor k.setting.rules (told_successor (told_by k.setting.rules k cell) core t))
+side_way k core cell t = held_way k.setting.rules k (reduced_successor k.setting.rules k.setting.entered (told_successor (told_by k.setting.rules k cell) core t))
 
 settled_side : (k : Stack) (core : Core) (cell : Option Cell) (t : Successor) → side_way k core cell t ≡ settled_way k cell core t
 unfolding settled_way
@@ -369,9 +371,9 @@ pub taken_on_side : (test : Successor → Reason → Bool) (program q : Program)
     (next at : ℕ) (memory : Val) (o : Option Branch) (b : Branch) (t : Successor)
     → q ≡ program → next ≡ at → memory ≡ memory_before k q s p → o ≡ taken_side row.op memory p.core p.relations → o ≡ Some b
     → t ≡ told_successor (told_by k.setting.rules k b.cell) s.core (taken_successor k q rom row next s (branch_outside k.region b))
-    → lowest_in test (held_way k.setting.rules k (reduced_successor k.setting.rules t)) ≡ lowest_in test (taken_from k program rom row at s p)
+    → lowest_in test (held_way k.setting.rules k (reduced_successor k.setting.rules k.setting.entered t)) ≡ lowest_in test (taken_from k program rom row at s p)
 taken_on_side test program q rom row k s p next at memory o b t same place known is some e =
-    ap (λ u. lowest_in test (held_way k.setting.rules k (reduced_successor k.setting.rules u))) e
+    ap (λ u. lowest_in test (held_way k.setting.rules k (reduced_successor k.setting.rules k.setting.entered u))) e
     ∙ (ap (λ r. lowest_in test (side_way k s.core b.cell (taken_successor k r rom row next s (branch_outside k.region b)))) same
     ∙ ap (λ a. lowest_in test (side_way k s.core b.cell (taken_successor k program rom row a s (branch_outside k.region b)))) place)
     ∙ ap (lowest_in test) (settled_side k s.core b.cell (taken_successor k program rom row at s (branch_outside k.region b)))
@@ -384,22 +386,27 @@ rules-stack : (cert : Certificate) (n : Node) (k : Stack) → k ≡ stack_of cer
 unfolding stack_of setting_of
 rules-stack cert n k stack = ap (λ m. m.setting.rules) stack
 
+entered-stack : (cert : Certificate) (n : Node) (k : Stack) → k ≡ stack_of cert n.procedure → k.setting.entered ≡ entered_of cert n.procedure
+unfolding stack_of setting_of
+entered-stack cert n k stack = ap (λ m. m.setting.entered) stack
+
 pub possible_before : (cert : Certificate) (n : Node) (k : Stack) (s : AbsState) (before : Option Product)
-    → k ≡ stack_of cert n.procedure → s ≡ n.state → before ≡ product_before k.setting.rules s → is_possible cert n ≡ is_some before
+    → k ≡ stack_of cert n.procedure → s ≡ n.state → before ≡ product_before k.setting.rules k.setting.entered s → is_possible cert n ≡ is_some before
 possible_before cert n k s before stack state is =
-    sym (ap is_some (is ∙ ap (product_before k.setting.rules) state ∙ ap (λ rules. product_before rules n.state) (rules-stack cert n k stack)))
+    sym (ap is_some (is ∙ ap (product_before k.setting.rules k.setting.entered) state ∙ ap (λ rules. product_before rules k.setting.entered n.state) (rules-stack cert n k stack)
+    ∙ ap (λ entered. product_before (rules_of cert.version) entered n.state) (entered-stack cert n k stack)))
 
-pub before_simply : (rules : Rules) (core : Core) (r : Relations) (s : AbsState)
-    → rules ≡ Simple → core ≡ core_settle s.core → r ≡ s.relations → Some (product_of core r) ≡ product_before rules s
+pub before_simply : (rules : Rules) (entered : PairBounds) (core : Core) (r : Relations) (s : AbsState)
+    → rules ≡ Simple → core ≡ core_settle s.core → r ≡ s.relations → Some (product_of core r) ≡ product_before rules entered s
 unfolding product_before reduced
-before_simply Simple core r s is e f = rw e (rw f refl)
-before_simply Extended core r s is e f = cc
+before_simply Simple entered core r s is e f = rw e (rw f refl)
+before_simply Extended entered core r s is e f = cc
 
-pub before_reduced : (rules : Rules) (core : Core) (s : AbsState) (o : Option Product)
-    → rules ≡ Extended → core ≡ core_settle s.core → o ≡ reduced Extended core s.relations → o ≡ product_before rules s
+pub before_reduced : (rules : Rules) (entered : PairBounds) (core : Core) (s : AbsState) (o : Option Product)
+    → rules ≡ Extended → core ≡ core_settle s.core → o ≡ reduced Extended entered core s.relations → o ≡ product_before rules entered s
 unfolding product_before
-before_reduced Simple core s o is e f = cc
-before_reduced Extended core s o is e f = f ∙ ap (λ c. reduced Extended c s.relations) e
+before_reduced Simple entered core s o is e f = cc
+before_reduced Extended entered core s o is e f = f ∙ ap (λ c. reduced Extended entered c s.relations) e
 
 ime_of : Bool → Bool → Bool → ImeSet
 ime_of off pending on = record { off = off; pending = pending; on = on }
@@ -450,12 +457,12 @@ alone-none rom cert n row extended none =
 
 -- where nothing is meant, nothing is asked
 pub lowest_of_none : (rom : List ℕ) (cert : Certificate) (n : Node) (row : Row) (k : Stack) (s : AbsState)
-    → k ≡ stack_of cert n.procedure → s ≡ n.state → k.setting.rules ≡ Extended → None ≡ product_before k.setting.rules s
+    → k ≡ stack_of cert n.procedure → s ≡ n.state → k.setting.rules ≡ Extended → None ≡ product_before k.setting.rules k.setting.entered s
     → None ≡ lowest (applies_to_row rom cert n row)
 lowest_of_none rom cert n row k s stack state extended before =
     let is : IsLowest rom cert n row k None =
-    subst (IsLowest rom cert n row k) (sym (before ∙ ap (product_before k.setting.rules) state))
-    (subst (λ m. IsLowest rom cert n row m (product_before m.setting.rules n.state)) (sym stack) (lowest-before rom cert n row)) in
+    subst (IsLowest rom cert n row k) (sym (before ∙ ap (product_before k.setting.rules k.setting.entered) state))
+    (subst (λ m. IsLowest rom cert n row m (product_before m.setting.rules m.setting.entered n.state)) (sym stack) (lowest-before rom cert n row)) in
     ap (λ o. lower (lower (lower o None) None) None)
     (alone-none rom cert n row (sym (rules-stack cert n k stack) ∙ extended) (possible_before cert n k s None stack state before))
     ∙ sym is

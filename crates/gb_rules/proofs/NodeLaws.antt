@@ -1,4 +1,5 @@
 -- What is known of a node of a certificate that no reason applies to.
+use Rattle.gb_rules.specs.Procedures.{entered_of}
 use Rattle.std.proofs.Common.{◌≡◌, ℕ, zero, suc, ◌+◌, ◌≤◌, ◌<◌, Bool, true, false, cond, not, ◌&&◌, ◌||◌, ◌==◌, nat_lt, ◌⊎◌, inl, inr, List, [], ◌∷◌, length, slice_index, slice_get, get_or, Option, Some, None, is_none, refl, sym, ◌∙◌, ap, subst, arith}
 use Rattle.std.proofs.lemmas.Bool.{or_parts, not-false, eqb-true}
 use Rattle.gb_calls.specs.Below.gb_states.declared.role.Role.TheVariants as role
@@ -599,7 +600,7 @@ provided program cert n i (Some q) e clear handled over =
 
 some_before : (cert : Certificate) (n : Node) → rules_of cert.version ≡ Simple → is_possible cert n ≡ true
 unfolding product_before reduced
-some_before cert n simple = subst (λ (q : Rules). is_some (product_before q n.state) ≡ true) (sym simple) refl
+some_before cert n simple = subst (λ (q : Rules). is_some (product_before q (entered_of cert n.procedure) n.state) ≡ true) (sym simple) refl
 
 pub IsProvided-passed : (rom : List ℕ) (cert : Certificate) (n : Node) (p : Passes rom cert n) (i : ℕ) → rules_of cert.version ≡ Simple → lacks_handler (program_of rom cert) cert n ≡ false → i < 5 → may_come i n.state.core ≡ true
     → IsProvided (program_of rom cert) cert n i

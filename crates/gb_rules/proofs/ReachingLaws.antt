@@ -1,5 +1,10 @@
 -- By the rules of version 3: states that an event leaves in a procedure, and that no reason is against, lead on as the relation
 -- of procedures asks it. They are covered where the machine is, or a callee takes them over, or the exit stands for them.
+use Rattle.gb_ops.specs.declared.registers.Registers.{Registers}
+use Rattle.gb_rules.proofs.EntryLaws.{entry_pairs}
+use Rattle.gb_successors.specs.Below.gb_pairs.Sound.{AreWithin}
+use Rattle.gb_successors.specs.Below.gb_product.Meaning.{entered_with}
+use Rattle.gb_rules.specs.Procedures.{entered_of}
 use Rattle.std.proofs.Common.{◌≡◌, ℕ, ◌+◌, ◌-◌, ◌≤◌, ◌<◌, Bool, true, false, not, ◌&&◌, ◌==◌, nat_lt, inl, inr, length, List, slice_get, Option, Some, None, refl, sym, ◌∙◌, ap, subst, arith}
 use Rattle.std.specs.Prelude.{IfSome}
 use Rattle.std.proofs.lemmas.Bool.{not-false, or_parts}
@@ -33,7 +38,7 @@ use Rattle.gb_calls.proofs.CalleeLaws.{IsCallee-found, IsEntryNode-entry, fits-f
 use Rattle.gb_rules.specs.Covered.{covered_at}
 use Rattle.gb_rules.specs.Procedures.{ranges_of, kept_of, need_of, setting_of, program_of, exit_of, items_in, entry_in, taken_by, base_in}
 use Rattle.gb_rules.specs.Rules.{is_extended, is_over, is_resumed_uncovered, is_back_uncovered, is_call_uncovered, is_uncovered_if, is_outside_of, is_exit_missed}
-use Rattle.gb_rules.specs.Safety.{begun, Declares, IsMeant, HandsOver, GoesBack, LeadsBy}
+use Rattle.gb_rules.specs.Safety.{begun_anew, Declares, IsMeant, HandsOver, GoesBack, LeadsBy}
 use Rattle.gb_rules.proofs.SearchLaws.{Contains-slice_get}
 use Rattle.gb_rules.proofs.CoveringLaws.{covered_items, place_found, found_by}
 use Rattle.gb_rules.proofs.ProcedureLaws.{kept_is, HasReturnWord-widely, main_room, main_based}
@@ -49,6 +54,7 @@ pub record IsReached (cert : Certificate) (procedure a : ℕ) (state : AbsState)
   pub held : AreInRegion cert.region base (length state.items)
   pub main : procedure ≡ 0 → base ≡ cert.region.last + 1
   pub based : IsBase (setting_of cert procedure) base
+  pub within : AreWithin (entered_of cert procedure) (entered_with entry)
   pub room : AreInRegion cert.region base (need_of cert procedure)
   pub place : IsBytePlaced (stack_held (setting_of cert procedure) cert.region (length state.items)) state.relations.byte.address
 
@@ -59,7 +65,7 @@ pub IsMeant-reached : (rom : List ℕ) (cert : Certificate) (procedure a : ℕ) 
     → entry.program ≡ program_of rom cert → Declares cert procedure base entry → IsReached cert procedure a state entry base y → IsMarkHarmless rom y
     → covered_at entry.program Extended cert procedure a state ≡ true → IsMeant rom cert procedure entry base y
 IsMeant-reached rom cert procedure a state entry base y extended program names k mark covered =
-    let f = found_by Extended cert procedure a state entry base y k.pairs k.bytes covered k.means in
+    let f = found_by Extended cert procedure a state entry base y k.pairs k.bytes k.within covered k.means in
     let same = f.procedure_is in
     record {
       node = f.node;
@@ -73,6 +79,7 @@ IsMeant-reached rom cert procedure a state entry base y extended program names k
         mark = mark;
         main = λ e. k.main (sym same ∙ e);
         based = subst (λ n. IsBase (setting_of cert n) base) (sym same) k.based;
+        within = subst (λ n. AreWithin (entered_of cert n) (entered_with entry)) (sym same) k.within;
         return_word = HasReturnWord-widely (rules_of cert.version) cert.region f.node.procedure base extended;
         room = subst (λ n. AreInRegion cert.region base (need_of cert n)) (sym same) k.room;
         held = subst (λ n. AreInRegion cert.region base n) (sym f.count) k.held;
@@ -80,12 +87,13 @@ IsMeant-reached rom cert procedure a state entry base y extended program names k
       };
     }
 
--- main begins anew, as if it were entered now
-pub IsMeant-anew : (rom : List ℕ) (cert : Certificate) (a : ℕ) (state : AbsState) (y : MState) → rules_of cert.version ≡ Extended → IsCertificate cert → Means state (begun rom cert 0 (cert.region.last + 1) y) (cert.region.last + 1) y
+-- main begins anew, however it was entered
+pub IsMeant-anew : (rom : List ℕ) (cert : Certificate) (a : ℕ) (state : AbsState) (was : Registers ℕ) (y : MState) → rules_of cert.version ≡ Extended → IsCertificate cert
+    → AreWithin (entered_of cert 0) was → Means state (begun_anew rom cert was y) (cert.region.last + 1) y
     → y.processor.pc ≡ a → AreBytes y.processor.registers → ArePairs state.relations.pairs → AreInRegion cert.region (cert.region.last + 1) (length state.items) → IsByteFree cert.region state.relations.byte.address → IsMarkHarmless rom y
-    → covered_at (program_of rom cert) Extended cert 0 a state ≡ true → IsMeant rom cert 0 (begun rom cert 0 (cert.region.last + 1) y) (cert.region.last + 1) y
-IsMeant-anew rom cert a state y extended certificate means address bytes pairs held free mark covered =
-    IsMeant-reached rom cert 0 a state (begun rom cert 0 (cert.region.last + 1) y) (cert.region.last + 1) y extended refl (record { kept = refl; mark = refl })
+    → covered_at (program_of rom cert) Extended cert 0 a state ≡ true → IsMeant rom cert 0 (begun_anew rom cert was y) (cert.region.last + 1) y
+IsMeant-anew rom cert a state was y extended certificate within means address bytes pairs held free mark covered =
+    IsMeant-reached rom cert 0 a state (begun_anew rom cert was y) (cert.region.last + 1) y extended refl (record { kept = refl; mark = refl })
     (record {
       means = means;
       address = address;
@@ -94,6 +102,7 @@ IsMeant-anew rom cert a state y extended certificate means address bytes pairs h
       held = held;
       main = λ e. refl;
       based = main_based cert certificate;
+      within = within;
       room = main_room cert certificate;
       place = free_held (setting_of cert 0) cert.region (length state.items) state.relations.byte.address free;
     }) mark covered
@@ -180,6 +189,7 @@ HandsOver-called cert procedure a back state entry base y q extended certificate
       not_main = subst (λ n. 0 < n) (sym number) callee.not_main;
       address = k.reached.address ∙ sym begin.address;
       few = fits-few z (setting_of cert begin.node.procedure).base (taken_by cert begin.node.procedure) (length state.items) rules fitting;
+      enters = entry_pairs cert begin.node.procedure q p begin.node number callee.is_procedure begin.is_node;
       based = fits-base z (setting_of cert begin.node.procedure) (taken_by cert begin.node.procedure) state.items base rules fitting k.reached.based;
       begins = subst (λ n. covers entry.program (entered_by entry.program cert.region Extended n (kept_of cert begin.node.procedure) state) begin.node.state ≡ true) (sym count)
           (subst (λ ks. covers entry.program (entered_by entry.program cert.region Extended (length begin.node.state.items) ks state) begin.node.state ≡ true)

@@ -28,6 +28,7 @@ use Rattle.gb_successors.specs.Successors.{pointer_in, taken_move, product_befor
 use Rattle.gb_successors.specs.Below.gb_abs.Meaning.{is_located}
 use Rattle.gb_successors.specs.Summaries.{enables_interrupts}
 use Rattle.gb_successors.proofs.Below.gb_abs_laws.LocationLaws.{located-none}
+use Rattle.gb_successors.specs.Below.gb_domain.declared.pairs.PairBounds.{PairBounds}
 use Rattle.gb_rules.specs.Rules.{is_lost_move, sets_lost, sets_lost_from, lacks_bytes, breaks_extended_stack, is_deep, bytes_after, is_deep_if, grows_over, lacks_word}
 use Rattle.gb_rules.proofs.RegionLaws.{fewer_bytes}
 use Rattle.gb_successors.specs.Below.gb_domain.Summaries.{Program}
@@ -205,10 +206,10 @@ held_room k core s base n r b =
     record { first = omega arith; last = room.last }
 
 -- LD SP,HL takes what is known of HL
-no_address : (k : Stack) (rules : Rules) (s : AbsState) (p : Product) → product_before rules s ≡ Some p → sets_lost_from k s (product_before rules s) ≡ false → sets_lost k (around_of k s p.core) op.LoadSpHl (pointer_in k op.LoadSpHl p) ≡ false
-no_address k rules s p is h = subst (λ o. sets_lost_from k s o ≡ false) is h
+no_address : (k : Stack) (rules : Rules) (entered : PairBounds) (s : AbsState) (p : Product) → product_before rules entered s ≡ Some p → sets_lost_from k s (product_before rules entered s) ≡ false → sets_lost k (around_of k s p.core) op.LoadSpHl (pointer_in k op.LoadSpHl p) ≡ false
+no_address k rules entered s p is h = subst (λ o. sets_lost_from k s o ≡ false) is h
 
-ready : (k : Stack) (n : Node) (o : Op) (base : ℕ) (what : AbsWrite) (p : Product) → IsRoomy k base → product_before k.setting.rules n.state ≡ Some p → breaks_extended_stack k n o ≡ false
+ready : (k : Stack) (n : Node) (o : Op) (base : ℕ) (what : AbsWrite) (p : Product) → IsRoomy k base → product_before k.setting.rules k.setting.entered n.state ≡ Some p → breaks_extended_stack k n o ≡ false
     → is_deep_if k.need (bytes_after o (length n.state.items)) ≡ false → IsReady k o (stack_move k (around_of k n.state p.core) o what (pointer_in k o p)) n.state base
 unfolding breaks_extended_stack stack_move bytes_after around_of
 ready k n (op.LoadPair which w) base what p r is h deep = loaded k n p.core which w base what (pointer_in k (op.LoadPair which w) p) r h
@@ -216,7 +217,7 @@ ready k n op.LoadSpHl base what p r is h deep =
     let g = around_of k n.state p.core in
     let hl = pointer_in k op.LoadSpHl p in
     ready_back k op.LoadSpHl n.state base (aside_within (set_within k hl) g.may_leave hl) g.back k.setting.rules
-    (no_address k k.setting.rules n.state p is h)
+    (no_address k k.setting.rules k.setting.entered n.state p is h)
     (λ kept. ready_aside_within k op.LoadSpHl (set_within k hl) g.may_leave hl n.state base kept (λ some. ready_within k op.LoadSpHl hl n.state base (λ e. quiet_op e) r some))
     (λ count e. held_room k p.core n.state base count r (back_of k n.state p.core count e))
 ready k n (op.Push from) base what p r is h deep = puts_word k (op.Push from) what n.state base r h deep
@@ -242,5 +243,5 @@ pub IsStackRuled-ready : (k : Stack) (program : Program) (rom : List ℕ) (row :
     → grows_over k.need n row.op (successors_of k program rom row n.address n.state).taken ≡ false → IsStackRuled Extended k program rom row n.address n.state base
 unfolding taken_move
 IsStackRuled-ready k program rom row n base r breaks deep some p is =
-    ready k n row.op base _ p r (subst (λ (q : Rules). product_before q n.state ≡ Some p) (sym r.extended) is) breaks
+    ready k n row.op base _ p r (subst (λ (q : Rules). product_before q k.setting.entered n.state ≡ Some p) (sym r.extended) is) breaks
     (not_deep (is_some (successors_of k program rom row n.address n.state).taken) k.need (bytes_after row.op (length n.state.items)) some deep)

@@ -2,6 +2,7 @@
 -- exit's behind them.
 use Rattle.std.proofs.Common.{◌≡◌, ℕ, ◌-◌, Bool, true, false, cond, List, length, Option, Some, None, refl}
 use Rattle.std.specs.Prelude.{IfSome, option_map, option_and_then, if◌then◌else◌}
+use Rattle.gb_successors.specs.Below.gb_domain.declared.pairs.PairBounds.{PairBounds}
 use Rattle.gb_successors.specs.Below.gb_domain.declared.rules.Rules.TheVariants.{Extended}
 use Rattle.gb_successors.specs.Below.gb_domain.declared.types.Range.{Range}
 use Rattle.gb_successors.specs.Below.gb_domain.Pairs.{ArePairs}
@@ -13,7 +14,7 @@ use Rattle.gb_successors.specs.Below.gb_relations.Transfer.{values_of}
 use Rattle.gb_calls.specs.Resuming.{given_addresses, is_something, kept_by, rejoined, with_controller, with_banks_cut, with_values, with_values_if, reduced_state, resumed_by, waiting_stack}
 use Rattle.gb_calls.specs.TakenOver.{given_back_items}
 use Rattle.gb_calls.specs.Told.{val_back}
-use Rattle.gb_calls.proofs.ResumingLaws.{ArePairs-returned}
+use Rattle.gb_calls.proofs.ReturnedLaws.{ArePairs-returned}
 use Rattle.gb_calls.proofs.TakenOverLaws.{given_back-count}
 use Rattle.gb_successors.specs.Below.gb_domain.Summaries.{Program}
 use Rattle.gb_successors.specs.Below.gb_domain.declared.types.Ctl.{Ctl}
@@ -88,15 +89,15 @@ given_back_values program whole waiting k ranges kept s x (Some v) h held given 
       place = place_returned waiting (kept_by ranges (given_addresses kept x.cells) known.byte x.core) known.byte x.relations.byte held given;
     })
 
-given_back_reduced : (program : Program) (whole : Bool) (waiting : StackBytes) (k : ℕ) (ranges : List Range) (kept : List ℕ) (s x : AbsState) → ArePairs s.relations.pairs → ArePairs x.relations.pairs
+given_back_reduced : (program : Program) (entered : PairBounds) (whole : Bool) (waiting : StackBytes) (k : ℕ) (ranges : List Range) (kept : List ℕ) (s x : AbsState) → ArePairs s.relations.pairs → ArePairs x.relations.pairs
     → IsBytePlaced waiting (held_relations waiting s.relations).byte.address → IsBytePlaced waiting x.relations.byte.address
-    → IfSome (reduced_state program (rejoined program whole waiting k ranges kept s x)) (IsGivenBack waiting k s x)
+    → IfSome (reduced_state program entered (rejoined program whole waiting k ranges kept s x)) (IsGivenBack waiting k s x)
 unfolding reduced_state rejoined
-given_back_reduced program whole waiting k ranges kept s x h i held given =
+given_back_reduced program entered whole waiting k ranges kept s x h i held given =
     let known = held_relations waiting s.relations in
-    given_back_values program whole waiting k ranges kept s x (reduced (values_of (rejoined program whole waiting k ranges kept s x).core.registers (rejoined program whole waiting k ranges kept s x).relations.pairs))
-    (reduced_kept (values_of (rejoined program whole waiting k ranges kept s x).core.registers (rejoined program whole waiting k ranges kept s x).relations.pairs) _ refl
-    (ArePairs-returned (kept_by ranges (given_addresses kept x.cells) known.byte x.core) known x.relations h i)) held given
+    given_back_values program whole waiting k ranges kept s x (reduced entered (values_of (rejoined program whole waiting k ranges kept s x).core.registers (rejoined program whole waiting k ranges kept s x).relations.pairs))
+    (reduced_kept entered (values_of (rejoined program whole waiting k ranges kept s x).core.registers (rejoined program whole waiting k ranges kept s x).relations.pairs) _ refl
+    (ArePairs-returned (kept_by ranges (given_addresses kept x.cells) known.byte x.core) s.core.registers known x.relations h i)) held given
 
 pub IsGivenBack-resumed : (program : Program) (z : Setting) (region : Region) (k : ℕ) (ranges : List Range) (kept : List ℕ) (s x : AbsState) → ArePairs s.relations.pairs → ArePairs x.relations.pairs
     → IsBytePlaced (stack_held z region (length s.items)) s.relations.byte.address → IsByteFree region x.relations.byte.address
@@ -104,8 +105,8 @@ pub IsGivenBack-resumed : (program : Program) (z : Setting) (region : Region) (k
 unfolding resumed_by
 IsGivenBack-resumed program z region k ranges kept s x h i place free = choose (is_something program z.is_whole kept ranges s x)
   where
-    choose : (b : Bool) → IfSome (cond b (reduced_state program (rejoined program z.is_whole (waiting_stack z region k s) k ranges kept s x)) None) (IsGivenBack (waiting_stack z region k s) k s x)
+    choose : (b : Bool) → IfSome (cond b (reduced_state program z.entered (rejoined program z.is_whole (waiting_stack z region k s) k ranges kept s x)) None) (IsGivenBack (waiting_stack z region k s) k s x)
     choose true =
-        given_back_reduced program z.is_whole (waiting_stack z region k s) k ranges kept s x h i (held_placed z region (length s.items) (length s.items - k) s.relations.byte place)
+        given_back_reduced program z.entered z.is_whole (waiting_stack z region k s) k ranges kept s x h i (held_placed z region (length s.items) (length s.items - k) s.relations.byte place)
         (free_held z region (length s.items - k) x.relations.byte.address free)
     choose false = tt

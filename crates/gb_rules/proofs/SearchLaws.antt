@@ -137,7 +137,7 @@ unfolding covered_at is_covered_by_one
 covered_by program rules cert procedure a s i n has covering key at is keyed covers =
     let told : has ≡ ((n.procedure == procedure) && (n.address == a)) = subst (λ (o : Option Node). IfSome o (λ m. has ≡ ((m.procedure == procedure) && (m.address == a)))) at key in
     let both : is_cover program procedure a s n ≡ true = both_true _ _ (sym told ∙ keyed) (sym is ∙ covers) in
-    sym (or_left _ _ (or_left _ _ (found_at (is_cover program procedure a s) cert.nodes i n at both)))
+    sym (or_left _ _ (found_at (is_cover program procedure a s) cert.nodes i n at both))
   where
     both_true : (b c : Bool) → b ≡ true → c ≡ true → (b && c) ≡ true
     both_true true c e f = f

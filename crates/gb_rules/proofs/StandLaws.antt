@@ -1,4 +1,7 @@
 -- Where the machine stands at a node that passes: its successors are sound, one of them is there, and what it leads to is meant.
+use Rattle.gb_successors.specs.Below.gb_pairs.Sound.{AreWithin}
+use Rattle.gb_successors.specs.Below.gb_product.Meaning.{entered_with}
+use Rattle.gb_rules.specs.Procedures.{entered_of}
 use Rattle.std.proofs.Common.{◌≡◌, ℕ, ◌+◌, false, List, [], length, refl, arith, ap, ◌∙◌, subst, sym, Bool, true, cond, ◌||◌, ◌==◌}
 use Rattle.std.specs.List.{Contains}
 use Rattle.gb_ops.specs.Play.{MState}
@@ -48,6 +51,7 @@ pub record OnNode (rom : List ℕ) (cert : Certificate) (n : Node) (entry : Acti
   pub return_word : HasReturnWord (rules_of cert.version) cert.region n.procedure base
   pub room : AreInRegion cert.region base (need_of cert n.procedure)
   pub based : IsBase (setting_of cert n.procedure) base
+  pub within : AreWithin (entered_of cert n.procedure) (entered_with entry)
   pub held : AreInRegion cert.region base (length n.state.items)
   pub place : IsBytePlaced (stack_held (setting_of cert n.procedure) cert.region (length n.state.items)) n.state.relations.byte.address
 
@@ -76,6 +80,7 @@ stands rom cert n entry base x k = record {
   apart = k.state.apart;
   means = k.means;
   based = k.based;
+  within = k.within;
   at = k.address;
 }
 
@@ -161,6 +166,7 @@ on_unmarked rom cert n entry base x k = record {
   return_word = k.return_word;
   room = k.room;
   based = k.based;
+  within = k.within;
   held = k.held;
   place = k.place;
 }

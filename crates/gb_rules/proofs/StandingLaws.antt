@@ -1,5 +1,10 @@
 -- Each safe event leaves the machine standing: it stays in the procedure on top, calls another one, returns, or begins anew.
-use Rattle.std.proofs.Common.{◌≡◌, ℕ, ◌+◌, ◌<◌, inl, inr, List, [], ◌∷◌, refl, arith}
+use Rattle.gb_rules.proofs.EntryLaws.{main_entered}
+use Rattle.gb_rules.proofs.EntryLaws.{WasEntered}
+use Rattle.gb_successors.specs.Below.gb_pairs.Sound.{AreWithin}
+use Rattle.gb_successors.specs.Below.gb_product.Meaning.{entered_with}
+use Rattle.gb_rules.specs.Procedures.{entered_of}
+use Rattle.std.proofs.Common.{◌≡◌, subst, ℕ, ◌+◌, ◌<◌, inl, inr, List, [], ◌∷◌, refl, arith}
 use Rattle.gb_ops.specs.declared.machine.Event.{Event}
 use Rattle.gb_ops.specs.Play.{MState, next}
 use Rattle.gb_successors.specs.Below.gb_abs.Meaning.{Activation}
@@ -10,9 +15,9 @@ use Rattle.gb_successors.specs.Below.gb_domain.Limits.{rules_of}
 use Rattle.gb_calls.specs.Below.gb_states.WholeRules.{IsCertificate}
 use Rattle.gb_calls.specs.TakenOver.{base_below}
 use Rattle.gb_rules.specs.Procedures.{taken_by}
-use Rattle.gb_rules.specs.Safety.{begun, IsMeant, CallsBy, ReturnsBy, RestartsBy, LeadsBy, IsSafeEvent}
+use Rattle.gb_rules.specs.Safety.{begun, begun_anew, IsMeant, CallsBy, ReturnsBy, RestartsBy, LeadsBy, IsSafeEvent}
 use Rattle.gb_rules.specs.Frames.{Keeps, Frame, Stands, IsStanding}
-use Rattle.gb_rules.proofs.FrameLaws.{Keeps-none, Stands-stays, Stands-called, Stands-returned}
+use Rattle.gb_rules.proofs.FrameLaws.{waiting_by, Keeps-none, Stands-stays, Stands-called, Stands-returned}
 use Rattle.gb_rules.proofs.HandingLaws.{Stands-handed, Stands-given_back}
 
 -- ---- each way on
@@ -41,7 +46,7 @@ IsStanding-called Extended rom cert frames procedure entry base s t certificate 
   procedure = h.node.procedure;
   entry = begun rom cert h.node.procedure (base_below (taken_by cert h.node.procedure) h.state.items base) t;
   base = base_below (taken_by cert h.node.procedure) h.state.items base;
-  stands = Stands-handed rom cert frames procedure entry base s t is stands h keeps;
+  stands = Stands-handed rom cert frames procedure entry base s t certificate is stands h keeps;
 }
 
 -- nobody waits below main, which doesn't return
@@ -77,18 +82,34 @@ IsStanding-start rom cert base s meant = record {
   stands = record { meant = meant; waiting = refl; keeps = Keeps-none cert 0 base s };
 }
 
-IsStanding-restarted : (rules : Rules) (rom : List ℕ) (cert : Certificate) (t : MState) → RestartsBy rules rom cert t → IsStanding rom cert t
-IsStanding-restarted Simple rom cert t none = absurd none
-IsStanding-restarted Extended rom cert t meant = IsStanding-start rom cert (cert.region.last + 1) t meant
+-- where main begins anew, nobody waits either; it was entered with the registers with which it was
+IsStanding-restarted : (rules : Rules) (rom : List ℕ) (cert : Certificate) (t : MState) → WasEntered cert → RestartsBy rules rom cert t → IsStanding rom cert t
+IsStanding-restarted Simple rom cert t first none = absurd none
+IsStanding-restarted Extended rom cert t first meant = record {
+  frames = [];
+  procedure = 0;
+  entry = begun_anew rom cert first.was t;
+  base = cert.region.last + 1;
+  stands = record { meant = meant first.was first.within; waiting = refl; keeps = record { byte = λ b kept. refl } };
+}
 
 -- ---- each event
+
+-- whoever waits, main was entered
+first_entered : (rules : Rules) (rom : List ℕ) (cert : Certificate) (frames : List Frame) (procedure : ℕ) (entry : Activation) (base : ℕ) (s : MState) → rules_of cert.version ≡ rules
+    → Stands rom cert frames procedure entry base s → WasEntered cert
+first_entered rules rom cert frames procedure entry base s is stands =
+    main_entered rules cert frames procedure entry base
+    (subst (λ n. AreWithin (entered_of cert n) (entered_with entry)) stands.meant.procedure_is stands.meant.at.within)
+    (waiting_by cert rules frames procedure entry base is stands.waiting)
 
 IsStanding-leads : (rules : Rules) (rom : List ℕ) (cert : Certificate) (frames : List Frame) (procedure : ℕ) (entry : Activation) (base : ℕ) (s t : MState) → IsCertificate cert → rules_of cert.version ≡ rules
     → Stands rom cert frames procedure entry base s → LeadsBy rules rom cert procedure entry base s t → Keeps cert procedure base s t → IsStanding rom cert t
 IsStanding-leads rules rom cert frames procedure entry base s t certificate is stands (inl meant) keeps = IsStanding-stays rom cert frames procedure entry base s t stands meant keeps
 IsStanding-leads rules rom cert frames procedure entry base s t certificate is stands (inr (inl c)) keeps = IsStanding-called rules rom cert frames procedure entry base s t certificate is stands c keeps
 IsStanding-leads rules rom cert frames procedure entry base s t certificate is stands (inr (inr (inl r))) keeps = IsStanding-returned rules rom cert frames procedure entry base s t certificate is stands r keeps
-IsStanding-leads rules rom cert frames procedure entry base s t certificate is stands (inr (inr (inr anew))) keeps = IsStanding-restarted rules rom cert t anew
+IsStanding-leads rules rom cert frames procedure entry base s t certificate is stands (inr (inr (inr anew))) keeps =
+    IsStanding-restarted rules rom cert t (first_entered rules rom cert frames procedure entry base s is stands) anew
 
 -- after each safe event the machine stands
 pub IsStanding-event : (rom : List ℕ) (cert : Certificate) (frames : List Frame) (procedure : ℕ) (entry : Activation) (base : ℕ) (s : MState) (e : Event) → IsCertificate cert

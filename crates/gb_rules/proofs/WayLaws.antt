@@ -1,5 +1,10 @@
 -- What a successor of a node that passes leads to by the rules of versions 1 and 2: a node of the procedure, a callee, or the
 -- procedure's exit.
+use Rattle.gb_successors.specs.Sound.{AreRelatedBehind}
+use Rattle.gb_rules.proofs.EntryLaws.{entry_pairs}
+use Rattle.gb_successors.specs.Below.gb_pairs.Sound.{AreWithin}
+use Rattle.gb_successors.specs.Below.gb_product.Meaning.{entered_with}
+use Rattle.gb_rules.specs.Procedures.{entered_of}
 use Rattle.std.proofs.Common.{◌≡◌, ℕ, zero, suc, ◌+◌, ◌≤◌, ◌<◌, true, false, ◌||◌, ◌==◌, nat_lt, inl, inr, List, [], ◌∷◌, length, slice_get, Option, Some, None, refl, sym, ◌∙◌, subst, arith, ap}
 use Rattle.std.specs.Prelude.{IfSome}
 use Rattle.std.proofs.lemmas.Bool.{not-false, and_parts, or_parts, eqb-true}
@@ -75,11 +80,11 @@ resumed_covered : (program : Program) (cert : Certificate) (procedure back : ℕ
     → IfSome (resumed program (setting_by Simple cert procedure) cert.region (taken_by cert q) (ranges_of cert q) (kept_of cert q) s exit) (λ after. covered_at program Simple cert procedure back after ≡ true)
 resumed_covered program cert procedure back s q h exit is = covered_if program cert procedure back _ (subst (λ o. is_resumed_uncovered program Simple cert procedure back s q o ≡ false) is h)
 
-means_pushed : (w : Halves) (s : AbsState) (entry : Activation) (base : ℕ) (x : MState) → MeansParts (pushed w s) entry base x → AreRelated s.relations x → IsSummarized s entry x → Means (pushed w s) entry base x
+means_pushed : (w : Halves) (s : AbsState) (entry : Activation) (base : ℕ) (x : MState) → MeansParts (pushed w s) entry base x → AreRelated s.relations entry x → IsSummarized s entry x → Means (pushed w s) entry base x
 unfolding pushed
 means_pushed w s entry base x parts related said = record { parts = parts; related = related; summary = said }
 
-calls_at : (rom : List ℕ) (cert : Certificate) (n : Node) (t : Successor) (a : ℕ) (entry : Activation) (base : ℕ) (y : MState) → IsCertificate cert → CallsAt cert.region a t entry base y → AreRelated t.state.relations y → IsSummarized t.state entry y → t.state.summary ≡ no_summary
+calls_at : (rom : List ℕ) (cert : Certificate) (n : Node) (t : Successor) (a : ℕ) (entry : Activation) (base : ℕ) (y : MState) → IsCertificate cert → CallsAt cert.region a t entry base y → AreRelated t.state.relations entry y → IsSummarized t.state entry y → t.state.summary ≡ no_summary
     → y.processor.halt_mark ≡ false → is_outside_of (simple_at cert n) cert n.procedure (callee_of entry.program cert (simple_at cert n) a t.state) ≡ false → is_over Simple cert (need_of cert n.procedure) (length t.state.items) (callee_of entry.program cert (simple_at cert n) a t.state) ≡ false
     → is_call_uncovered entry.program Simple cert n.procedure a t.next t.state (callee_of entry.program cert (simple_at cert n) a t.state) ≡ false → Calls cert n.procedure entry base y
 calls_at rom cert n t a entry base y certificate c related said quiet mark outside over uncovered = by (callee_of entry.program cert (simple_at cert n) a t.state) refl outside over uncovered
@@ -103,6 +108,7 @@ calls_at rom cert n t a entry base y certificate c related said quiet mark outsi
           is_node = Contains-slice_get cert.nodes callee.procedure.entry begin.node begin.is_node;
           not_main = subst (λ m. 0 < m) (sym number) callee.not_main;
           address = c.goes ∙ sym begin.address;
+          enters = entry_pairs cert begin.node.procedure q callee.procedure begin.node number callee.is_procedure begin.is_node;
           begins = subst (λ ks. covers entry.program (entered_by entry.program cert.region Simple (length begin.node.state.items) ks t.state) begin.node.state ≡ true)
               (sym (ap (kept_of cert) number ∙ kept_is cert q callee.procedure callee.is_procedure)) begin.covering;
           mark = mark;
@@ -115,7 +121,7 @@ calls_at rom cert n t a entry base y certificate c related said quiet mark outsi
 
 -- ---- returns
 
-returns_to : (cert : Certificate) (n : Node) (t : Successor) (entry : Activation) (base : ℕ) (x y : MState) → ReturnsTo t entry base x y → AreRelated t.state.relations y → IsSummarized t.state entry y → y.processor.halt_mark ≡ false
+returns_to : (cert : Certificate) (n : Node) (t : Successor) (entry : Activation) (base : ℕ) (x y : MState) → ReturnsTo t entry base x y → AreRelated t.state.relations entry y → IsSummarized t.state entry y → y.processor.halt_mark ≡ false
     → (n.procedure == 0 || is_exit_missed entry.program Simple t.state (exit_of cert n.procedure)) ≡ false → Returns cert n.procedure entry base x y
 returns_to cert n t entry base x y r related said mark h = by (exit_of cert n.procedure) refl (or_parts _ _ h).1
   where
@@ -148,7 +154,7 @@ pub record IsMarked (rom : List ℕ) (w : Target) (y : MState) : Type 0 where
 
 -- a successor leads on in the same procedure
 stays_at : (rom : List ℕ) (cert : Certificate) (n : Node) (entry : Activation) (base : ℕ) (x : MState) (k : OnNode rom cert n entry base x) (t : Successor) (a : ℕ) (y : MState)
-    → StaysAt cert.region a t entry base y → AreRelated t.state.relations y → IsSummarized t.state entry y → rules_of cert.version ≡ Simple → covered_at entry.program Simple cert n.procedure a t.state ≡ true → IsMarkHarmless rom y → IsMeant rom cert n.procedure entry base y
+    → StaysAt cert.region a t entry base y → AreRelated t.state.relations entry y → IsSummarized t.state entry y → rules_of cert.version ≡ Simple → covered_at entry.program Simple cert n.procedure a t.state ≡ true → IsMarkHarmless rom y → IsMeant rom cert n.procedure entry base y
 stays_at rom cert n entry base x k t a y to related said simple covered mark =
     let f = found_at cert n.procedure a t.state entry base y covered (record { parts = to.means; related = related; summary = said }) in
     record {
@@ -163,6 +169,7 @@ stays_at rom cert n entry base x k t a y to related said simple covered mark =
         mark = mark;
         main = λ is. k.main (sym f.procedure_is ∙ is);
         based = subst (λ m. IsBase (setting_of cert m) base) (sym f.procedure_is) k.based;
+        within = subst (λ m. AreWithin (entered_of cert m) (entered_with entry)) (sym f.procedure_is) k.within;
         return_word = subst (λ m. HasReturnWord (rules_of cert.version) cert.region m base) (sym f.procedure_is) k.return_word;
         room = subst (λ m. AreInRegion cert.region base (need_of cert m)) (sym f.procedure_is) k.room;
         held = subst (λ c. AreInRegion cert.region base c) (sym f.count) to.room;
@@ -176,26 +183,23 @@ pub simply_leads : (rom : List ℕ) (cert : Certificate) (procedure : ℕ) (entr
 simply_leads rom cert procedure entry base s t simple h = subst (λ r. LeadsBy r rom cert procedure entry base s t) (sym simple) h
 
 pub Leads-simply : (rom : List ℕ) (cert : Certificate) (n : Node) (entry : Activation) (base : ℕ) (x : MState) (k : OnNode rom cert n entry base x) (t : Successor) → rules_of cert.version ≡ Simple
-    → IsOneOf (ways_of rom cert n k.passes.row) t → (y : MState) → LeadsSimply cert.region t.target t entry base x y → (is_followed Simple t.target ≡ true → AreRelated t.state.relations y) → IsSummarized t.state entry y → IsMarked rom t.target y
+    → IsOneOf (ways_of rom cert n k.passes.row) t → (y : MState) → LeadsSimply cert.region t.target t entry base x y → (is_followed Simple t.target ≡ true → AreRelatedBehind t.target t.state.relations entry y) → IsSummarized t.state entry y → IsMarked rom t.target y
     → LeadsBy Simple rom cert n.procedure entry base x y
 unfolding is_uncovered is_uncallable is_unreturnable calls_too_deep callee_at
-Leads-simply rom cert n entry base x k t simple is y leads related_if said mark = by t.target leads (followed rom cert n k.passes t simple is) u.covered u.callable u.shallow u.returnable mark
+Leads-simply rom cert n entry base x k t simple is y leads related_if said mark = by t.target leads (followed rom cert n k.passes t simple is) (related_if (followed rom cert n k.passes t simple is)) u.covered u.callable u.shallow u.returnable mark
   where
     u : IsUnopposed entry.program Simple cert n t
     u = subst (λ p. IsUnopposed p Simple cert n t) (sym k.program) (unopposed Simple rom cert n k.passes t simple is)
 
-    related : AreRelated t.state.relations y
-    related = related_if (followed rom cert n k.passes t simple is)
-
     still : t.state.summary ≡ no_summary
     still = quiet rom cert n entry base x k t simple is
 
-    by : (w : Target) → LeadsSimply cert.region w t entry base x y → is_followed Simple w ≡ true → is_uncovered_at entry.program (simple_at cert n) cert n.procedure w t.next t.state ≡ false
+    by : (w : Target) → LeadsSimply cert.region w t entry base x y → is_followed Simple w ≡ true → AreRelatedBehind w t.state.relations entry y → is_uncovered_at entry.program (simple_at cert n) cert n.procedure w t.next t.state ≡ false
         → is_uncallable_at entry.program (simple_at cert n) cert n.procedure w t.state ≡ false → is_over Simple cert (need_of cert n.procedure) (length t.state.items) (callee_by entry.program cert (simple_at cert n) w t.state) ≡ false
         → is_unreturnable_at entry.program Simple cert n.procedure w t.state ≡ false → IsMarked rom w y → LeadsBy Simple rom cert n.procedure entry base x y
-    by (target.At a) to known covered callable shallow returnable marked = inl (stays_at rom cert n entry base x k t a y to related said simple (not-false _ covered) marked.harmless)
-    by (target.Call a) to known covered callable shallow returnable marked = inr (inl (calls_at rom cert n t a entry base y k.certificate to related said still (marked.clear tt) callable shallow covered))
-    by target.Return to known covered callable shallow returnable marked = inr (inr (inl (returns_to cert n t entry base x y to related said (marked.clear tt) returnable)))
-    by (target.Main a) to known covered callable shallow returnable marked = not_so (sym known)
-    by target.Unknown to known covered callable shallow returnable marked = not_so (sym known)
-    by target.Lost to known covered callable shallow returnable marked = not_so (sym known)
+    by (target.At a) to known related covered callable shallow returnable marked = inl (stays_at rom cert n entry base x k t a y to related said simple (not-false _ covered) marked.harmless)
+    by (target.Call a) to known related covered callable shallow returnable marked = inr (inl (calls_at rom cert n t a entry base y k.certificate to related said still (marked.clear tt) callable shallow covered))
+    by target.Return to known related covered callable shallow returnable marked = inr (inr (inl (returns_to cert n t entry base x y to related said (marked.clear tt) returnable)))
+    by (target.Main a) to known related covered callable shallow returnable marked = not_so (sym known)
+    by target.Unknown to known related covered callable shallow returnable marked = not_so (sym known)
+    by target.Lost to known related covered callable shallow returnable marked = not_so (sym known)

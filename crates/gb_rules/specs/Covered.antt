@@ -5,6 +5,7 @@ use Rattle.std.specs.List.{list_any}
 use Rattle.gb_ops.specs.declared.op.Register.{Register}
 use Rattle.gb_ops.specs.declared.op.Register.TheVariants.{A, B, C, D, E, H, L}
 use Rattle.gb_ops.specs.Registers.{get}
+use Rattle.gb_successors.specs.Below.gb_domain.declared.pairs.PairBounds.{PairBounds}
 use Rattle.gb_successors.specs.Below.gb_domain.declared.relations.Relations.{Relations}
 use Rattle.gb_successors.specs.Below.gb_domain.declared.rules.Rules.{Rules}
 use Rattle.gb_successors.specs.Below.gb_domain.declared.rules.Rules.TheVariants.{Extended}
@@ -21,6 +22,7 @@ use Rattle.gb_successors.specs.Below.gb_product.Covering.{covers, byte_in, value
 use Rattle.gb_successors.specs.Below.gb_product.Reduced.{reduced_wholly}
 use Rattle.gb_successors.specs.Below.gb_abs.Cells.{is_at, with_cell}
 use Rattle.gb_successors.specs.Below.gb_abs.Operations.{core_with_value, with_core}
+use Rattle.gb_rules.specs.Procedures.{entered_of}
 use Rattle.gb_rules.specs.declared.by_values.Parted.{Parted}
 use Rattle.gb_rules.specs.declared.by_values.Parted.TheVariants as parted
 
@@ -61,9 +63,9 @@ is_covered_if program nodes procedure a (Some s) = is_covered_by_one program nod
 abbrev pub with_product : AbsState → Product → AbsState
 with_product s p = record s { core = p.core; relations = p.relations }
 
--- the states, reduced; none where nothing is meant
-unfoldable pub reduced_state : Program → Rules → AbsState → Option AbsState
-reduced_state program rules s = option_map (with_product s) (reduced_wholly program rules s.core s.relations s.cells s.summary)
+-- the states, reduced, where the pairs lay in these bounds as the procedure was entered; none where nothing is meant
+unfoldable pub reduced_state : Program → Rules → PairBounds → AbsState → Option AbsState
+reduced_state program rules entered s = option_map (with_product s) (reduced_wholly program rules entered s.core s.relations s.cells s.summary)
 
 -- ---- value by value
 
@@ -83,20 +85,20 @@ known_of (parted.Register r) s = get r s.core.registers
 known_of (parted.Byte at v) s = v
 
 -- one node stands for those of these states with a value, reduced; of a value that the low bits rule out none is asked for
-unfoldable pub is_value_covered : Program → Rules → List Node → ℕ → ℕ → AbsState → Parted → ℕ → Bool
-is_value_covered program rules nodes procedure a s by n =
-    not (has_low_bits (known_of by s) n) || is_covered_if program nodes procedure a (reduced_state program rules (with_one by s n))
+unfoldable pub is_value_covered : Program → Rules → PairBounds → List Node → ℕ → ℕ → AbsState → Parted → ℕ → Bool
+is_value_covered program rules entered nodes procedure a s by n =
+    not (has_low_bits (known_of by s) n) || is_covered_if program nodes procedure a (reduced_state program rules entered (with_one by s n))
 
 -- for each value one node stands for the states with it
-unfoldable pub is_covered_by_values : Program → Rules → List Node → ℕ → ℕ → AbsState → Parted → Bool
-is_covered_by_values program rules nodes procedure a s by =
-    all_from (is_value_covered program rules nodes procedure a s by) (known_of by s).lo (count_of (known_of by s))
+unfoldable pub is_covered_by_values : Program → Rules → PairBounds → List Node → ℕ → ℕ → AbsState → Parted → Bool
+is_covered_by_values program rules entered nodes procedure a s by =
+    all_from (is_value_covered program rules entered nodes procedure a s by) (known_of by s).lo (count_of (known_of by s))
 
 abbrev pub registers : List Register
 registers = A ∷ B ∷ C ∷ D ∷ E ∷ H ∷ L ∷ []
 
-abbrev pub is_covered_by_register : Program → Rules → List Node → ℕ → ℕ → AbsState → Register → Bool
-is_covered_by_register program rules nodes procedure a s r = is_covered_by_values program rules nodes procedure a s (parted.Register r)
+abbrev pub is_covered_by_register : Program → Rules → PairBounds → List Node → ℕ → ℕ → AbsState → Register → Bool
+is_covered_by_register program rules entered nodes procedure a s r = is_covered_by_values program rules entered nodes procedure a s (parted.Register r)
 
 -- ---- a byte of RAM
 
@@ -104,23 +106,23 @@ abbrev pub is_single : Val → Bool
 is_single v = v.lo == v.hi
 
 -- for each value of a byte, of which v is known: that isn't one value, and there is a cell for it, or room for one
-abbrev pub is_covered_by_known : Program → Rules → List Node → ℕ → ℕ → AbsState → ℕ → Val → Bool
-is_covered_by_known program rules nodes procedure a s at v =
+abbrev pub is_covered_by_known : Program → Rules → PairBounds → List Node → ℕ → ℕ → AbsState → ℕ → Val → Bool
+is_covered_by_known program rules entered nodes procedure a s at v =
     not (is_single v) && (list_any (is_at at) s.cells || nat_lt (length s.cells) (cell_room Extended))
-    && is_covered_by_values program rules nodes procedure a s (parted.Byte at v)
+    && is_covered_by_values program rules entered nodes procedure a s (parted.Byte at v)
 
 -- the same of the byte at an address
-unfoldable pub is_covered_by_byte : Program → Rules → List Node → ℕ → ℕ → AbsState → ℕ → Bool
-is_covered_by_byte program rules nodes procedure a s at =
-    is_covered_by_known program rules nodes procedure a s at (byte_in program (values_in s) s.cells s.summary at)
+unfoldable pub is_covered_by_byte : Program → Rules → PairBounds → List Node → ℕ → ℕ → AbsState → ℕ → Bool
+is_covered_by_byte program rules entered nodes procedure a s at =
+    is_covered_by_known program rules entered nodes procedure a s at (byte_in program (values_in s) s.cells s.summary at)
 
-abbrev pub is_covered_by_cell : Program → Rules → List Node → ℕ → ℕ → AbsState → Cell → Bool
-is_covered_by_cell program rules nodes procedure a s c = is_covered_by_byte program rules nodes procedure a s c.address
+abbrev pub is_covered_by_cell : Program → Rules → PairBounds → List Node → ℕ → ℕ → AbsState → Cell → Bool
+is_covered_by_cell program rules entered nodes procedure a s c = is_covered_by_byte program rules entered nodes procedure a s c.address
 
 -- one of the addresses where a node there has a cell
-unfoldable pub is_covered_by_bytes : Program → Rules → List Node → ℕ → ℕ → AbsState → Bool
-is_covered_by_bytes program rules nodes procedure a s =
-    list_any (λ n. is_node_at procedure a n && list_any (is_covered_by_cell program rules nodes procedure a s) n.state.cells) nodes
+unfoldable pub is_covered_by_bytes : Program → Rules → PairBounds → List Node → ℕ → ℕ → AbsState → Bool
+is_covered_by_bytes program rules entered nodes procedure a s =
+    list_any (λ n. is_node_at procedure a n && list_any (is_covered_by_cell program rules entered nodes procedure a s) n.state.cells) nodes
 
 -- a node there has a cell at the address
 unfoldable pub has_cell_there : List Node → ℕ → ℕ → ℕ → Bool
@@ -133,9 +135,13 @@ IsUpTo (Some first) at = first ≤ at
 
 -- ---- all of it
 
--- one node stands for these states, or value by value of a register some do, or, by the rules of version 4, of a byte of RAM
+-- value by value of a register some nodes stand for these states, or, by the rules of version 4, of a byte of RAM
+abbrev pub is_covered_apart : Program → Rules → Certificate → ℕ → ℕ → AbsState → Bool
+is_covered_apart program rules cert procedure a s =
+    list_any (is_covered_by_register program rules (entered_of cert procedure) cert.nodes procedure a s) registers
+    || (cert.version == 4) && is_covered_by_bytes program rules (entered_of cert procedure) cert.nodes procedure a s
+
+-- one node stands for them, or some do so
 unfoldable pub covered_at : Program → Rules → Certificate → ℕ → ℕ → AbsState → Bool
 covered_at program rules cert procedure a s =
-    is_covered_by_one program cert.nodes procedure a s
-    || list_any (is_covered_by_register program rules cert.nodes procedure a s) registers
-    || (cert.version == 4) && is_covered_by_bytes program rules cert.nodes procedure a s
+    is_covered_by_one program cert.nodes procedure a s || is_covered_apart program rules cert procedure a s

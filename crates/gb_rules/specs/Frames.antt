@@ -11,8 +11,10 @@ use Rattle.gb_successors.specs.Below.gb_abs.Meaning.{Activation}
 use Rattle.gb_successors.specs.Below.gb_abs.Stack.{AreInRegion}
 use Rattle.gb_successors.specs.Below.gb_abs.Storage.{peek}
 use Rattle.gb_successors.specs.Below.gb_abs_memory.Kept.{IsKept}
+use Rattle.gb_successors.specs.Below.gb_pairs.Sound.{AreWithin}
+use Rattle.gb_successors.specs.Below.gb_product.Meaning.{entered_with}
 use Rattle.gb_calls.specs.TakenOver.{base_below}
-use Rattle.gb_rules.specs.Procedures.{ranges_of, need_of, setting_of, taken_by}
+use Rattle.gb_rules.specs.Procedures.{ranges_of, need_of, entered_of, setting_of, taken_by}
 use Rattle.gb_rules.specs.Safety.{Declares, IsMeant, Calls, HandsOver}
 
 -- from s to t each byte stays that a procedure with this base has to keep
@@ -35,6 +37,7 @@ pub record IsWaiting (cert : Certificate) (f : Frame) (procedure : ℕ) (above :
   pub callee : calls.node.procedure ≡ procedure
   pub base_is : base ≡ above.entered.processor.sp
   pub main : f.procedure ≡ 0 → f.base ≡ cert.region.last + 1
+  pub within : AreWithin (entered_of cert f.procedure) (entered_with f.entry)
   pub return_word : 0 < f.procedure → f.base + 2 ≤ cert.region.last + 1
   pub room : AreInRegion cert.region f.base (need_of cert f.procedure)
   pub keeps : Keeps cert f.procedure f.base f.entry.entered above.entered
@@ -47,6 +50,7 @@ pub record IsWaitingAbove (cert : Certificate) (f : Frame) (procedure : ℕ) (ab
   pub callee : calls.node.procedure ≡ procedure
   pub base_is : base ≡ base_below (taken_by cert procedure) calls.state.items f.base
   pub main : f.procedure ≡ 0 → f.base ≡ cert.region.last + 1
+  pub within : AreWithin (entered_of cert f.procedure) (entered_with f.entry)
   pub based : IsBase (setting_of cert f.procedure) f.base
   pub room : AreInRegion cert.region f.base (need_of cert f.procedure)
   pub keeps : Keeps cert f.procedure f.base f.entry.entered above.entered

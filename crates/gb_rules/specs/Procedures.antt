@@ -1,5 +1,10 @@
 -- What a certificate claims of its procedures (own format).
-use Rattle.std.specs.Prelude.{ℕ, ◌==◌, List, [], length, slice_get, Option, Some, None}
+use Rattle.std.specs.Prelude.{ℕ, ◌==◌, if◌then◌else◌, List, [], length, slice_get, Option, Some, None}
+use Rattle.gb_successors.specs.Below.gb_domain.declared.pairs.PairBounds.{PairBounds}
+use Rattle.gb_successors.specs.Below.gb_domain.declared.pairs.WordPair.TheVariants as pair
+use Rattle.gb_successors.specs.Below.gb_domain.Pairs.{any_pairs}
+use Rattle.gb_successors.specs.Below.gb_pairs.Bounds.{bounds_of}
+use Rattle.gb_successors.specs.Below.gb_product.Covering.{values_in}
 use Rattle.gb_successors.specs.Below.gb_domain.declared.setting.Setting.{Setting}
 use Rattle.gb_successors.specs.Below.gb_domain.declared.types.Range.{Range}
 use Rattle.gb_successors.specs.Below.gb_domain.Limits.{rules_of}
@@ -49,10 +54,31 @@ abbrev pub base_in : Option ProcedureParts → ℕ
 base_in None = 0
 base_in (Some p) = p.base
 
+-- the bounds of a node's pairs
+abbrev pub pairs_at : Option Node → PairBounds
+pairs_at None = any_pairs
+pairs_at (Some n) =
+    let v = values_in n.state in
+    record { bc = bounds_of pair.Bc v; de = bounds_of pair.De v; hl = bounds_of pair.Hl v }
+
+abbrev pub pairs_in : Certificate → Option ProcedureParts → PairBounds
+pairs_in cert None = any_pairs
+pairs_in cert (Some p) = pairs_at (slice_get cert.nodes p.entry)
+
+-- within which bounds the pairs lie as the procedure is entered: those of its entry node, of which the rules of version 4 know
+unfoldable pub entered_of : Certificate → ℕ → PairBounds
+entered_of cert procedure = if is_fourth cert then pairs_in cert (slice_get cert.procedures procedure) else any_pairs
+
 -- where its states stand
 unfoldable pub setting_of : Certificate → ℕ → Setting
 setting_of cert procedure =
-    record { rules = rules_of cert.version; is_whole = is_fourth cert; is_main = procedure == 0; base = base_in (slice_get cert.procedures procedure) }
+    record {
+      rules = rules_of cert.version;
+      is_whole = is_fourth cert;
+      is_main = procedure == 0;
+      base = base_in (slice_get cert.procedures procedure);
+      entered = entered_of cert procedure;
+    }
 
 -- what it returns with, if it returns
 unfoldable pub exit_of : Certificate → ℕ → Option AbsState

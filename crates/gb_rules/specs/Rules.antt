@@ -43,7 +43,7 @@ use Rattle.gb_calls.specs.Resuming.{resumed}
 use Rattle.gb_calls.specs.Interrupts.{left_by_dispatch, may_come, handler_of}
 use Rattle.gb_rules.specs.declared.procedures.Called.{Called}
 use Rattle.gb_rules.specs.Covered.{covered_at}
-use Rattle.gb_rules.specs.Procedures.{ranges_of, kept_of, need_of, setting_of, stack_of, program_of, exit_of, taken_by}
+use Rattle.gb_rules.specs.Procedures.{ranges_of, kept_of, need_of, entered_of, setting_of, stack_of, program_of, exit_of, taken_by}
 
 -- ---- the instruction alone
 
@@ -115,7 +115,7 @@ lacks_word (Some b) s = false
 -- moves SP but what sets it; nor does anything let interrupts come.
 unfoldable pub breaks_extended_stack : Stack → Node → Op → Bool
 breaks_extended_stack k n (op.LoadPair pair.Sp w) = sets_lost k (around_of k n.state n.state.core) (op.LoadPair pair.Sp w) None
-breaks_extended_stack k n op.LoadSpHl = sets_lost_from k n.state (product_before k.setting.rules n.state)
+breaks_extended_stack k n op.LoadSpHl = sets_lost_from k n.state (product_before k.setting.rules k.setting.entered n.state)
 breaks_extended_stack k n (op.Push from) = lacks_bytes 0 n.state
 breaks_extended_stack k n (op.Pop to) = lacks_word n.state.summary.aside n.state
 breaks_extended_stack k n (op.IncrementPair pair.Sp) = lacks_bytes 1 n.state
@@ -388,7 +388,7 @@ any_of test rom cert n row = any_successor test (ways_of rom cert n row)
 
 -- something is meant before the instruction
 abbrev pub is_possible : Certificate → Node → Bool
-is_possible cert n = is_some (product_before (rules_of cert.version) n.state)
+is_possible cert n = is_some (product_before (rules_of cert.version) (entered_of cert n.procedure) n.state)
 
 -- the stack would grow over the procedure's need
 unfoldable pub grows_too_deep : List ℕ → Certificate → Node → Row → Bool

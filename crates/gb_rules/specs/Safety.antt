@@ -5,6 +5,7 @@ use Rattle.gb_ops.specs.declared.machine.Event.{Event}
 use Rattle.gb_ops.specs.declared.machine.Event.TheVariants as event
 use Rattle.gb_ops.specs.Pairs.{word}
 use Rattle.gb_ops.specs.Faults.{no_faults}
+use Rattle.gb_ops.specs.declared.registers.Registers.{Registers}
 use Rattle.gb_ops.specs.Play.{MState, next, faults, places}
 use Rattle.gb_successors.specs.Below.gb_domain.Types.{AbsState, Node}
 use Rattle.gb_successors.specs.Below.gb_domain.declared.rules.Rules.{Rules}
@@ -22,7 +23,8 @@ use Rattle.gb_successors.specs.Below.gb_abs.Cells.{ArePlaced}
 use Rattle.gb_successors.specs.Below.gb_product.Covering.{covers}
 use Rattle.gb_successors.specs.Below.gb_product.Held.{stack_held}
 use Rattle.gb_successors.specs.Below.gb_abs.Mark.{IsMarkHarmless}
-use Rattle.gb_successors.specs.Below.gb_product.Meaning.{Means, IsApart}
+use Rattle.gb_successors.specs.Below.gb_pairs.Sound.{AreWithin}
+use Rattle.gb_successors.specs.Below.gb_product.Meaning.{entered_with, Means, IsApart}
 use Rattle.gb_successors.specs.Below.gb_abs.Stack.{AreInRegion, pushed}
 use Rattle.gb_successors.specs.Below.gb_relations.Sound.{IsBytePlaced}
 use Rattle.gb_successors.specs.Below.gb_abs.Storage.{peek}
@@ -33,7 +35,7 @@ use Rattle.gb_successors.specs.Places.{IsCertified}
 use Rattle.gb_successors.specs.Stacks.{address_below}
 use Rattle.gb_successors.specs.Below.gb_abs_effects.Pairs.{known_word}
 use Rattle.gb_rules.specs.Covered.{covered_at}
-use Rattle.gb_rules.specs.Procedures.{ranges_of, kept_of, mark_of, need_of, setting_of, program_of, exit_of, taken_by}
+use Rattle.gb_rules.specs.Procedures.{ranges_of, kept_of, mark_of, need_of, pairs_at, pairs_in, entered_of, setting_of, program_of, exit_of, taken_by}
 use Rattle.gb_rules.specs.Rules.{setting_by}
 
 -- ---- where the machine stands
@@ -61,6 +63,7 @@ pub record IsAt (rom : List ℕ) (cert : Certificate) (n : Node) (entry : Activa
   pub mark : IsMarkHarmless rom s
   pub main : n.procedure ≡ 0 → base ≡ cert.region.last + 1
   pub based : IsBase (setting_of cert n.procedure) base
+  pub within : AreWithin (entered_of cert n.procedure) (entered_with entry)
   pub return_word : HasReturnWord (rules_of cert.version) cert.region n.procedure base
   pub room : AreInRegion cert.region base (need_of cert n.procedure)
   pub held : AreInRegion cert.region base (length n.state.items)
@@ -90,6 +93,7 @@ pub record Calls (cert : Certificate) (procedure : ℕ) (entry : Activation) (ba
   pub is_node : Contains cert.nodes node
   pub not_main : 0 < node.procedure
   pub address : s.processor.pc ≡ node.address
+  pub enters : pairs_in cert (slice_get cert.procedures node.procedure) ≡ pairs_at (Some node)
   pub begins : covers entry.program (entered_by entry.program cert.region Simple (length node.state.items) (kept_of cert node.procedure) state) node.state ≡ true
   pub mark : s.processor.halt_mark ≡ false
   pub depth : length state.items + 2 + need_of cert node.procedure ≤ need_of cert procedure
@@ -118,6 +122,7 @@ pub record HandsOver (cert : Certificate) (procedure : ℕ) (entry : Activation)
   pub address : s.processor.pc ≡ node.address
   pub few : taken_by cert node.procedure ≤ length state.items
   pub based : IsBase (setting_of cert node.procedure) (base_below (taken_by cert node.procedure) state.items base)
+  pub enters : pairs_in cert (slice_get cert.procedures node.procedure) ≡ pairs_at (Some node)
   pub begins : covers entry.program (entered_by entry.program cert.region Extended (taken_by cert node.procedure) (kept_of cert node.procedure) state) node.state ≡ true
   pub mark : s.processor.halt_mark ≡ false
   pub depth : (length state.items - taken_by cert node.procedure) + need_of cert node.procedure ≤ need_of cert procedure
@@ -159,10 +164,16 @@ ReturnsBy Extended cert procedure entry base s t = GoesBack cert procedure entry
 abbrev pub begun : List ℕ → Certificate → ℕ → ℕ → MState → Activation
 begun rom cert procedure base s = record { entered = s; kept = kept_of cert procedure; mark = address_below base (mark_of cert procedure); program = program_of rom cert }
 
--- By the rules of version 3 the machine may have begun anew: it stands in main, as if that were entered now.
+-- main as if it were entered now, but with the registers that it was entered with
+abbrev pub begun_anew : List ℕ → Certificate → Registers ℕ → MState → Activation
+begun_anew rom cert was t =
+    begun rom cert 0 (cert.region.last + 1) (record t { processor = record t.processor { registers = was } })
+
+-- By the rules of version 3 the machine may have begun anew: it stands in main, however that was entered.
 abbrev pub RestartsBy : Rules → List ℕ → Certificate → MState → Type 0
 RestartsBy Simple rom cert t = ⊥
-RestartsBy Extended rom cert t = IsMeant rom cert 0 (begun rom cert 0 (cert.region.last + 1) t) (cert.region.last + 1) t
+RestartsBy Extended rom cert t =
+    (was : Registers ℕ) → AreWithin (entered_of cert 0) was → IsMeant rom cert 0 (begun_anew rom cert was t) (cert.region.last + 1) t
 
 -- from s to t the machine stays in the procedure, calls, returns or begins anew
 abbrev pub LeadsBy : Rules → List ℕ → Certificate → ℕ → Activation → ℕ → MState → MState → Type 0

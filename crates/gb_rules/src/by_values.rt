@@ -12,6 +12,7 @@ ghost use Rattle.gb_rules.specs.Covered.{IsUpTo};
 use crate::covered::covering_near;
 use gb_calls::{Cert, Found, States, are_congruent, byte_of, with_cell};
 use gb_ops::op::Register;
+use gb_successors::gb_domain::pairs::PairBounds;
 use gb_successors::{Cell, Product, Program, Rules, Val, reduced_wholly, with_value};
 
 /// What is told apart value by value: a register, or the byte at an address of RAM, of which this is known.
@@ -26,6 +27,8 @@ pub enum Parted {
 pub(crate) struct Nodes<'w, 'a> {
     pub(crate) program: &'w Program<'w>,
     pub(crate) rules: Rules,
+    /// Within which bounds the pairs lay as the procedure was entered.
+    pub(crate) entered: PairBounds,
     pub(crate) cert: &'w Cert<'a>,
     pub(crate) found: &'w Found,
     pub(crate) procedure: u16,
@@ -87,13 +90,14 @@ fn covering_register(
     requires found { IsFound (map key nodes.now.cert.now.nodes) (nodes.now.procedure, nodes.now.address) nodes.now.found.now.first nodes.now.found.now.after }
     requires least { nodes.now.found.now.first ≤ near }
     requires most { near ≤ nodes.now.found.now.after }
-    ensures covered { is_some result ≡ Covered.is_covered_if nodes.now.program.now nodes.now.cert.now.nodes nodes.now.procedure nodes.now.address (Covered.reduced_state nodes.now.program.now nodes.now.rules (Covered.with_value register (Covered.with_parts states.now.core.now states.now.relations.now states.now.summary.now states.now.lists.now) value)) }
+    ensures covered { is_some result ≡ Covered.is_covered_if nodes.now.program.now nodes.now.cert.now.nodes nodes.now.procedure nodes.now.address (Covered.reduced_state nodes.now.program.now nodes.now.rules nodes.now.entered (Covered.with_value register (Covered.with_parts states.now.core.now states.now.relations.now states.now.summary.now states.now.lists.now) value)) }
     ensures inside { IfSome result (λ i. (nodes.now.found.now.first ≤ i) × (i ≤ nodes.now.found.now.after)) }
 {
     let core = with_value(register, value, states.core);
     let left = reduced_wholly(
         nodes.program,
         nodes.rules,
+        &nodes.entered,
         &core,
         states.relations,
         states.lists.cells(),
@@ -115,7 +119,7 @@ fn covering_byte(
     requires found { IsFound (map key nodes.now.cert.now.nodes) (nodes.now.procedure, nodes.now.address) nodes.now.found.now.first nodes.now.found.now.after }
     requires least { nodes.now.found.now.first ≤ near }
     requires most { near ≤ nodes.now.found.now.after }
-    ensures covered { is_some result ≡ Covered.is_covered_if nodes.now.program.now nodes.now.cert.now.nodes nodes.now.procedure nodes.now.address (Covered.reduced_state nodes.now.program.now nodes.now.rules (Covered.with_byte at known.now (Covered.with_parts states.now.core.now states.now.relations.now states.now.summary.now states.now.lists.now) value)) }
+    ensures covered { is_some result ≡ Covered.is_covered_if nodes.now.program.now nodes.now.cert.now.nodes nodes.now.procedure nodes.now.address (Covered.reduced_state nodes.now.program.now nodes.now.rules nodes.now.entered (Covered.with_byte at known.now (Covered.with_parts states.now.core.now states.now.relations.now states.now.summary.now states.now.lists.now) value)) }
     ensures inside { IfSome result (λ i. (nodes.now.found.now.first ≤ i) × (i ≤ nodes.now.found.now.after)) }
 {
     let val = Val {
@@ -128,6 +132,7 @@ fn covering_byte(
     let left = reduced_wholly(
         nodes.program,
         nodes.rules,
+        &nodes.entered,
         states.core,
         states.relations,
         lists.cells(),
@@ -162,7 +167,7 @@ fn covering_value(
     requires found { IsFound (map key nodes.now.cert.now.nodes) (nodes.now.procedure, nodes.now.address) nodes.now.found.now.first nodes.now.found.now.after }
     requires least { nodes.now.found.now.first ≤ near }
     requires most { near ≤ nodes.now.found.now.after }
-    ensures covered { is_some result ≡ Covered.is_value_covered nodes.now.program.now nodes.now.rules nodes.now.cert.now.nodes nodes.now.procedure nodes.now.address (Covered.with_parts states.now.core.now states.now.relations.now states.now.summary.now states.now.lists.now) parted value }
+    ensures covered { is_some result ≡ Covered.is_value_covered nodes.now.program.now nodes.now.rules nodes.now.entered nodes.now.cert.now.nodes nodes.now.procedure nodes.now.address (Covered.with_parts states.now.core.now states.now.relations.now states.now.summary.now states.now.lists.now) parted value }
     ensures inside { IfSome result (λ i. (nodes.now.found.now.first ≤ i) × (i ≤ nodes.now.found.now.after)) }
 {
     if !has_value(&known_of(parted, states), value) {
@@ -179,7 +184,7 @@ fn covering_value(
 #[tactic(auto, unfolding(crate::specs::Covered::is_covered_by_values))]
 fn is_covered_by_values(nodes: &Nodes<'_, '_>, states: &States<'_>, parted: Parted) -> bool
     requires { IsFound (map key nodes.now.cert.now.nodes) (nodes.now.procedure, nodes.now.address) nodes.now.found.now.first nodes.now.found.now.after }
-    ensures { result ≡ Covered.is_covered_by_values nodes.now.program.now nodes.now.rules nodes.now.cert.now.nodes nodes.now.procedure nodes.now.address (Covered.with_parts states.now.core.now states.now.relations.now states.now.summary.now states.now.lists.now) parted }
+    ensures { result ≡ Covered.is_covered_by_values nodes.now.program.now nodes.now.rules nodes.now.entered nodes.now.cert.now.nodes nodes.now.procedure nodes.now.address (Covered.with_parts states.now.core.now states.now.relations.now states.now.summary.now states.now.lists.now) parted }
 {
     let known = known_of(parted, states);
     let after = u16::from(known.hi) + 1;
@@ -207,7 +212,7 @@ const REGISTERS: [Register; 7] = [
 /// Whether for one of these registers value by value some of the nodes that were found stand for these states.
 fn is_covered_by_some(nodes: &Nodes<'_, '_>, states: &States<'_>, registers: &[Register]) -> bool
     requires { IsFound (map key nodes.now.cert.now.nodes) (nodes.now.procedure, nodes.now.address) nodes.now.found.now.first nodes.now.found.now.after }
-    ensures { result ≡ list_any (Covered.is_covered_by_register nodes.now.program.now nodes.now.rules nodes.now.cert.now.nodes nodes.now.procedure nodes.now.address (Covered.with_parts states.now.core.now states.now.relations.now states.now.summary.now states.now.lists.now)) registers.now }
+    ensures { result ≡ list_any (Covered.is_covered_by_register nodes.now.program.now nodes.now.rules nodes.now.entered nodes.now.cert.now.nodes nodes.now.procedure nodes.now.address (Covered.with_parts states.now.core.now states.now.relations.now states.now.summary.now states.now.lists.now)) registers.now }
 {
     let Some((first, rest)) = registers.split_first() else {
         return false;
@@ -219,7 +224,7 @@ fn is_covered_by_some(nodes: &Nodes<'_, '_>, states: &States<'_>, registers: &[R
 /// Whether for one register value by value some of the nodes that were found stand for these states.
 pub(crate) fn is_covered_by_registers(nodes: &Nodes<'_, '_>, states: &States<'_>) -> bool
     requires { IsFound (map key nodes.now.cert.now.nodes) (nodes.now.procedure, nodes.now.address) nodes.now.found.now.first nodes.now.found.now.after }
-    ensures { result ≡ list_any (Covered.is_covered_by_register nodes.now.program.now nodes.now.rules nodes.now.cert.now.nodes nodes.now.procedure nodes.now.address (Covered.with_parts states.now.core.now states.now.relations.now states.now.summary.now states.now.lists.now)) Covered.registers }
+    ensures { result ≡ list_any (Covered.is_covered_by_register nodes.now.program.now nodes.now.rules nodes.now.entered nodes.now.cert.now.nodes nodes.now.procedure nodes.now.address (Covered.with_parts states.now.core.now states.now.relations.now states.now.summary.now states.now.lists.now)) Covered.registers }
 {
     is_covered_by_some(nodes, states, &REGISTERS)
 }
@@ -237,7 +242,7 @@ fn is_held(at: u16, cells: &[Cell]) -> bool
 #[tactic(auto, unfolding(crate::specs::Covered::is_covered_by_byte))]
 fn is_covered_by_byte(nodes: &Nodes<'_, '_>, states: &States<'_>, at: u16) -> bool
     requires { IsFound (map key nodes.now.cert.now.nodes) (nodes.now.procedure, nodes.now.address) nodes.now.found.now.first nodes.now.found.now.after }
-    ensures { result ≡ Covered.is_covered_by_byte nodes.now.program.now nodes.now.rules nodes.now.cert.now.nodes nodes.now.procedure nodes.now.address (Covered.with_parts states.now.core.now states.now.relations.now states.now.summary.now states.now.lists.now) at }
+    ensures { result ≡ Covered.is_covered_by_byte nodes.now.program.now nodes.now.rules nodes.now.entered nodes.now.cert.now.nodes nodes.now.procedure nodes.now.address (Covered.with_parts states.now.core.now states.now.relations.now states.now.summary.now states.now.lists.now) at }
 {
     let known = byte_of(nodes.program, states, at);
     let cells = states.lists.cells();
@@ -291,7 +296,7 @@ fn next_address(nodes: &Nodes<'_, '_>, least: u32) -> Option<u16>
 /// which one of them has a cell is tried once.
 pub(crate) fn is_covered_by_bytes(nodes: &Nodes<'_, '_>, states: &States<'_>) -> bool
     requires { IsFound (map key nodes.now.cert.now.nodes) (nodes.now.procedure, nodes.now.address) nodes.now.found.now.first nodes.now.found.now.after }
-    ensures { result ≡ Covered.is_covered_by_bytes nodes.now.program.now nodes.now.rules nodes.now.cert.now.nodes nodes.now.procedure nodes.now.address (Covered.with_parts states.now.core.now states.now.relations.now states.now.summary.now states.now.lists.now) }
+    ensures { result ≡ Covered.is_covered_by_bytes nodes.now.program.now nodes.now.rules nodes.now.entered nodes.now.cert.now.nodes nodes.now.procedure nodes.now.address (Covered.with_parts states.now.core.now states.now.relations.now states.now.summary.now states.now.lists.now) }
 {
     let mut least = 0;
     while let Some(at) = next_address(nodes, least) {

@@ -8,6 +8,7 @@ ghost use Rattle.gb_successors.specs.Below.gb_product.Covering.{covers};
 ghost use Rattle.gb_rules.specs.Covered as Covered;
 
 use crate::by_values::{Nodes, is_covered_by_bytes, is_covered_by_registers};
+use crate::procedures::entered_of;
 use gb_calls::{Cert, Found, NodeRef, States, covering};
 use gb_successors::{Abs, Program, Rules};
 
@@ -87,6 +88,32 @@ fn is_covered_by_one(
     .is_some()
 }
 
+/// Whether value by value some of the nodes that were found stand for these states.
+fn is_covered_apart(
+    program: &Program<'_>,
+    rules: Rules,
+    cert: &Cert<'_>,
+    found: &Found,
+    procedure: u16,
+    address: u16,
+    states: &States<'_>,
+) -> bool
+    requires { IsFound (map key cert.now.nodes) (procedure, address) found.now.first found.now.after }
+    ensures { result ≡ Covered.is_covered_apart program.now rules cert.now procedure address (Covered.with_parts states.now.core.now states.now.relations.now states.now.summary.now states.now.lists.now) }
+{
+    let nodes = Nodes {
+        program,
+        rules,
+        entered: entered_of(cert, procedure),
+        cert,
+        found,
+        procedure,
+        address,
+    };
+    is_covered_by_registers(&nodes, states)
+        || cert.version() == 4 && is_covered_by_bytes(&nodes, states)
+}
+
 /// Whether one of the nodes that were found stands for these states, or value by value some do.
 #[tactic(auto, unfolding(crate::specs::Covered::covered_at))]
 fn is_covered_among(
@@ -101,17 +128,8 @@ fn is_covered_among(
     requires { IsFound (map key cert.now.nodes) (procedure, address) found.first found.after }
     ensures { result ≡ Covered.covered_at program.now rules cert.now procedure address (Covered.with_parts states.now.core.now states.now.relations.now states.now.summary.now states.now.lists.now) }
 {
-    let nodes = Nodes {
-        program,
-        rules,
-        cert,
-        found: &found,
-        procedure,
-        address,
-    };
     is_covered_by_one(program, cert, &found, procedure, address, states)
-        || is_covered_by_registers(&nodes, states)
-        || cert.version() == 4 && is_covered_by_bytes(&nodes, states)
+        || is_covered_apart(program, rules, cert, &found, procedure, address, states)
 }
 
 /// Whether there is a node with a number, of this procedure and at this address.

@@ -16,8 +16,9 @@ use gb_calls::callees::{callee, callee_in};
 use gb_calls::covering::covers_states;
 use gb_calls::ranges::are_ranges_inside;
 use gb_calls::resuming::{Return, resume_in};
-use gb_calls::{Cert, StateRef, States};
+use gb_calls::{Cert, StateRef, States, Values, bounds_of};
 use gb_ops::machine::Kind;
+use gb_successors::gb_domain::pairs::{ANY_PAIRS, PairBounds, WordPair};
 use gb_successors::stacks::Stack;
 use gb_successors::successor::Successor;
 use gb_successors::{Abs, Program, Range, Rom, Rules, Setting, Target};
@@ -96,6 +97,36 @@ fn base_of(cert: &Cert<'_>, procedure: u16) -> u16
     }
 }
 
+/// The bounds of a node's pairs; any words where there is no node with the number.
+fn pairs_at(cert: &Cert<'_>, node: u32) -> PairBounds
+    ensures { result ≡ Procedures.pairs_at (slice_get cert.now.nodes node) }
+{
+    if node >= cert.nodes() {
+        return ANY_PAIRS;
+    }
+    let state = cert.node(node).lent();
+    let values = Values {
+        registers: state.known_core().registers,
+        pairs: state.relations().pairs,
+    };
+    PairBounds {
+        bc: bounds_of(WordPair::Bc, &values),
+        de: bounds_of(WordPair::De, &values),
+        hl: bounds_of(WordPair::Hl, &values),
+    }
+}
+
+/// Within which bounds the pairs lie as a procedure is entered: those of its entry node, of which the rules of version 4 know.
+#[tactic(auto, unfolding(crate::specs::Procedures::entered_of))]
+pub fn entered_of(cert: &Cert<'_>, procedure: u16) -> PairBounds
+    ensures { result ≡ Procedures.entered_of cert.now procedure }
+{
+    if !is_fourth(cert) || procedure >= cert.procedures() {
+        return ANY_PAIRS;
+    }
+    pairs_at(cert, cert.procedure(procedure).entry())
+}
+
 /// Where a procedure's states stand.
 #[tactic(auto, unfolding(crate::specs::Procedures::setting_of))]
 pub fn setting_of(cert: &Cert<'_>, procedure: u16) -> Setting
@@ -106,6 +137,7 @@ pub fn setting_of(cert: &Cert<'_>, procedure: u16) -> Setting
         is_whole: is_fourth(cert),
         is_main: procedure == 0,
         base: base_of(cert, procedure),
+        entered: entered_of(cert, procedure),
     }
 }
 

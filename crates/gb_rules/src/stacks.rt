@@ -92,7 +92,8 @@ fn breaks_extended_stack(stack: Stack, node: &NodeRef<'_>, state: &Abs, op: Op) 
             sets_lost(stack, around_of(stack, state, state.core()), op, None)
         }
         Op::LoadSpHl => {
-            sets_lost_from(stack, state, &product_before(stack.setting.rules, state))
+            let before = product_before(stack.setting.rules, &stack.setting.entered, state);
+            sets_lost_from(stack, state, &before)
         }
         Op::Push(_) | Op::CallIf(_, _) | Op::Call(_) | Op::Restart(_) => lacks_bytes(0, state),
         Op::Pop(_) => lacks_word(state.summary().aside(), state),

@@ -190,7 +190,7 @@ fn reason_of_possible(
 ) -> Option<Reason>
     requires stack { site.now.stack.now ≡ stack_of site.now.cert.now site.now.node.now.procedure }
     requires state { site.now.state.now ≡ site.now.node.now.state }
-    ensures { result ≡ lowest_in (applies_to_taken site.now.rom.now site.now.cert.now site.now.node.now site.now.row.now) (held_way site.now.stack.now.setting.rules site.now.stack.now (reduced_successor site.now.stack.now.setting.rules successor.old)) }
+    ensures { result ≡ lowest_in (applies_to_taken site.now.rom.now site.now.cert.now site.now.node.now site.now.row.now) (held_way site.now.stack.now.setting.rules site.now.stack.now (reduced_successor site.now.stack.now.setting.rules site.now.stack.now.setting.entered successor.old)) }
 {
     if settle_way(site.stack, successor) {
         reason_of_taken(site, successor, room)
@@ -365,7 +365,7 @@ fn reason_of_each(
 ) -> Option<Reason>
     requires stack { site.now.stack.now ≡ stack_of site.now.cert.now site.now.node.now.procedure }
     requires state { site.now.state.now ≡ site.now.node.now.state }
-    requires before { Some (product_of core.now relations.now) ≡ product_before site.now.stack.now.setting.rules site.now.state.now }
+    requires before { Some (product_of core.now relations.now) ≡ product_before site.now.stack.now.setting.rules site.now.stack.now.setting.entered site.now.state.now }
     ensures { result ≡ lowest (Ruled.applies_to_row site.now.rom.now site.now.cert.now site.now.node.now site.now.row.now) }
 {
     let alone = reason_alone(site);
@@ -386,7 +386,8 @@ fn reason_of_reduced(site: &Site<'_>, core: &Core, room: &mut Room) -> Option<Re
 {
     let mut core = *core;
     let mut relations = *site.state.relations();
-    if reduce(Rules::Extended, &mut core, &mut relations) {
+    let entered = &site.stack.setting.entered;
+    if reduce(Rules::Extended, entered, &mut core, &mut relations) {
         reason_of_each(site, &core, &relations, room)
     } else {
         None

@@ -3,6 +3,7 @@ pub mod FieldLaws
 pub mod Formats
 pub mod LevelLaws
 pub mod ListedLaws
+pub mod PairLaws
 pub mod PlaceLaws
 pub mod RelationLaws
 pub mod Several

@@ -3,15 +3,10 @@ use Rattle.std.proofs.Common.{◌≡◌, ℕ, ◌+◌, ◌*◌, ◌/◌, ◌%◌
 use Rattle.std.specs.Prelude.{not, IfSome, is_some, is_none}
 use Rattle.std.proofs.lemmas.Bool.Decides.{nat_tests}
 use Rattle.gb_ops.specs.declared.machine.Region.{Region}
-use Rattle.gb_ops.specs.declared.op.Register.TheVariants.{A, B, C, D, E, H, L}
 use Rattle.gb_ops.specs.declared.registers.Registers.{Registers}
 use Rattle.gb_fields.specs.declared.fault.CertFault.TheVariants as fault
 use Rattle.gb_domain.specs.declared.pairs.WordPair.{WordPair}
 use Rattle.gb_domain.specs.declared.pairs.WordPair.TheVariants.{Bc, De, Hl}
-use Rattle.gb_domain.specs.declared.pairs.Bounds.{Bounds}
-use Rattle.gb_domain.specs.declared.pairs.Other.{Other}
-use Rattle.gb_domain.specs.declared.pairs.Other.TheVariants.{Register as Of, Pair}
-use Rattle.gb_domain.specs.declared.pairs.Link.{Link}
 use Rattle.gb_domain.specs.declared.pairs.PairFacts.{PairFacts}
 use Rattle.gb_domain.specs.declared.pairs.Pairs.{Pairs}
 use Rattle.gb_domain.specs.declared.places.Test.{Test}
@@ -22,34 +17,24 @@ use Rattle.gb_domain.specs.declared.relations.Relations.{Relations}
 use Rattle.gb_domain.specs.declared.rules.Rules.{Rules}
 use Rattle.gb_domain.specs.declared.rules.Rules.TheVariants.{Simple, Extended}
 use Rattle.gb_domain.specs.Areas.{is_free_byte}
-use Rattle.gb_domain.specs.Pairs.{nothing_known, no_pairs, facts_of, is_factor, IsLink, IsPairFacts}
+use Rattle.gb_domain.specs.Pairs.{nothing_known, no_pairs, facts_of, IsPairFacts}
 use Rattle.gb_domain.specs.Places.{no_byte}
-use Rattle.gb_fields.specs.Format.{Read, both, followed, optional, byte}
-use Rattle.gb_fields.specs.Reading.{is_between, is_ordered, word, byte_between, word_between, nothing}
+use Rattle.gb_fields.specs.Format.{both, optional, byte}
+use Rattle.gb_fields.specs.Reading.{is_between, byte_between}
 use Rattle.gb_states.specs.declared.relations.Present.{Present}
 use Rattle.gb_states.specs.declared.relations.InMemory.{InMemory}
 use Rattle.gb_states.specs.declared.relations.InMemory.TheVariants.{Nowhere, Address, Item}
 use Rattle.gb_domain.specs.RelationRules.{is_some_register, has_place, operand, compared, bits_of, IsOneByte, is_known, IsRelations, test_byte, test_alone, is_a_alone, is_test_byte, are_unknown, is_test_alone}
-use Rattle.gb_states.specs.Rules.{is_exact, are_exact, may_be_known}
-use Rattle.gb_states.specs.RelationReading.{defaulted, to_present, is_present, present_at, to_registers, have_place, registers_at, is_somewhere, place_by, memory_at, test_of, to_byte, byte_at, pair_of, pair_at, to_bounds, bounds_at, other_of, is_form, to_form, form_at, to_factor, factor_at, width_at, to_link, link_of, link_at, to_facts, facts_at, to_pairs, pairs_at, to_relations, parts_at, no_items, relations_at, relations_by}
+use Rattle.gb_states.specs.Links.{are_linked}
+use Rattle.gb_states.specs.Rules.{may_be_known}
+use Rattle.gb_states.specs.RelationReading.{defaulted, to_present, is_present, present_at, to_registers, have_place, registers_at, is_somewhere, place_by, memory_at, test_of, to_byte, byte_at, pair_at, pairs_at, to_relations, parts_at, no_items, relations_at, relations_by}
 use Rattle.gb_states.specs.Spelling as spelled
 use Rattle.gb_states.specs.RelationSpelling as told
 use Rattle.gb_states.specs.WholeSpelling.{is_address, memory}
 use Rattle.gb_states.proofs.Formats.{IsFormat, IsFormat-byte, IsFormat-nothing, IsFormat-both, IsFormat-followed, IsFormat-checked, IsFormat-onto, IsFormat-mapped, IsFormat-as, IsFormat-spelled}
-use Rattle.gb_states.proofs.FieldLaws.{le_is, is_le, and_both, both_and, is_within, all_below, below, same, flag_small, one-flag, spelled_byte, IsFormat-word, IsFormat-byte_between, IsFormat-word_between}
+use Rattle.gb_states.proofs.FieldLaws.{le_is, is_le, and_both, is_within, all_below, below, same, flag_small, one-flag, spelled_byte, IsFormat-byte_between}
 use Rattle.gb_states.proofs.PlaceLaws.{IsFormat-option, may_be_in, LiesIn, IsFormat-memory, memory-plain, somewhere, free-there, there-free}
-
--- ---- what may be there
-
--- right where it is there, and else what stands for it
-abbrev pub IsWhere : {X : Type 0} → X → (X → Type 0) → Bool → X → Type 0
-IsWhere n g true x = g x
-IsWhere n g false x = x ≡ n
-
-pub IsFormat-defaulted : {X : Type 0} (n : X) (shows : X → Bool) (there : Bool) (r : Read X) (w : X → List ℕ) (g : X → Type 0) → shows n ≡ false → ((x : X) → g x → shows x ≡ true)
-    → IsFormat r w g → IsFormat (defaulted n there r) (λ x. told.where_there (shows x) (w x)) (IsWhere n g there)
-IsFormat-defaulted n shows true r w g hidden shown a = IsFormat-spelled r w (λ x. told.where_there (shows x) (w x)) g (λ x h. sym (ap (λ b. told.where_there b (w x)) (shown x h))) a
-IsFormat-defaulted n shows false r w g hidden shown a = IsFormat-nothing n (λ x. told.where_there (shows x) (w x)) (ap (λ b. told.where_there b (w n)) hidden)
+use Rattle.gb_states.proofs.PairLaws.{IsWhere, IsFormat-defaulted, neither, none-is, some-pair, IsFormat-pair, MayBeLinked, AreFactsFor, facts-absent, ArePairsFor, IsFormat-pairs, AreLinked, pairs-linked, each-linked}
 
 -- ---- seven bits
 
@@ -103,6 +88,18 @@ unfolding present_at
 IsFormat-present test =
     IsFormat-as (present_at test) spelled_present (λ p. IsSeven (told.present_number p) × (is_present test p ≡ true)) (λ p. is_present test p ≡ true) (λ p h. h.1) (λ p h. (is_seven (told.present_number p) (present-number p).1, h))
     (IsFormat-checked fault.Field (is_present test) _ spelled_present _ (IsFormat-mapped to_present told.present_number (byte_between 0 127) spelled_byte _ number-present (λ p h. (present-number p).0) (IsFormat-byte_between 0 127)))
+
+-- a number below 128, and 128 more or not
+pub split : (n : ℕ) (b : Bool) → n < 256 → nat_le 128 n ≡ b → 128 * spelled.flag b + n % 128 ≡ n
+split n true h e = let high : 128 ≤ n = le_is 128 n e in omega (arith, high)
+split n false h e = let low : n < 128 = grind (arith, nat_tests, e) in omega (arith, low)
+
+pub split-parts : (b : Bool) (r : ℕ) → r ≤ 127 → ((128 * spelled.flag b + r) % 128 ≡ r) × (nat_le 128 (128 * spelled.flag b + r) ≡ b)
+split-parts true r h = (omega arith, is_le 128 (128 + r) (omega arith))
+split-parts false r h = (omega arith, less (128 * spelled.flag false + r) (omega (arith, h)))
+  where
+    less : (n : ℕ) → n ≤ 127 → nat_le 128 n ≡ false
+    less n h = grind (arith, nat_tests)
 
 -- ---- places that hold one byte
 
@@ -235,10 +232,6 @@ absent-byte k (Some n) Nowhere bits h = absurd cc
 absent-byte k (Some n) Address bits h = absurd cc
 absent-byte k (Some n) Item bits h = absurd cc
 
-neither : (a b : Bool) → (a || b) ≡ false → (a ≡ false) × (b ≡ false)
-neither true b h = cc
-neither false b h = (refl, h)
-
 pub no-registers : (s : Registers Bool) → is_some_register s ≡ false → s ≡ registers false false false false false false false
 no-registers s h =
     let l = neither (s.a || s.b || s.c || s.d || s.e || s.h) s.l h in
@@ -248,10 +241,6 @@ no-registers s h =
     let c = neither (s.a || s.b) s.c d.0 in
     let b = neither s.a s.b c.0 in
     registers-same s.a s.b s.c s.d s.e s.h s.l false false false false false false false b.0 b.1 c.1 d.1 e.1 k.1 l.1
-
-none-is : {X : Type 0} (o : Option X) → is_some o ≡ false → o ≡ None
-none-is None h = refl
-none-is (Some x) h = absurd cc
 
 pub none_is : {X : Type 0} (o : Option X) → is_none o ≡ true → o ≡ None
 none_is None h = refl
@@ -293,372 +282,6 @@ IsFormat-one_byte k test there at bits parts small few =
     IsFormat-as (defaulted no_byte there (byte_at k test at bits)) (told_byte k) (IsWhere no_byte (IsPlaces k test at bits) there) (IsByteFor k test there at bits) (byte-is k test there at bits parts) (is-byte k test there at bits)
     (IsFormat-defaulted no_byte has_place there (byte_at k test at bits) (places_told k) (IsPlaces k test at bits) refl (λ b h. h.place) (IsFormat-places k test at bits (and_both (there || not (is_somewhere at || is_some test || bits)) (not (is_some test && bits)) parts).1 small few))
 
--- ---- pairs
-
-number-pair : (n : ℕ) → (n < 256) × (is_between 0 2 n ≡ true) → told.pair_number (pair_of n) ≡ n
-number-pair n h = grind (arith, nat_tests)
-
-pair-number : (p : WordPair) → pair_of (told.pair_number p) ≡ p
-pair-number Bc = refl
-pair-number De = refl
-pair-number Hl = refl
-
-pair_fits : (p : WordPair) → (told.pair_number p < 256) × (is_between 0 2 (told.pair_number p) ≡ true)
-pair_fits Bc = (omega arith, refl)
-pair_fits De = (omega arith, refl)
-pair_fits Hl = (omega arith, refl)
-
-IsFormat-pair : IsFormat pair_at told.pair (λ p. Unit {0})
-unfolding pair_at
-IsFormat-pair =
-    IsFormat-as pair_at told.pair (λ p. (told.pair_number p < 256) × (is_between 0 2 (told.pair_number p) ≡ true)) (λ p. Unit {0}) (λ p h. tt) (λ p h. pair_fits p)
-    (IsFormat-mapped pair_of told.pair_number (byte_between 0 2) spelled_byte _ number-pair (λ p h. pair-number p) (IsFormat-byte_between 0 2))
-
-from_bounds : Bounds → ℕ × ℕ
-from_bounds b = (b.first, b.last)
-
--- words in order
-abbrev pub AreBounds : Bounds → Type 0
-AreBounds b = (b.first ≤ b.last) × (b.last < 65536)
-
-are_bounds : (first last : ℕ) → first ≤ last → last < 65536 → ((first < 65536) × (last < 65536)) × (nat_le first last ≡ true)
-are_bounds first last order small = ((omega arith, small), is_le first last order)
-
-pub IsFormat-bounds : IsFormat bounds_at told.bounds AreBounds
-unfolding bounds_at from_bounds
-IsFormat-bounds =
-    IsFormat-as bounds_at told.bounds (λ b. ((b.first < 65536) × (b.last < 65536)) × (nat_le b.first b.last ≡ true)) AreBounds (λ b h. (le_is b.first b.last h.1, h.0.1)) (λ b h. are_bounds b.first b.last h.0 h.1)
-    (IsFormat-mapped to_bounds from_bounds _ _ _ (λ x h. refl) (λ y h. refl)
-    (IsFormat-checked fault.Field is_ordered _ _ _ (IsFormat-both word word _ _ _ _ IsFormat-word IsFormat-word)))
-
-abbrev option_number : Option Other → ℕ
-option_number None = 0
-option_number (Some o) = 1 + told.other_number o
-
-other-number : (o : Option Other) → other_of (option_number o) ≡ o
-other-number None = refl
-other-number (Some (Of A)) = refl
-other-number (Some (Of B)) = refl
-other-number (Some (Of C)) = refl
-other-number (Some (Of D)) = refl
-other-number (Some (Of E)) = refl
-other-number (Some (Of H)) = refl
-other-number (Some (Of L)) = refl
-other-number (Some (Pair Bc)) = refl
-other-number (Some (Pair De)) = refl
-other-number (Some (Pair Hl)) = refl
-
-option-few : (o : Option Other) → option_number o ≤ 10
-option-few None = omega arith
-option-few (Some (Of A)) = omega arith
-option-few (Some (Of B)) = omega arith
-option-few (Some (Of C)) = omega arith
-option-few (Some (Of D)) = omega arith
-option-few (Some (Of E)) = omega arith
-option-few (Some (Of H)) = omega arith
-option-few (Some (Of L)) = omega arith
-option-few (Some (Pair Bc)) = omega arith
-option-few (Some (Pair De)) = omega arith
-option-few (Some (Pair Hl)) = omega arith
-
-number-other : (n : ℕ) → n ≤ 10 → option_number (other_of n) ≡ n
-unfolding all_below
-number-other n h = same _ _ (below 11 (λ c. option_number (other_of c) == c) refl n (omega (arith, h)))
-
--- a number below 128, and 128 more or not
-pub split : (n : ℕ) (b : Bool) → n < 256 → nat_le 128 n ≡ b → 128 * spelled.flag b + n % 128 ≡ n
-split n true h e = let high : 128 ≤ n = le_is 128 n e in omega (arith, high)
-split n false h e = let low : n < 128 = grind (arith, nat_tests, e) in omega (arith, low)
-
-pub split-parts : (b : Bool) (r : ℕ) → r ≤ 127 → ((128 * spelled.flag b + r) % 128 ≡ r) × (nat_le 128 (128 * spelled.flag b + r) ≡ b)
-split-parts true r h = (omega arith, is_le 128 (128 + r) (omega arith))
-split-parts false r h = (omega arith, less (128 * spelled.flag false + r) (omega (arith, h)))
-  where
-    less : (n : ℕ) → n ≤ 127 → nat_le 128 n ≡ false
-    less n h = grind (arith, nat_tests)
-
--- ---- forms of links
-
-abbrev Form : Type 0
-Form = Option Other × Bool
-
-abbrev number_of_form : Form → ℕ
-number_of_form f = 128 * spelled.flag f.1 + option_number f.0
-
-abbrev IsForm : Bool → Form → Type 0
-IsForm wide f = is_form wide (number_of_form f) ≡ true
-
-form-below : (wide : Bool) (n : ℕ) → is_form wide n ≡ true → (n < 256) × (n % 128 ≤ 10)
-form-below wide n h = (small wide h, few wide h)
-  where
-    small : (wide : Bool) → is_form wide n ≡ true → n < 256
-    small true h = grind (arith, nat_tests)
-    small false h = grind (arith, nat_tests)
-
-    few : (wide : Bool) → is_form wide n ≡ true → n % 128 ≤ 10
-    few true h = grind (arith, nat_tests)
-    few false h = grind (arith, nat_tests)
-
-form-there : (wide : Bool) (n : ℕ) → (n < 256) × (is_form wide n ≡ true) → (number_of_form (to_form n) ≡ n) × IsForm wide (to_form n)
-form-there wide n h =
-    let e = ap (λ k. 128 * spelled.flag (nat_le 128 n) + k) (number-other (n % 128) (form-below wide n h.1).1) ∙ split n (nat_le 128 n) h.0 refl in
-    (e, ap (is_form wide) e ∙ h.1)
-
-form-same : (o p : Option Other) (b c : Bool) → o ≡ p → b ≡ c → (let f : Form = (o, b) in f) ≡ (p, c)
-form-same o p b c e g = rw (e, g) refl
-
-form-again : (wide : Bool) (f : Form) → IsForm wide f → ((number_of_form f < 256) × IsForm wide f) × (to_form (number_of_form f) ≡ f)
-form-again wide f h =
-    let few : option_number f.0 ≤ 10 = option-few f.0 in
-    let k = split-parts f.1 (option_number f.0) (omega (arith, few)) in
-    (((form-below wide (number_of_form f) h).0, h), form-same _ f.0 _ f.1 (ap other_of k.0 ∙ other-number f.0) k.1)
-
-abbrev spelled_form : Form → List ℕ
-spelled_form f = told.byte (number_of_form f)
-
-IsFormat-form : (wide : Bool) → IsFormat (form_at wide) spelled_form (IsForm wide)
-unfolding form_at
-IsFormat-form wide =
-    IsFormat-onto to_form number_of_form _ spelled_byte (λ n. (n < 256) × (is_form wide n ≡ true)) (IsForm wide) (form-there wide) (form-again wide)
-    (IsFormat-checked fault.Field (is_form wide) byte spelled_byte (λ n. n < 256) IsFormat-byte)
-
--- A link may have a width, or it has one sum.
-abbrev pub MayBeWide : Bool → Option Link → Type 0
-MayBeWide wide l = (wide || is_exact l) ≡ true
-
-abbrev form_in : Option Link → Form
-form_in None = (None, false)
-form_in (Some l) = (Some l.other, told.has_width l.width)
-
-form-fits : (wide : Bool) (l : Option Link) → MayBeWide wide l → IsForm wide (form_in l)
-form-fits wide None h = refl
-form-fits wide (Some l) h = by wide (l.width == 0) (option_number (Some l.other)) (omega arith) (option-few (Some l.other)) h
-  where
-    by : (wide one : Bool) (n : ℕ) → 1 ≤ n → n ≤ 10 → (wide || one) ≡ true → is_form wide (128 * spelled.flag (not one) + n) ≡ true
-    by true true n some few h = grind (arith, nat_tests)
-    by true false n some few h = grind (arith, nat_tests)
-    by false true n some few h = grind (arith, nat_tests)
-    by false false n some few h = cc
-
-form-wide : (wide : Bool) (l : Option Link) → IsForm wide (form_in l) → MayBeWide wide l
-form-wide true l h = refl
-form-wide false None h = refl
-form-wide false (Some l) h = by (l.width == 0) (option_number (Some l.other)) h
-  where
-    by : (one : Bool) (n : ℕ) → is_form false (128 * spelled.flag (not one) + n) ≡ true → one ≡ true
-    by true n h = refl
-    by false n h = grind (arith, nat_tests)
-
-abbrev low_byte : ℕ → ℕ
-low_byte n = n % 256
-
-factor-there : (n : ℕ) → (n < 256) × (is_between 1 255 n ≡ true) → (low_byte (to_factor n) ≡ n) × (is_factor (to_factor n) ≡ true)
-factor-there n h = (back n h.0, small n h.1)
-  where
-    back : (n : ℕ) → n < 256 → low_byte (to_factor n) ≡ n
-    back n h = grind (arith, nat_tests)
-
-    small : (n : ℕ) → is_between 1 255 n ≡ true → is_factor (to_factor n) ≡ true
-    small n h = grind (arith, nat_tests)
-
-factor-again : (n : ℕ) → is_factor n ≡ true → ((low_byte n < 256) × (is_between 1 255 (low_byte n) ≡ true)) × (to_factor (low_byte n) ≡ n)
-factor-again n h = ((omega arith, small n h), back n h)
-  where
-    small : (n : ℕ) → is_factor n ≡ true → is_between 1 255 (low_byte n) ≡ true
-    small n h = grind (arith, nat_tests)
-
-    back : (n : ℕ) → is_factor n ≡ true → to_factor (low_byte n) ≡ n
-    back n h = grind (arith, nat_tests)
-
-abbrev spelled_factor : ℕ → List ℕ
-spelled_factor n = told.byte (low_byte n)
-
-IsFormat-factor : IsFormat factor_at spelled_factor (λ n. is_factor n ≡ true)
-unfolding factor_at
-IsFormat-factor = IsFormat-onto to_factor low_byte (byte_between 1 255) spelled_byte (λ n. (n < 256) × (is_between 1 255 n ≡ true)) (λ n. is_factor n ≡ true) factor-there factor-again (IsFormat-byte_between 1 255)
-
-not-false : (b : Bool) → not b ≡ false → b ≡ true
-not-false true h = refl
-not-false false h = cc
-
--- a width that is spelled
-abbrev IsWidth : ℕ → Type 0
-IsWidth n = (n < 65536) × (is_between 1 65535 n ≡ true)
-
-width-shown : (n : ℕ) → IsWidth n → told.has_width n ≡ true
-width-shown n h = by n h.1
-  where
-    by : (n : ℕ) → is_between 1 65535 n ≡ true → told.has_width n ≡ true
-    by n h = grind (arith, nat_tests)
-
-IsFormat-width : (there : Bool) → IsFormat (defaulted 0 there width_at) told.width (IsWhere 0 IsWidth there)
-unfolding width_at
-IsFormat-width there = IsFormat-defaulted 0 told.has_width there (word_between 1 65535) spelled.word IsWidth refl width-shown (IsFormat-word_between 1 65535)
-
--- a width is a word, and there as this says
-width-is : (there : Bool) (n : ℕ) → IsWhere 0 IsWidth there n → (told.has_width n ≡ there) × (n < 65536)
-width-is true n h = (width-shown n h, h.0)
-width-is false n h = (ap told.has_width h, omega (arith, h))
-
-is-width : (there : Bool) (n : ℕ) → told.has_width n ≡ there → n < 65536 → IsWhere 0 IsWidth there n
-is-width true n h small = (small, by n h small)
-  where
-    by : (n : ℕ) → told.has_width n ≡ true → n < 65536 → is_between 1 65535 n ≡ true
-    by n h small = grind (arith, nat_tests)
-is-width false n h small = same n 0 (not-false (n == 0) h)
-
--- a link's factor, its sum and its width
-abbrev from_link : Option Link → ℕ × (ℕ × ℕ)
-from_link None = (0, (0, 0))
-from_link (Some l) = (l.factor, (l.sum, l.width))
-
-abbrev told_sum : Option Link → List ℕ
-told_sum None = []
-told_sum (Some l) = low_byte l.factor ∷ (spelled.word l.sum ++ told.width l.width)
-
--- a link of this form, or none
-abbrev IsLinkOf : Form → Option Link → Type 0
-IsLinkOf f l = (form_in l ≡ f) × IfSome l IsLink
-
-no-link : (b : Bool) (l : Option Link) → IsLinkOf (None, b) l → l ≡ None
-no-link b None h = refl
-no-link b (Some l) h = absurd (apart l.other (ap (λ (f : Form). f.0) h.0))
-  where
-    apart : (o : Other) → Some o ≡ None → ⊥
-    apart o e = cc
-
-some-is : (x y : Other) → Some x ≡ Some y → x ≡ y
-some-is x y e = cc
-
-abbrev AreFactorSum : Bool → ℕ × (ℕ × ℕ) → Type 0
-AreFactorSum there p = (is_factor p.0 ≡ true) × ((p.1.0 < 65536) × IsWhere 0 IsWidth there p.1.1)
-
-link-there : (other : Other) (there : Bool) (p : ℕ × (ℕ × ℕ)) → AreFactorSum there p → (from_link (to_link other p) ≡ p) × IsLinkOf (Some other, there) (to_link other p)
-link-there other there p h =
-    let w = width-is there p.1.1 h.1.1 in
-    (refl, (form-same (Some other) (Some other) (told.has_width p.1.1) there refl w.0, record { factor = h.0; sum = h.1.0; width = w.1 }))
-
-link-again : (other : Other) (there : Bool) (l : Option Link) → IsLinkOf (Some other, there) l → AreFactorSum there (from_link l) × (to_link other (from_link l) ≡ l)
-link-again other there None h = absurd (apart other (ap (λ (f : Form). f.0) h.0))
-  where
-    apart : (o : Other) → None ≡ Some o → ⊥
-    apart o e = cc
-link-again other there (Some l) h = (
-  (h.1.factor, (h.1.sum, is-width there l.width (ap (λ (f : Form). f.1) h.0) h.1.width)),
-  ap (λ o. to_link o (l.factor, (l.sum, l.width))) (sym (some-is l.other other (ap (λ (f : Form). f.0) h.0))),
-)
-
-abbrev spelled_sum : ℕ × (ℕ × ℕ) → List ℕ
-spelled_sum p = spelled_factor p.0 ++ (spelled.word p.1.0 ++ told.width p.1.1)
-
-sum-told : (other : Other) (there : Bool) (l : Option Link) → IsLinkOf (Some other, there) l → spelled_sum (from_link l) ≡ told_sum l
-sum-told other there None h = absurd (apart other (ap (λ (f : Form). f.0) h.0))
-  where
-    apart : (o : Other) → None ≡ Some o → ⊥
-    apart o e = cc
-sum-told other there (Some l) h = refl
-
-IsFormat-link_of : (wide : Bool) (o : Option Other) (there : Bool) → IsForm wide (o, there) → IsFormat (link_of o there) told_sum (IsLinkOf (o, there))
-IsFormat-link_of wide None false h = IsFormat-as (nothing None) told_sum (λ l. l ≡ None) (IsLinkOf (None, false)) (λ l e. subst (IsLinkOf (None, false)) (sym e) (refl, tt)) (no-link false) (IsFormat-nothing None told_sum refl)
-IsFormat-link_of true None true h = absurd cc
-IsFormat-link_of false None true h = absurd cc
-IsFormat-link_of wide (Some other) there h =
-    IsFormat-spelled (link_of (Some other) there) (λ l. spelled_sum (from_link l)) told_sum (IsLinkOf (Some other, there)) (sum-told other there)
-    (IsFormat-onto (to_link other) from_link (both factor_at (both word (defaulted 0 there width_at))) spelled_sum (AreFactorSum there) (IsLinkOf (Some other, there)) (link-there other there) (link-again other there)
-    (IsFormat-both factor_at (both word (defaulted 0 there width_at)) spelled_factor (λ p. spelled.word p.0 ++ told.width p.1) (λ n. is_factor n ≡ true) (λ p. (p.0 < 65536) × IsWhere 0 IsWidth there p.1) IsFormat-factor
-    (IsFormat-both word (defaulted 0 there width_at) spelled.word told.width (λ n. n < 65536) (IsWhere 0 IsWidth there) IsFormat-word (IsFormat-width there))))
-
-link-told : (l : Option Link) → spelled_form (form_in l) ++ told_sum l ≡ told.link l
-link-told None = refl
-link-told (Some l) = refl
-
--- a link that may be, where links may have a width or may not
-abbrev pub IsLinkIn : Bool → Option Link → Type 0
-IsLinkIn wide l = IfSome l IsLink × MayBeWide wide l
-
-IsFormat-link : (wide : Bool) → IsFormat (link_at wide) told.link (IsLinkIn wide)
-unfolding link_at
-IsFormat-link wide =
-    IsFormat-spelled (link_at wide) (λ l. spelled_form (form_in l) ++ told_sum l) told.link (IsLinkIn wide) (λ l h. link-told l)
-    (IsFormat-onto (λ (p : Form × Option Link). p.1) (λ l. (form_in l, l)) (followed (form_at wide) (λ f. link_of f.0 f.1)) (λ p. spelled_form p.0 ++ told_sum p.1) (λ p. IsForm wide p.0 × IsLinkOf p.0 p.1) (IsLinkIn wide)
-    (λ p h. (ap (λ (f : Form). (let q : Form × Option Link = (f, p.1) in q)) h.1.0, (h.1.1, form-wide wide p.1 (ap (λ (f : Form). is_form wide (number_of_form f)) h.1.0 ∙ h.0))))
-    (λ l h. ((form-fits wide l h.1, (refl, h.0)), refl))
-    (IsFormat-followed (form_at wide) (λ f. link_of f.0 f.1) spelled_form (λ f. told_sum) (IsForm wide) IsLinkOf (IsFormat-form wide) (λ f h. IsFormat-link_of wide f.0 f.1 h)))
-
-from_facts : PairFacts → Bounds × Option Link
-from_facts f = (f.bounds, f.link)
-
--- bounds in order, and a link that may be
-abbrev pub AreFacts : Bool → PairFacts → Type 0
-AreFacts wide f = AreBounds f.bounds × IsLinkIn wide f.link
-
-IsFormat-facts : (wide : Bool) → IsFormat (facts_at wide) told.facts (λ f. AreFacts wide f × (is_known f ≡ true))
-unfolding facts_at from_facts told.facts
-IsFormat-facts wide =
-    IsFormat-checked fault.Field is_known _ told.facts (AreFacts wide)
-    (IsFormat-mapped to_facts from_facts _ (λ p. told.bounds p.0 ++ told.link p.1) (λ p. AreBounds p.0 × IsLinkIn wide p.1) (λ x h. refl) (λ y h. refl)
-    (IsFormat-both bounds_at (link_at wide) told.bounds told.link AreBounds (IsLinkIn wide) IsFormat-bounds (IsFormat-link wide)))
-
--- what may be known of a pair that is there or not
-abbrev pub AreFactsFor : Bool → Bool → PairFacts → Type 0
-AreFactsFor wide there f = AreFacts wide f × (is_known f ≡ there)
-
-facts-same : (a b c d : ℕ) (k l : Option Link) → a ≡ b → c ≡ d → k ≡ l → (let q : PairFacts = record { bounds = record { first = a; last = c }; link = k } in q) ≡ record { bounds = record { first = b; last = d }; link = l }
-facts-same a b c d k l ea ec ek = rw (ea, ec, ek) refl
-
-facts-absent : (f : PairFacts) → is_known f ≡ false → f ≡ nothing_known
-facts-absent f h =
-    let n = neither (is_some f.link) (not (f.bounds.first == 0 && f.bounds.last == 0xFFFF)) h in
-    let b = and_both (f.bounds.first == 0) (f.bounds.last == 0xFFFF) (not-false (f.bounds.first == 0 && f.bounds.last == 0xFFFF) n.1) in
-    facts-same f.bounds.first 0 f.bounds.last 0xFFFF f.link None (same f.bounds.first 0 b.0) (same f.bounds.last 0xFFFF b.1) (none-is f.link n.0)
-
-or-true : (b : Bool) → (b || true) ≡ true
-or-true true = refl
-or-true false = refl
-
-absent-facts : (wide : Bool) → AreFactsFor wide false nothing_known
-absent-facts wide = (((omega arith, omega arith), (tt, or-true wide)), refl)
-
-facts-are : (wide there : Bool) (f : PairFacts) → IsWhere nothing_known (AreFactsFor wide true) there f → AreFactsFor wide there f
-facts-are wide true f h = h
-facts-are wide false f h = subst (AreFactsFor wide false) (sym h) (absent-facts wide)
-
-are-facts : (wide there : Bool) (f : PairFacts) → AreFactsFor wide there f → IsWhere nothing_known (AreFactsFor wide true) there f
-are-facts wide true f h = h
-are-facts wide false f h = facts-absent f h.1
-
-IsFormat-known : (wide there : Bool) → IsFormat (defaulted nothing_known there (facts_at wide)) told.known_facts (AreFactsFor wide there)
-IsFormat-known wide there =
-    IsFormat-as (defaulted nothing_known there (facts_at wide)) told.known_facts (IsWhere nothing_known (AreFactsFor wide true) there) (AreFactsFor wide there) (facts-are wide there) (are-facts wide there)
-    (IsFormat-defaulted nothing_known is_known there (facts_at wide) told.facts (AreFactsFor wide true) refl (λ f h. h.1) (IsFormat-facts wide))
-
-from_pairs : Pairs → PairFacts × (PairFacts × PairFacts)
-from_pairs s = (s.bc, (s.de, s.hl))
-
-abbrev pub ArePairsFor : Bool → Present → Pairs → Type 0
-ArePairsFor wide p s = AreFactsFor wide p.bc s.bc × (AreFactsFor wide p.de s.de × AreFactsFor wide p.hl s.hl)
-
-IsFormat-pairs : (wide : Bool) (p : Present) → IsFormat (pairs_at wide p) told.pairs (ArePairsFor wide p)
-unfolding pairs_at from_pairs told.pairs
-IsFormat-pairs wide p =
-    IsFormat-mapped to_pairs from_pairs _ (λ s. told.known_facts s.0 ++ (told.known_facts s.1.0 ++ told.known_facts s.1.1)) (λ s. AreFactsFor wide p.bc s.0 × (AreFactsFor wide p.de s.1.0 × AreFactsFor wide p.hl s.1.1)) (λ x h. refl) (λ y h. refl)
-    (IsFormat-both (defaulted nothing_known p.bc (facts_at wide)) _ _ _ _ _ (IsFormat-known wide p.bc)
-    (IsFormat-both (defaulted nothing_known p.de (facts_at wide)) _ _ _ _ _ (IsFormat-known wide p.de) (IsFormat-known wide p.hl)))
-
--- Links may have a width, or each has one sum.
-abbrev pub AreWide : Bool → Pairs → Type 0
-AreWide wide s = (wide || are_exact s) ≡ true
-
-pairs-wide : (wide : Bool) (p : Present) (s : Pairs) → ArePairsFor wide p s → AreWide wide s
-pairs-wide true p s h = refl
-pairs-wide false p s h = both_and (is_exact s.bc.link) _ h.0.0.1.1 (both_and (is_exact s.de.link) (is_exact s.hl.link) h.1.0.0.1.1 h.1.1.0.1.1)
-
-each-wide : (wide : Bool) (s : Pairs) → AreWide wide s → MayBeWide wide s.bc.link × (MayBeWide wide s.de.link × MayBeWide wide s.hl.link)
-each-wide true s h = (refl, (refl, refl))
-each-wide false s h =
-    let b = and_both (is_exact s.bc.link) (is_exact s.de.link && is_exact s.hl.link) h in
-    (b.0, and_both (is_exact s.de.link) (is_exact s.hl.link) b.1)
-
 -- ---- all of them
 
 abbrev pub All : Type 0
@@ -690,14 +313,14 @@ pairs-ordered wide p s h De = h.1.0.0.0.0
 pairs-ordered wide p s h Hl = h.1.1.0.0.0
 
 pub relations-there : (wide : Bool) (k : StackBytes) (test : Option ℕ) (at : InMemory) (x : All) → ArePresent wide k test at x.0 x.1
-    → (from_relations x.0.address (to_relations x) ≡ x) × (IsTold (may_be_in k at) test (to_relations x) × AreWide wide x.1.1.1)
+    → (from_relations x.0.address (to_relations x) ≡ x) × (IsTold (may_be_in k at) test (to_relations x) × AreLinked wide x.1.1.1)
 unfolding from_relations
 relations-there wide k test at x h =
     let p = x.0 in
     let b = h.0 in
     let s = h.1.1 in (
       ap (λ (p : Present). (let q : All = (p, x.1) in q)) (present-same _ _ _ _ _ _ _ x.0.byte x.0.address x.0.bits x.0.zero x.0.bc x.0.de x.0.hl b.place refl b.has_bits h.1.0.0 s.0.1 s.1.0.1 s.1.1.1),
-      ((record { byte = b.is_byte; pairs = record { each = pairs-each wide x.0 x.1.1.1 s }; order = pairs-ordered wide x.0 x.1.1.1 s }, b.compares), pairs-wide wide x.0 x.1.1.1 s),
+      ((record { byte = b.is_byte; pairs = record { each = pairs-each wide x.0 x.1.1.1 s }; order = pairs-ordered wide x.0 x.1.1.1 s }, b.compares), pairs-linked wide x.0 x.1.1.1 s),
     )
 
 -- The same relations, where the address is right by another rule.
@@ -718,20 +341,16 @@ present-parts Nowhere true (Some (Bits m)) h = refl
 present-parts Nowhere false None h = refl
 present-parts Nowhere false (Some t) h = absurd cc
 
-some-pair : (o : Option WordPair) → IfSome o (λ z. Unit {0})
-some-pair None = tt
-some-pair (Some z) = tt
-
-facts-for : (wide : Bool) (f : PairFacts) → IsPairFacts f → f.bounds.first ≤ f.bounds.last → MayBeWide wide f.link → AreFactsFor wide (is_known f) f
+facts-for : (wide : Bool) (f : PairFacts) → IsPairFacts f → f.bounds.first ≤ f.bounds.last → MayBeLinked wide f.link → AreFactsFor wide (is_known f) f
 facts-for wide f h order may = (((order, h.last), (h.link, may)), refl)
 
-pub relations-again : (wide : Bool) (k : StackBytes) (test : Option ℕ) (at : InMemory) (address : Bool) (r : Relations) → IsTold (may_be_in k at) test r → AreWide wide r.pairs → is_some r.byte.address ≡ is_somewhere at
+pub relations-again : (wide : Bool) (k : StackBytes) (test : Option ℕ) (at : InMemory) (address : Bool) (r : Relations) → IsTold (may_be_in k at) test r → AreLinked wide r.pairs → is_some r.byte.address ≡ is_somewhere at
     → ArePresent wide k test at (from_relations address r).0 (from_relations address r).1 × (to_relations (from_relations address r) ≡ r)
 unfolding from_relations
-relations-again wide k test at address r h are_wide in_memory =
+relations-again wide k test at address r h linked in_memory =
     let e = h.0.pairs.each in
     let o = h.0.order in
-    let w = each-wide wide r.pairs are_wide in (
+    let w = each-linked wide r.pairs linked in (
       (
         record { is_byte = h.0.byte; place = refl; in_memory = in_memory; has_bits = refl; compares = h.1 },
         ((refl, some-pair r.zero), (facts-for wide r.pairs.bc (e Bc) (o Bc) w.0, (facts-for wide r.pairs.de (e De) (o De) w.1.0, facts-for wide r.pairs.hl (e Hl) (o Hl) w.1.1))),
@@ -759,7 +378,7 @@ IsFormat-parts wide k test at p small few h =
 
 -- ---- versions 1 to 3
 
--- in them a place in memory is an address, and no link has a width
+-- in them a place in memory is an address, and no link has a base or a width
 abbrev older_place : Present → InMemory
 older_place p = place_by false p.address
 
@@ -767,7 +386,7 @@ abbrev AreOlder : Region → Option ℕ → All → Type 0
 AreOlder region test x = (is_present test x.0 ≡ true) × ArePresent false (no_items region) test (older_place x.0) x.0 x.1
 
 abbrev pub IsToldExactly : Region → Option ℕ → Relations → Type 0
-IsToldExactly region test r = IsTold (is_free_byte region) test r × (are_exact r.pairs ≡ true)
+IsToldExactly region test r = IsTold (is_free_byte region) test r × (are_linked false r.pairs ≡ true)
 
 abbrev older_of : Relations → All
 older_of r = from_relations (is_some r.byte.address) r
@@ -879,7 +498,7 @@ is-alone r h =
 
 -- What versions 1 and 2 can say, version 3 can.
 pub alone_known : (r : Relations) → is_test_alone r ≡ true → may_be_known Extended r ≡ true
-alone_known r h = ap (λ (s : Relations). are_exact s.pairs) (is-alone r h)
+alone_known r h = ap (λ (s : Relations). are_linked false s.pairs) (is-alone r h)
 
 -- ---- all versions
 

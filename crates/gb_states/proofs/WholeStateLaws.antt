@@ -45,7 +45,8 @@ use Rattle.gb_states.specs.WholeSpelling.{place_in, is_address, is_item}
 use Rattle.gb_states.proofs.Formats.{IsFormat, IsFormat-both, IsFormat-followed, IsFormat-checked, IsFormat-onto, IsFormat-mapped, IsFormat-as, IsFormat-counted, all_of_chain, chain_of_all}
 use Rattle.gb_states.proofs.FieldLaws.{and_both, both_and, within, is_within, spelled_byte, IsFormat-byte_between, IsFormat-count_within, IsFormat-yes_no, IsCtlBy, IsFormat-ctl_by, IsFormat-ime, IsFormat-test, IsFormat-flg, from_vals, from_core}
 use Rattle.gb_states.proofs.PlaceLaws.{may_be_in, place-is, place-again, item-bit, address-bit, somewhere, place-there, there-place, named-alone, named-there, may-name}
-use Rattle.gb_states.proofs.RelationLaws.{All, from_relations, ArePresent, IsTold, relations-there, address-as, relations-again, is-present, spelled_present, told_byte, told_parts, AreParts, IsFormat-present, IsFormat-parts, compared-small, AreBounds}
+use Rattle.gb_states.proofs.RelationLaws.{All, from_relations, ArePresent, IsTold, relations-there, address-as, relations-again, is-present, spelled_present, told_byte, told_parts, AreParts, IsFormat-present, IsFormat-parts, compared-small}
+use Rattle.gb_states.proofs.PairLaws.{AreBounds, AreLinked}
 use Rattle.gb_states.proofs.StateLaws.{IsFormat-item_count}
 use Rattle.gb_states.proofs.WholeLaws.{IsFormat-val, spelled_kept, IsFormat-kept}
 use Rattle.gb_states.proofs.WholeSummaryLaws.{declared-same, spelled_declared, IsFormat-declared, IsSummaryFor, IsFormat-summary, IsFormat-free_address}
@@ -180,7 +181,7 @@ AreToldParts facts k may test p = AreDeclared k may test p.0 × (ArePresent true
 
 -- what there may be beside a state's test
 abbrev pub IsToldIn : ℕ → StackBytes → Bool → Option ℕ → Told → Type 0
-IsToldIn facts k may test t = IsTold (is_place_at k) test t.0 × IsSummary facts k.region may t.1
+IsToldIn facts k may test t = (IsTold (is_place_at k) test t.0 × AreLinked true t.0.pairs) × IsSummary facts k.region may t.1
 
 within-is : (o : Option Bounds) → IfSome o AreBounds → IfSome o IsWithin
 within-is None h = tt
@@ -206,7 +207,7 @@ told-there facts k may test p h =
     let item : is_item (place_in k.region p.1.0.0.address) ≡ p.0.1.item = ap is_item place ∙ item-bit p.0.1.item p.0.0.address in (
       parts-same _ p.0.0 _ p.0.1 (ap (λ a. told.present_by a (to_told p).0) address ∙ ap (λ (x : All). x.0) r.0) (declared-same _ _ _ _ p.0.1.shadows p.0.1.levels p.0.1.aside p.0.1.item s.has_shadows s.has_levels s.has_aside item),
       (
-        (address-as (may_be_in k at) (is_place_at k) (to_told p).0 r.1.0.0 (place-there k at p.1.0.0.address r.1.0.0.byte.address), r.1.0.1),
+        ((address-as (may_be_in k at) (is_place_at k) (to_told p).0 r.1.0.0 (place-there k at p.1.0.0.address r.1.0.0.byte.address), r.1.0.1), r.1.1),
         record {
           level = s.level;
           few = s.few;
@@ -227,9 +228,9 @@ unfolding from_told from_relations
 told-again facts k may test t h =
     let at = place_told k t in
     let o = t.0.byte.address in
-    let lies = there-place k o h.0.0.byte.address in
-    let there : IsTold (may_be_in k at) test t.0 = (address-as (is_place_at k) (may_be_in k at) t.0 h.0.0 lies.1, h.0.1) in
-    let r = relations-again true k test at (is_address at) t.0 there refl lies.0 in
+    let lies = there-place k o h.0.0.0.byte.address in
+    let there : IsTold (may_be_in k at) test t.0 = (address-as (is_place_at k) (may_be_in k at) t.0 h.0.0.0 lies.1, h.0.0.1) in
+    let r = relations-again true k test at (is_address at) t.0 there h.0.1 lies.0 in
     let s = h.1 in (
       (
         (is-present (may_be_in k at) test at t.0 there lies.0, both_and (may || not (is_some t.1.aside)) _ s.may (may-name k at o (is_some_register t.0.byte.registers) lies)),
@@ -285,7 +286,7 @@ AreStateParts facts form role region p = IsCoreOf form.kept role p.0 × (AreItem
 state-there : (facts : ℕ) (form : ProcedureForm) (role : Role) (region : Region) (p : StateParts) → AreStateParts facts form role region p → (from_state (to_state p) ≡ p) × IsStateIn facts form role region (to_state p)
 unfolding from_state
 state-there facts form role region p h = (
-  ap (λ (o : Option ℕ). (let q : StateParts = ((p.0.0, o), p.1) in q)) h.1.1.0.0.1,
+  ap (λ (o : Option ℕ). (let q : StateParts = ((p.0.0, o), p.1) in q)) h.1.1.0.0.0.1,
   record {
     core = h.0.core;
     stack = h.0.stack;
@@ -294,7 +295,8 @@ state-there facts form role region p h = (
     item_count = h.1.0.few;
     cells = h.1.1.1.chain;
     cell_count = h.1.1.1.few;
-    relations = h.1.1.0.0.0;
+    relations = h.1.1.0.0.0.0;
+    linked = h.1.1.0.0.1;
     summary = h.1.1.0.1;
   },
 )
@@ -304,7 +306,7 @@ unfolding from_state
 state-again facts form role region s h = (
   (
     record { core = h.core; stack = h.stack; test = compared-small s.relations.byte.test h.relations.byte.test },
-    (record { few = h.item_count; pushed = h.pushed; each = h.items }, (((h.relations, refl), h.summary), record { few = h.cell_count; chain = h.cells })),
+    (record { few = h.item_count; pushed = h.pushed; each = h.items }, ((((h.relations, refl), h.linked), h.summary), record { few = h.cell_count; chain = h.cells })),
   ),
   refl,
 )

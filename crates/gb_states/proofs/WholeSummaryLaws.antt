@@ -25,7 +25,7 @@ use Rattle.gb_states.specs.RelationSpelling as told
 use Rattle.gb_states.specs.WholeSpelling as spelled
 use Rattle.gb_states.proofs.Formats.{IsFormat, IsFormat-both, IsFormat-checked, IsFormat-mapped, IsFormat-as, IsFormat-counted, all_of_chain, chain_of_all}
 use Rattle.gb_states.proofs.FieldLaws.{le_is, is_le, within, is_within, all_below, below, same, flag_small, one-flag, spelled_byte, IsFormat-word, IsFormat-byte_between, IsFormat-count_within}
-use Rattle.gb_states.proofs.RelationLaws.{IsWhere, IsFormat-defaulted, AreBounds, IsFormat-bounds}
+use Rattle.gb_states.proofs.PairLaws.{IsWhere, IsFormat-defaulted, AreBounds, IsFormat-bounds}
 use Rattle.gb_states.proofs.PlaceLaws.{IsFormat-option, IsFormat-address}
 use Rattle.gb_states.proofs.SummaryLaws.{unshadowed-is, no-fills}
 use Rattle.gb_states.proofs.WholeFactLaws.{IsFormat-fact, IsFormat-levels}

@@ -1,5 +1,6 @@
 pub mod Checked
 pub mod Forms
+pub mod Links
 pub mod Numbers
 pub mod Reading
 pub mod RelationReading

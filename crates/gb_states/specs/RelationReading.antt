@@ -8,7 +8,7 @@ use Rattle.gb_domain.specs.declared.pairs.WordPair.{WordPair}
 use Rattle.gb_domain.specs.declared.pairs.WordPair.TheVariants.{Bc, De, Hl}
 use Rattle.gb_domain.specs.declared.pairs.Bounds.{Bounds}
 use Rattle.gb_domain.specs.declared.pairs.Other.{Other}
-use Rattle.gb_domain.specs.declared.pairs.Other.TheVariants.{Register as Of, Pair}
+use Rattle.gb_domain.specs.declared.pairs.Other.TheVariants.{Register as Of, Pair, Nothing}
 use Rattle.gb_domain.specs.declared.pairs.Link.{Link}
 use Rattle.gb_domain.specs.declared.pairs.PairFacts.{PairFacts}
 use Rattle.gb_domain.specs.declared.pairs.Pairs.{Pairs}
@@ -22,12 +22,14 @@ use Rattle.gb_domain.specs.declared.rules.Rules.TheVariants.{Simple, Extended}
 use Rattle.gb_domain.specs.Pairs.{nothing_known}
 use Rattle.gb_domain.specs.Places.{no_byte}
 use Rattle.gb_states.specs.declared.relations.Present.{Present}
+use Rattle.gb_states.specs.declared.relations.LinkForm.{LinkForm}
 use Rattle.gb_states.specs.declared.relations.InMemory.{InMemory}
 use Rattle.gb_states.specs.declared.relations.InMemory.TheVariants.{Nowhere, Address, Item}
 use Rattle.gb_fields.specs.Format.{Read, followed, both, mapped, checked, optional, byte}
 use Rattle.gb_fields.specs.Reading.{is_between, is_ordered, word, byte_between, word_between, nothing}
 use Rattle.gb_domain.specs.Areas.{is_area, meets, is_free_byte}
 use Rattle.gb_domain.specs.RelationRules.{is_some_register, is_known, test_alone}
+use Rattle.gb_states.specs.Links.{reads_other}
 
 -- a field, or what stands for it where it isn't there
 abbrev pub defaulted : {X : Type 0} → X → Bool → Read X → Read X
@@ -138,17 +140,22 @@ other_of n =
     else if n == 7 then Some (Of L)
     else if n == 8 then Some (Pair Bc)
     else if n == 9 then Some (Pair De)
-    else Some (Pair Hl)
+    else if n == 10 then Some (Pair Hl)
+    else Some Nothing
 
--- a link's form: what else it reads, or, where links may have a width, 128 more
+-- In version 4 a link may have a base and a width. What reads nothing else has a base.
+abbrev pub is_wide_form : ℕ → Bool
+is_wide_form n = is_between 1 10 (n % 64) || n % 64 == 13 && n / 64 % 2 == 1
+
+-- 0 where there is no link. In versions 1 to 3 a form says only what else one reads.
 abbrev pub is_form : Bool → ℕ → Bool
-is_form wide n = is_between 0 10 n || wide && is_between 129 138 n
+is_form wide n = is_between 0 10 n || wide && is_wide_form n
 
--- bits 0 to 4: what else the link reads; 7: it has a width
-abbrev pub to_form : ℕ → Option Other × Bool
-to_form n = (other_of (n % 128), nat_le 128 n)
+-- bits 0 to 4: what else the link reads; 6: it has a base; 7: it has a width
+abbrev pub to_form : ℕ → LinkForm
+to_form n = record { other = other_of (n % 64); has_base = n / 64 % 2 == 1; has_width = nat_le 128 n }
 
-unfoldable pub form_at : Bool → Read (Option Other × Bool)
+unfoldable pub form_at : Bool → Read LinkForm
 form_at wide = mapped to_form (checked fault.Field (is_form wide) byte)
 
 -- a byte in two's complement as a word
@@ -162,17 +169,21 @@ factor_at = mapped to_factor (byte_between 1 255)
 unfoldable pub width_at : Read ℕ
 width_at = word_between 1 65535
 
-abbrev pub to_link : Other → ℕ × (ℕ × ℕ) → Option Link
-to_link other p = Some (record { other = other; factor = p.0; sum = p.1.0; width = p.1.1 })
+-- The factor of what reads nothing else isn't spelled.
+abbrev pub factor_of : Other → Read ℕ
+factor_of other = defaulted 1 (reads_other other) factor_at
 
--- no link, or the factor, the sum and the width of one
-abbrev pub link_of : Option Other → Bool → Read (Option Link)
-link_of None has_width = nothing None
-link_of (Some other) has_width = mapped (to_link other) (both factor_at (both word (defaulted 0 has_width width_at)))
+abbrev pub to_link : Other → ℕ × (Option WordPair × (ℕ × ℕ)) → Option Link
+to_link other p = Some (record { other = other; factor = p.0; base = p.1.0; sum = p.1.1.0; width = p.1.1.1 })
 
--- a link, which may have a width or may not
+-- no link, or the factor, the base, the sum and the width of one
+abbrev pub link_of : Option Other → Bool → Bool → Read (Option Link)
+link_of None has_base has_width = nothing None
+link_of (Some other) has_base has_width = mapped (to_link other) (both (factor_of other) (both (optional has_base pair_at) (both word (defaulted 0 has_width width_at))))
+
+-- a link, which may have a base and a width or may not
 unfoldable pub link_at : Bool → Read (Option Link)
-link_at wide = mapped (λ p. p.1) (followed (form_at wide) (λ f. link_of f.0 f.1))
+link_at wide = mapped (λ p. p.1) (followed (form_at wide) (λ f. link_of f.other f.has_base f.has_width))
 
 abbrev pub to_facts : Bounds × Option Link → PairFacts
 to_facts p = record { bounds = p.0; link = p.1 }
@@ -192,7 +203,7 @@ pairs_at wide p = mapped to_pairs (both (defaulted nothing_known p.bc (facts_at 
 abbrev pub to_relations : Present × (OneByte × (Option WordPair × Pairs)) → Relations
 to_relations p = record { byte = p.1.0; zero = p.1.1.0; pairs = p.1.1.1 }
 
--- those that there are; links may have a width or may not, the test is the state's, and the one byte's place in memory is this
+-- those that there are; links may have a base and a width or may not, the test is the state's, and the one byte's place in memory is this
 abbrev pub parts_at : Bool → StackBytes → Option ℕ → InMemory → Present → Read (OneByte × (Option WordPair × Pairs))
 parts_at wide k test place p = both (defaulted no_byte p.byte (byte_at k test place p.bits)) (both (optional p.zero pair_at) (pairs_at wide p))
 

@@ -6,7 +6,7 @@ use Rattle.gb_domain.specs.declared.pairs.WordPair.{WordPair}
 use Rattle.gb_domain.specs.declared.pairs.WordPair.TheVariants.{Bc, De, Hl}
 use Rattle.gb_domain.specs.declared.pairs.Bounds.{Bounds}
 use Rattle.gb_domain.specs.declared.pairs.Other.{Other}
-use Rattle.gb_domain.specs.declared.pairs.Other.TheVariants.{Register as Of, Pair}
+use Rattle.gb_domain.specs.declared.pairs.Other.TheVariants.{Register as Of, Pair, Nothing}
 use Rattle.gb_domain.specs.declared.pairs.Link.{Link}
 use Rattle.gb_domain.specs.declared.pairs.PairFacts.{PairFacts}
 use Rattle.gb_domain.specs.declared.pairs.Pairs.{Pairs}
@@ -16,6 +16,7 @@ use Rattle.gb_domain.specs.declared.rules.Rules.{Rules}
 use Rattle.gb_domain.specs.declared.rules.Rules.TheVariants.{Simple, Extended}
 use Rattle.gb_states.specs.declared.relations.Present.{Present}
 use Rattle.gb_domain.specs.RelationRules.{has_place, bits_of, is_known}
+use Rattle.gb_states.specs.Links.{reads_other}
 use Rattle.gb_states.specs.Numbers.{word, flag}
 
 -- bytes that are there or not
@@ -76,6 +77,11 @@ other_number (Of E) = 4
 other_number (Of H) = 5
 other_number (Of L) = 6
 other_number (Pair p) = 7 + pair_number p
+other_number Nothing = 12
+
+-- The factor, in two's complement. Of what reads nothing else it is 1, and isn't spelled.
+abbrev pub factor : Other → ℕ → List ℕ
+factor other n = where_there (reads_other other) (byte (n % 256))
 
 -- A width of 0 isn't spelled: there is one sum.
 abbrev pub has_width : ℕ → Bool
@@ -84,14 +90,14 @@ has_width width = not (width == 0)
 abbrev pub width : ℕ → List ℕ
 width n = where_there (has_width n) (word n)
 
--- what else a link reads, and 128 more where it has a width
-abbrev pub form_number : Other → ℕ → ℕ
-form_number other width = 128 * flag (has_width width) + (1 + other_number other)
+-- what else a link reads; 64 more where it has a base, and 128 more where it has a width
+abbrev pub form_number : Link → ℕ
+form_number l = 128 * flag (has_width l.width) + (64 * flag (is_some l.base) + (1 + other_number l.other))
 
--- 0, or the form, its factor in two's complement, the sum and the width
+-- 0, or the form, the factor, the base, the sum and the width
 abbrev pub link : Option Link → List ℕ
 link None = 0 ∷ []
-link (Some l) = form_number l.other l.width ∷ l.factor % 256 ∷ (word l.sum ++ width l.width)
+link (Some l) = form_number l ∷ (factor l.other l.factor ++ (optional pair l.base ++ (word l.sum ++ width l.width)))
 
 abbrev pub bounds : Bounds → List ℕ
 bounds b = word b.first ++ word b.last

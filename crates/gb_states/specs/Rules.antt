@@ -12,14 +12,13 @@ use Rattle.gb_domain.specs.declared.types.Cell.{Cell}
 use Rattle.gb_domain.specs.declared.types.Range.{Range}
 use Rattle.gb_domain.specs.declared.rules.Rules.{Rules}
 use Rattle.gb_domain.specs.declared.rules.Rules.TheVariants.{Simple, Extended}
-use Rattle.gb_domain.specs.declared.pairs.Link.{Link}
-use Rattle.gb_domain.specs.declared.pairs.Pairs.{Pairs}
 use Rattle.gb_domain.specs.declared.relations.Relations.{Relations}
 use Rattle.gb_states.specs.declared.role.Role.{Role}
 use Rattle.gb_states.specs.declared.role.Role.TheVariants as role
 pub use Rattle.gb_fields.specs.Rules.{size, fits, is_base_of, is_whole, is_from, is_version}
 use Rattle.gb_domain.specs.Limits.{rules_of, item_room, cell_room}
 use Rattle.gb_domain.specs.RelationRules.{IsRelations, is_test_alone}
+use Rattle.gb_states.specs.Links.{are_linked}
 pub use Rattle.gb_domain.specs.Silent.{is_unshadowed, is_silent}
 use Rattle.gb_fields.specs.Limits.{procedure_limit, node_limit, range_room}
 use Rattle.gb_domain.specs.Areas.{is_area, meets, is_free_byte, IsRegion}
@@ -101,18 +100,11 @@ is_cell_sayable rules c = is_sayable rules c.val
 abbrev pub is_state_sayable : Rules → AbsState → Bool
 is_state_sayable rules s = is_core_sayable rules s.core && (list_all (is_sayable rules) s.items && (list_all (is_cell_sayable rules) s.cells && is_silent s.summary))
 
--- A link without a width has one sum.
-abbrev pub is_exact : Option Link → Bool
-is_exact None = true
-is_exact (Some l) = l.width == 0
-
-abbrev pub are_exact : Pairs → Bool
-are_exact s = is_exact s.bc.link && (is_exact s.de.link && is_exact s.hl.link)
-
--- By the rules of versions 1 and 2 nothing is known of several parts together but a test of A. In version 3 links have no width.
+-- By the rules of versions 1 and 2 nothing is known of several parts together but a test of A. In version 3 links have no base and no
+-- width.
 abbrev pub may_be_known : Rules → Relations → Bool
 may_be_known Simple r = is_test_alone r
-may_be_known Extended r = are_exact r.pairs
+may_be_known Extended r = are_linked false r.pairs
 
 -- A state's parts are such, there are no items without a stack, its items can be counted, and the cells are in order of address.
 pub record IsState (rules : Rules) (role : Role) (region : Region) (s : AbsState) : Type 0 where

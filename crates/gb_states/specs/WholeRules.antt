@@ -30,6 +30,7 @@ use Rattle.gb_domain.specs.Certificate.{Certificate}
 use Rattle.gb_domain.specs.Types.{AbsState, ProcedureParts, Node}
 use Rattle.gb_fields.specs.Limits.{node_limit, range_room, item_limit, procedure_limit_by, fact_limit, fill_limit, kept_room, namesake_limit}
 use Rattle.gb_fields.specs.Rules.{is_any_version, any_rules_of}
+use Rattle.gb_states.specs.Links.{are_linked}
 use Rattle.gb_states.specs.Rules.{size, is_whole, is_unshadowed, needs_stack, may_be_pushed, IsRange, after_range, role_of, fits, is_base_of, is_from, is_after, key, IsProcedure, IsNode, have_entries}
 
 -- ---- values
@@ -184,7 +185,8 @@ item_base base region = if base == 0 then (region.last + 1) % 65536 else base
 abbrev pub stack_bytes : ProcedureForm → Role → Region → ℕ → StackBytes
 stack_bytes form role region count = record { region = region; base = item_base form.base region; count = named_items role count }
 
--- A state of a procedure of this form, in a certificate of so many facts. The one byte may be held by one of its items.
+-- A state of a procedure of this form, in a certificate of so many facts. The one byte may be held by one of its items, and links may
+-- have a base and a width.
 pub record IsStateIn (facts : ℕ) (form : ProcedureForm) (role : Role) (region : Region) (s : AbsState) : Type 0 where
   pub core : IsCoreIn form.kept s.core
   pub stack : (s.core.stack_set || not (needs_stack role)) ≡ true
@@ -194,6 +196,7 @@ pub record IsStateIn (facts : ℕ) (form : ProcedureForm) (role : Role) (region 
   pub cells : IsChain (IsCellIn form.kept region) after_cell 0 s.cells
   pub cell_count : length s.cells ≤ cell_room Extended
   pub relations : IsRelations (is_place_at (stack_bytes form role region (length s.items))) s.relations
+  pub linked : are_linked true s.relations.pairs ≡ true
   pub summary : IsSummary facts region (may_be_aside role s.core) s.summary
 
 -- ---- procedures and nodes

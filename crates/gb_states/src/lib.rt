@@ -3,8 +3,8 @@
 //! in which bytes each of them stands. The key contract is that of `states::state_at`: it gives what
 //! `specs/Reading.antt` says, and this is a state exactly where the bytes spell it (`proofs/StateLaws.antt`).
 //! What a state says of several of its parts together has the same three by itself (`specs/RelationRules.antt`,
-//! `RelationSpelling.antt`, `RelationReading.antt`, `proofs/RelationLaws.antt`), and so have the fields that version 4 alone has, and
-//! certificates of any version (`specs/WholeRules.antt`, `WholeSpelling.antt`, `WholeReading.antt`, `proofs/WholeLaws.antt`; the law of
+//! `Links.antt`, `RelationSpelling.antt`, `RelationReading.antt`, `proofs/PairLaws.antt`, `RelationLaws.antt`), and so have the fields
+//! that version 4 alone has, and certificates of any version (`specs/WholeRules.antt`, `WholeSpelling.antt`, `WholeReading.antt`, `proofs/WholeLaws.antt`; the law of
 //! whole certificates is `gb_cert`'s).
 //!
 //! To be read in this order: role, then fields, states and relations (reading them, over `gb_fields`; what they

@@ -5,7 +5,8 @@ ghost use Rattle.gb_fields.specs.Format.{Gives, optional, byte};
 ghost use Rattle.gb_domain.specs.Pairs.{nothing_known};
 ghost use Rattle.gb_domain.specs.Places.{no_byte};
 ghost use Rattle.gb_domain.specs.RelationRules.{is_known, compared_a, test_alone};
-ghost use Rattle.gb_states.specs.RelationReading.{defaulted, is_present, present_at, to_registers, registers_at, address_at, is_stack_byte, item_address, is_item_number, item_at, is_somewhere, place_by, memory_at, test_of, byte_at, pair_of, pair_at, bounds_at, other_of, is_form, form_at, factor_at, width_at, link_of, link_at, facts_at, pairs_at, parts_at, no_items, relations_at, relations_by};
+ghost use Rattle.gb_states.specs.Links.{reads_other};
+ghost use Rattle.gb_states.specs.RelationReading.{defaulted, is_present, present_at, to_registers, registers_at, address_at, is_stack_byte, item_address, is_item_number, item_at, is_somewhere, place_by, memory_at, test_of, byte_at, pair_of, pair_at, bounds_at, other_of, is_wide_form, is_form, form_at, factor_at, factor_of, width_at, link_of, link_at, facts_at, pairs_at, parts_at, no_items, relations_at, relations_by};
 
 use crate::states::{is_free, is_in_ram};
 use gb_domain::pairs::{Bounds, Link, NOTHING_KNOWN, Other, PairFacts, Pairs, WordPair};
@@ -64,6 +65,15 @@ impl InMemory {
     {
         !matches!(self, InMemory::Nowhere)
     }
+}
+
+/// Which parts a link has.
+#[derive(Clone, Copy)]
+pub struct LinkForm {
+    /// What it reads besides its pair and its base; none where there is no link.
+    pub other: Option<Other>,
+    pub has_base: bool,
+    pub has_width: bool,
 }
 
 // ---- which parts there are
@@ -286,8 +296,8 @@ fn pair_at(bytes: &[u8]) -> Result<(WordPair, &[u8]), CertFault>
     Ok((pair_of(number), rest))
 }
 
-/// The pair that is 0 where Z is set, where it is there.
-fn zero_where(there: bool, bytes: &[u8]) -> Result<(Option<WordPair>, &[u8]), CertFault>
+/// The pair that is 0 where Z is set, or a link's base, where it is there.
+fn pair_where(there: bool, bytes: &[u8]) -> Result<(Option<WordPair>, &[u8]), CertFault>
     ensures { Gives (λ x. (x.0, x.1.now)) result (optional there pair_at bytes.now) }
 {
     if !there {
@@ -323,27 +333,47 @@ fn other_of(number: u8) -> Option<Other>
         7 => Some(Other::Register(Register::L)),
         8 => Some(Other::Pair(WordPair::Bc)),
         9 => Some(Other::Pair(WordPair::De)),
-        _ => Some(Other::Pair(WordPair::Hl)),
+        10 => Some(Other::Pair(WordPair::Hl)),
+        _ => Some(Other::Nothing),
     }
 }
 
-/// Whether a link's form is what else it reads, or, where links may have a width, 128 more.
+/// Whether a link of version 4 has this form: what reads nothing else has a base.
+fn is_wide_form(number: u8) -> bool
+    ensures { result ≡ is_wide_form number }
+{
+    let other = number % 64;
+    1 <= other && other <= 10 || other == 13 && number / 64 % 2 == 1
+}
+
+/// Whether there is such a form, where links may have a base and a width or may not; 0 where there is no link.
 fn is_form(wide: bool, number: u8) -> bool
     ensures { result ≡ is_form wide number }
 {
-    number <= 10 || wide && 129 <= number && number <= 138
+    number <= 10 || wide && is_wide_form(number)
 }
 
-/// What a link reads beside its pair, where there is a link, and whether it has a width.
 #[tactic(auto, unfolding(crate::specs::RelationReading::form_at))]
-fn form_at(wide: bool, bytes: &[u8]) -> Result<((Option<Other>, bool), &[u8]), CertFault>
-    ensures { Gives (λ x. ((x.0.0, x.0.1), x.1.now)) result (form_at wide bytes.now) }
+fn form_at(wide: bool, bytes: &[u8]) -> Result<(LinkForm, &[u8]), CertFault>
+    ensures { Gives (λ x. (x.0, x.1.now)) result (form_at wide bytes.now) }
 {
     let (number, rest) = byte(bytes)?;
     if !is_form(wide, number) {
         return Err(CertFault::Field);
     }
-    Ok(((other_of(number % 128), 128 <= number), rest))
+    let form = LinkForm {
+        other: other_of(number % 64),
+        has_base: number / 64 % 2 == 1,
+        has_width: 128 <= number,
+    };
+    Ok((form, rest))
+}
+
+/// Whether a link reads something besides its pair and its base.
+pub fn reads_other(other: Other) -> bool
+    ensures { result ≡ reads_other other }
+{
+    !matches!(other, Other::Nothing)
 }
 
 /// A factor, which is spelled in two's complement, modulo 65,536.
@@ -360,6 +390,17 @@ fn factor_at(bytes: &[u8]) -> Result<(u16, &[u8]), CertFault>
     Ok((factor, rest))
 }
 
+/// The factor of what is read, 1 where that is nothing.
+fn factor_of(other: Other, bytes: &[u8]) -> Result<(u16, &[u8]), CertFault>
+    ensures { Gives (λ x. (x.0, x.1.now)) result (factor_of other bytes.now) }
+{
+    if reads_other(other) {
+        factor_at(bytes)
+    } else {
+        Ok((1, bytes))
+    }
+}
+
 /// A width, where it is spelled.
 #[tactic(auto, unfolding(crate::specs::RelationReading::width_at))]
 fn width_where(there: bool, bytes: &[u8]) -> Result<(u16, &[u8]), CertFault>
@@ -372,23 +413,21 @@ fn width_where(there: bool, bytes: &[u8]) -> Result<(u16, &[u8]), CertFault>
     }
 }
 
-/// A link, where there is one: its factor, its sum and its width behind its form.
-fn link_of(
-    other: Option<Other>,
-    has_width: bool,
-    bytes: &[u8],
-) -> Result<(Option<Link>, &[u8]), CertFault>
-    ensures { Gives (λ x. (x.0, x.1.now)) result (link_of other has_width bytes.now) }
+/// A link, where there is one: its factor, its base, its sum and its width, after its form.
+fn link_of(form: LinkForm, bytes: &[u8]) -> Result<(Option<Link>, &[u8]), CertFault>
+    ensures { Gives (λ x. (x.0, x.1.now)) result (link_of form.other form.has_base form.has_width bytes.now) }
 {
-    let Some(other) = other else {
+    let Some(other) = form.other else {
         return Ok((None, bytes));
     };
-    let (factor, rest) = factor_at(bytes)?;
+    let (factor, rest) = factor_of(other, bytes)?;
+    let (base, rest) = pair_where(form.has_base, rest)?;
     let (sum, rest) = word(rest)?;
-    let (width, rest) = width_where(has_width, rest)?;
+    let (width, rest) = width_where(form.has_width, rest)?;
     let link = Link {
         other,
         factor,
+        base,
         sum,
         width,
     };
@@ -399,8 +438,8 @@ fn link_of(
 fn link_at(wide: bool, bytes: &[u8]) -> Result<(Option<Link>, &[u8]), CertFault>
     ensures { Gives (λ x. (x.0, x.1.now)) result (link_at wide bytes.now) }
 {
-    let ((other, has_width), rest) = form_at(wide, bytes)?;
-    link_of(other, has_width, rest)
+    let (form, rest) = form_at(wide, bytes)?;
+    link_of(form, rest)
 }
 
 /// Whether a pair isn't any word, or has a link.
@@ -449,8 +488,8 @@ fn pairs_at(wide: bool, present: Present, bytes: &[u8]) -> Result<(Pairs, &[u8])
 /// One byte's places, what is zero, and the pairs.
 pub(crate) type Parts = (OneByte, (Option<WordPair>, Pairs));
 
-/// Those parts that there are; links may have a width or may not, the test is the state's, and the one byte's place in memory is
-/// this.
+/// Those parts that there are; links may have a base and a width or may not, the test is the state's, and the one byte's place in
+/// memory is this.
 pub(crate) fn parts_at(
     wide: bool,
     stack: StackBytes,
@@ -462,7 +501,7 @@ pub(crate) fn parts_at(
     ensures { Gives (λ x. (x.0, x.1.now)) result (parts_at wide stack test place present bytes.now) }
 {
     let (byte, rest) = byte_where(stack, test, place, present, bytes)?;
-    let (zero, rest) = zero_where(present.zero, rest)?;
+    let (zero, rest) = pair_where(present.zero, rest)?;
     let (pairs, rest) = pairs_at(wide, present, rest)?;
     Ok(((byte, (zero, pairs)), rest))
 }

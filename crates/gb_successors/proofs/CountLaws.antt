@@ -1,5 +1,5 @@
 -- How many items the states behind an instruction hold.
-use Rattle.std.proofs.Common.{◌≡◌, ℕ, ◌+◌, ◌-◌, Bool, true, false, cond, nat_lt, List, [], ◌∷◌, length, length-append, Option, Some, None, refl, ◌∙◌}
+use Rattle.std.proofs.Common.{◌≡◌, ℕ, ◌+◌, Bool, true, false, cond, nat_lt, [], ◌∷◌, length, length-append, Option, Some, None, refl, ◌∙◌}
 use Rattle.gb_ops.specs.declared.machine.Kind.{Kind}
 use Rattle.gb_ops.specs.declared.machine.Region.{Region}
 use Rattle.gb_domain.specs.declared.relations.Relations.{Relations}
@@ -27,10 +27,9 @@ use Rattle.gb_successors.specs.declared.stacks.StackMove.TheVariants as move
 use Rattle.gb_successors.specs.declared.way.Moved.{Moved}
 use Rattle.gb_successors.specs.declared.way.Told.{Told}
 use Rattle.gb_successors.specs.Behind.{behind, written, with_cell_if, moved_state, state_behind, told_behind}
-use Rattle.gb_successors.specs.Stacks.{pushed_if_room, appended_if_room, set_if_room, with_aside, begun_anew, with_stack_moved, count_behind, in_room}
+use Rattle.gb_successors.specs.Stacks.{pushed_if_room, appended_if_room, set_if_room, with_aside, begun_anew, with_stack_moved, count_behind}
 use Rattle.gb_successors.proofs.HoldingLaws.{told_count}
 use Rattle.gb_successors.proofs.StackMovedLaws.{length-taken, length-appended, length-resized}
-use Rattle.gb_successors.proofs.ToldLaws.{told_items}
 
 stored_count : (z : Setting) (region : Region) (k : Kind) (span : Span) (v : Val) (s : AbsState) → length (stored_state z region k span v s).items ≡ length s.items
 unfolding stored_state ram_stored

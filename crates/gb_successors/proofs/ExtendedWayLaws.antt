@@ -10,6 +10,7 @@ use Rattle.gb_ops.specs.declared.op.Row.{Row}
 use Rattle.gb_ops.specs.Machine.{executed, advanced}
 use Rattle.gb_ops.specs.Play.{MState, within, outside}
 use Rattle.gb_domain.specs.declared.pairs.Bounds.{Bounds}
+use Rattle.gb_domain.specs.declared.pairs.PairBounds.{PairBounds}
 use Rattle.gb_domain.specs.declared.relations.Relations.{Relations}
 use Rattle.gb_domain.specs.declared.low_bits.LowBits.{LowBits}
 use Rattle.gb_domain.specs.declared.rules.Rules.{Rules}
@@ -51,6 +52,8 @@ use Rattle.gb_abs_memory.specs.Kept.{IsKept}
 use Rattle.gb_product.specs.declared.parts.Branch.{Branch}
 use Rattle.gb_product.specs.declared.parts.Product.{Product}
 use Rattle.gb_product.specs.Below.gb_pairs.Meaning.{AreBytes}
+use Rattle.gb_product.specs.Below.gb_pairs.Reduced as Pairs
+use Rattle.gb_product.specs.Below.gb_pairs.Sound.{AreWithin}
 use Rattle.gb_product.specs.Below.gb_relations.Sound.{IsBytePlaced}
 use Rattle.gb_product.specs.Held.{stack_held}
 use Rattle.gb_product.specs.Sound.{HoldsCell}
@@ -61,11 +64,12 @@ use Rattle.gb_successors.specs.declared.way.Told.{Told}
 use Rattle.gb_successors.specs.Settled.{cell_outside, told_by, branch_outside, told_successor, held_successor}
 use Rattle.gb_successors.proofs.AccessLaws.{WritesInTurn}
 use Rattle.gb_successors.proofs.HoldingLaws.{LeadsWidely-related, to_widely, from_widely, told_right, Leads-settled, settled_is, settled_count}
-use Rattle.gb_product.specs.Meaning.{AreRelated}
-use Rattle.gb_product.specs.Reduced.{product_of, reduced}
+use Rattle.gb_product.specs.Meaning.{entered_with, AreRelated}
+use Rattle.gb_product.specs.Reduced.{product_of, with_values_if, reduced}
 use Rattle.gb_product.specs.Sides.{side_where, taken_side, not_taken_side}
 use Rattle.gb_product.specs.Sound.{IsKnown, IsMeantProduct, IsMeantBranch, MeansBranch, MeansProduct, IsReduced, IsSideOf}
-use Rattle.gb_product.proofs.MeaningLaws.{AreBytes-core}
+use Rattle.gb_product.proofs.MeaningLaws.{AreBytes-core, MeansCore-cut}
+use Rattle.gb_product.proofs.Below.gb_abs_effects_laws.CoreLaws.{In-from}
 use Rattle.gb_product.proofs.ReducedLaws.{reduced_sound, reduced_cuts, Holds-values}
 use Rattle.gb_product.proofs.SideLaws.{taken_side_sound, not_taken_side_sound, taken_side_cuts, not_taken_side_cuts}
 use Rattle.gb_successors.specs.declared.stacks.Around.{Around}
@@ -80,10 +84,11 @@ use Rattle.gb_successors.specs.Refined.{cut_read, cut_write, refined}
 use Rattle.gb_successors.specs.Refused.{meets_closed, meets_oam_transfer}
 use Rattle.gb_successors.specs.Stacks.{around_of, extended, stack_move}
 use Rattle.gb_ops.specs.Pointers.{pointer_of}
+use Rattle.gb_ops.specs.Registers.{get}
 use Rattle.gb_successors.specs.Summaries.{pointed_bits, summary_by}
 use Rattle.gb_successors.specs.Way.{Successor}
 use Rattle.gb_successors.specs.Successors.{pointer_in, read_in, word_in, effect_in, taken_move, taken_parts, related_successor, relations_behind, said_successor, summary_behind, taken_successor, untaken_successor, with_product, reduced_successor, product_before, taken_by_side, not_taken_by_side, taken_from, not_taken_from, successors_of, memory_before, bits_in}
-use Rattle.gb_successors.specs.Sound.{IsReady, IsAllowed, IsFound, IsStackFit, bytes_moved, IsHeld, IsStackRuled, is_followed, LeadsWidely, LeadsTo, Leads, Stands, IsRuled, Executes}
+use Rattle.gb_successors.specs.Sound.{IsReady, IsAllowed, IsFound, IsStackFit, bytes_moved, IsHeld, IsStackRuled, is_followed, LeadsWidely, Leads, Stands, IsRuled, Executes}
 use Rattle.gb_successors.proofs.AroundLaws.{located-same}
 use Rattle.gb_successors.proofs.SimpleLaws.{behind_row, IsTold, same_word, same_sp}
 use Rattle.gb_successors.proofs.ToldLaws.{told_core, told_items, IsToldCell, IsToldCell-side, Stands-told, IsAllowed-told, IsNoPop, IsNoPop-taken, IsNoPop-outside, IsTold-around, IsTold-outside, IsTold-taken, IsVal-memory_before, held_before}
@@ -104,50 +109,73 @@ use Rattle.gb_successors.proofs.StackMarkLaws.{marked_write_not}
 
 -- ---- the states behind, reduced
 
--- the machine that a successor leads to is one that its reduced states mean
+-- registers that are cut in this procedure are so in any other where they are copies of what they were before
+core_narrowed :
+    (rules : Rules) (entered : PairBounds) (core : Core) (r : Relations) (p : Product) (entry other : Activation) (y : MState) → reduced rules entered core r ≡ Some p
+    → IsReduced core r p → MeansCore p.core entry y → MeansCore core other y → MeansCore p.core other y
+unfolding reduced
+core_narrowed rules entered core r p entry other y e cut m n = by_rules rules e
+  where
+    same_product : (p q : Product) → Some p ≡ Some q → p ≡ q
+    same_product p q f = cc
+
+    by : (o : Option Values) → with_values_if core r o ≡ Some p → MeansCore p.core other y
+    by None f = absurd (let bad : None ≡ Some p = f in cc)
+    by (Some v) f =
+        subst (λ (q : Product). IsReduced core r q → MeansCore q.core entry y → MeansCore q.core other y) (same_product _ p f)
+        (λ is held. MeansCore-cut core v.registers other y (λ q. In-from (get q v.registers) entry (get q y.processor.registers) (held.registers q)) is.core.origin n)
+        cut m
+
+    by_rules : (q : Rules) → reduced q entered core r ≡ Some p → MeansCore p.core other y
+    by_rules Simple f = subst (λ (q : Product). MeansCore q.core other y) (same_product _ p f) n
+    by_rules Extended f = by (Pairs.reduced entered (values_of core.registers r.pairs)) f
+
+-- the machine that a successor leads to is one that its reduced states mean, in any procedure of which the states are
 pub MeansParts-narrowed :
-    (z : Setting) (t : Successor) (p : Product) (entry : Activation) (base : ℕ) (y : MState) → reduced z.rules t.state.core t.state.relations ≡ Some p → ArePairs t.state.relations.pairs
-    → AreBytes y.processor.registers → AreRelated t.state.relations y → MeansParts t.state entry base y → MeansParts (with_product t p).state entry base y
-MeansParts-narrowed z t p entry base y e are bytes related m =
-    let meant : MeansProduct p entry y = (reduced_sound z.rules t.state.core t.state.relations (Some p) (sym e) are).gives entry y bytes m.core related in
-    let cut : IsReduced t.state.core t.state.relations p = reduced_cuts z.rules t.state.core t.state.relations (Some p) (sym e) in
-    MeansParts-related p.relations (with_core t.state p.core) entry base y
-    (MeansParts-with_core t.state p.core entry base y y m meant.core refl refl refl (λ set. sym cut.core.stack_set ∙ set))
+    (z : Setting) (t : Successor) (p : Product) (entry other : Activation) (base : ℕ) (y : MState) → reduced z.rules z.entered t.state.core t.state.relations ≡ Some p → ArePairs t.state.relations.pairs
+    → AreWithin z.entered (entered_with entry) → AreBytes y.processor.registers → AreRelated t.state.relations entry y
+    → MeansCore t.state.core entry y → MeansParts t.state other base y → MeansParts (with_product t p).state other base y
+MeansParts-narrowed z t p entry other base y e are within bytes related core m =
+    let meant : MeansProduct p entry y = (reduced_sound z.rules z.entered t.state.core t.state.relations (Some p) (sym e) are).gives entry y within bytes core related in
+    let cut : IsReduced t.state.core t.state.relations p = reduced_cuts z.rules z.entered t.state.core t.state.relations (Some p) (sym e) in
+    MeansParts-related p.relations (with_core t.state p.core) other base y
+    (MeansParts-with_core t.state p.core other base y y m
+    (core_narrowed z.rules z.entered t.state.core t.state.relations p entry other y e cut meant.core m.core) refl refl refl (λ set. sym cut.core.stack_set ∙ set))
 
 pub LeadsWidely-narrowed :
-    (z : Setting) (region : Region) (w : Target) (t : Successor) (p : Product) (entry : Activation) (base : ℕ) (y : MState) → reduced z.rules t.state.core t.state.relations ≡ Some p → ArePairs t.state.relations.pairs
-    → AreBytes y.processor.registers → AreRelated t.state.relations y → LeadsWidely z region w t entry base y → LeadsWidely z region w (with_product t p) entry base y
-LeadsWidely-narrowed z region (target.At a) t p entry base y e are bytes related h =
-    record { means = MeansParts-narrowed z t p entry base y e are bytes related h.means; goes = h.goes; room = h.room }
-LeadsWidely-narrowed z region (target.Call a) t p entry base y e are bytes related h =
+    (z : Setting) (region : Region) (w : Target) (t : Successor) (p : Product) (entry : Activation) (base : ℕ) (y : MState) → reduced z.rules z.entered t.state.core t.state.relations ≡ Some p → ArePairs t.state.relations.pairs
+    → AreWithin z.entered (entered_with entry) → AreBytes y.processor.registers → AreRelated t.state.relations entry y → LeadsWidely z region w t entry base y → LeadsWidely z region w (with_product t p) entry base y
+LeadsWidely-narrowed z region (target.At a) t p entry base y e are within bytes related h =
+    record { means = MeansParts-narrowed z t p entry entry base y e are within bytes related h.means.core h.means; goes = h.goes; room = h.room }
+LeadsWidely-narrowed z region (target.Call a) t p entry base y e are within bytes related h =
     record {
-      means = MeansParts-narrowed z t p entry base y e are bytes related h.means;
+      means = MeansParts-narrowed z t p entry entry base y e are within bytes related h.means.core h.means;
       goes = h.goes;
       room = h.room;
-      located = located-same t.state.summary.aside p.core.stack_set t.state.core.stack_set (reduced_cuts z.rules t.state.core t.state.relations (Some p) (sym e)).core.stack_set h.located;
+      located = located-same t.state.summary.aside p.core.stack_set t.state.core.stack_set (reduced_cuts z.rules z.entered t.state.core t.state.relations (Some p) (sym e)).core.stack_set h.located;
       next = h.next;
       top = h.top;
       placed = h.placed;
     }
-LeadsWidely-narrowed z region target.Return t p entry base y e are bytes related h =
-    record { means = MeansParts-narrowed z t p entry base y e are bytes related h.means; goes = h.goes; room = h.room; procedure = h.procedure }
-LeadsWidely-narrowed z region (target.Main a) t p entry base y e are bytes related h =
-    record { means = λ other same. MeansParts-narrowed z t p other (region.last + 1) y e are bytes related (h.means other same); goes = h.goes; room = h.room }
-LeadsWidely-narrowed z region target.Unknown t p entry base y e are bytes related h = tt
-LeadsWidely-narrowed z region target.Lost t p entry base y e are bytes related h = tt
+LeadsWidely-narrowed z region target.Return t p entry base y e are within bytes related h =
+    record { means = MeansParts-narrowed z t p entry entry base y e are within bytes related h.means.core h.means; goes = h.goes; room = h.room; procedure = h.procedure }
+LeadsWidely-narrowed z region (target.Main a) t p entry base y e are within bytes related h =
+    record { means = λ other same. MeansParts-narrowed z t p entry other (region.last + 1) y e are within bytes related (h.means entry refl).core (h.means other same); goes = h.goes; room = h.room }
+LeadsWidely-narrowed z region target.Unknown t p entry base y e are within bytes related h = tt
+LeadsWidely-narrowed z region target.Lost t p entry base y e are within bytes related h = tt
 
 -- what is known together holds, where it is said where the machine is
 related_narrowed :
-    (z : Setting) (region : Region) (w : Target) (t : Successor) (p : Product) (entry : Activation) (base : ℕ) (y : MState) → reduced z.rules t.state.core t.state.relations ≡ Some p → ArePairs t.state.relations.pairs
-    → AreBytes y.processor.registers → AreRelated t.state.relations y → LeadsWidely z region w t entry base y → is_followed Extended w ≡ true → AreRelated p.relations y
-related_narrowed z region w t p entry base y e are bytes related h followed = by w h followed
+    (z : Setting) (region : Region) (w : Target) (t : Successor) (p : Product) (entry : Activation) (base : ℕ) (y : MState) → reduced z.rules z.entered t.state.core t.state.relations ≡ Some p → ArePairs t.state.relations.pairs
+    → AreWithin z.entered (entered_with entry) → AreBytes y.processor.registers → AreRelated t.state.relations entry y → LeadsWidely z region w t entry base y → is_followed Extended w ≡ true → AreRelated p.relations entry y
+related_narrowed z region w t p entry base y e are within bytes related h followed = by w h followed
   where
-    of_core : MeansCore t.state.core entry y → AreRelated p.relations y
+    of_core : MeansCore t.state.core entry y → AreRelated p.relations entry y
     of_core m =
-        let meant : MeansProduct p entry y = (reduced_sound z.rules t.state.core t.state.relations (Some p) (sym e) are).gives entry y bytes m related in
+        let meant : MeansProduct p entry y = (reduced_sound z.rules z.entered t.state.core t.state.relations (Some p) (sym e) are).gives entry y within bytes m related in
         meant.related
 
-    by : (v : Target) → LeadsWidely z region v t entry base y → is_followed Extended v ≡ true → AreRelated p.relations y
+    by : (v : Target) → LeadsWidely z region v t entry base y → is_followed Extended v ≡ true → AreRelated p.relations entry y
     by (target.At a) k f = of_core k.means.core
     by (target.Call a) k f = of_core k.means.core
     by target.Return k f = of_core k.means.core
@@ -156,15 +184,15 @@ related_narrowed z region w t p entry base y e are bytes related h followed = by
     by target.Lost k f = cc
 
 pub Leads-narrowed :
-    (z : Setting) (region : Region) (ranges : List Range) (t : Successor) (p : Product) (entry : Activation) (base : ℕ) (x y : MState) → z.rules ≡ Extended → reduced z.rules t.state.core t.state.relations ≡ Some p
-    → ArePairs t.state.relations.pairs → AreBytes y.processor.registers → AreRelated t.state.relations y
+    (z : Setting) (region : Region) (ranges : List Range) (t : Successor) (p : Product) (entry : Activation) (base : ℕ) (x y : MState) → z.rules ≡ Extended → reduced z.rules z.entered t.state.core t.state.relations ≡ Some p
+    → ArePairs t.state.relations.pairs → AreWithin z.entered (entered_with entry) → AreBytes y.processor.registers → AreRelated t.state.relations entry y
     → LeadsWidely z region t.target t entry base y → ((b : ℕ) → IsKept z region ranges base b → peek y.storage b ≡ peek x.storage b)
     → LeadsRelated z region ranges (with_product t p) entry base x y
-Leads-narrowed z region ranges t p entry base x y extended e are bytes related to kept =
+Leads-narrowed z region ranges t p entry base x y extended e are within bytes related to kept =
     record {
-      to = to_widely z region t.target (with_product t p) entry base x y extended (LeadsWidely-narrowed z region t.target t p entry base y e are bytes related to);
+      to = to_widely z region t.target (with_product t p) entry base x y extended (LeadsWidely-narrowed z region t.target t p entry base y e are within bytes related to);
       kept = kept;
-      related = λ followed. related_narrowed z region t.target t p entry base y e are bytes related to (subst (λ r. is_followed r t.target ≡ true) extended followed);
+      related = λ followed. related_narrowed z region t.target t p entry base y e are within bytes related to (subst (λ r. is_followed r t.target ≡ true) extended followed);
     }
 
 -- ---- what is known before
@@ -172,19 +200,19 @@ Leads-narrowed z region ranges t p entry base x y extended e are bytes related t
 -- the states before, reduced
 pub record Before (k : Stack) (s : AbsState) (entry : Activation) (x : MState) : Type 0 where
   pub product : Product
-  pub is : product_before k.setting.rules s ≡ Some product
+  pub is : product_before k.setting.rules k.setting.entered s ≡ Some product
   pub means : MeansProduct product entry x
   pub cut : IsReduced (core_settle s.core) s.relations product
 
 pub before_of :
-    (k : Stack) (s : AbsState) (entry : Activation) (x : MState) → IsCore s.core → ArePairs s.relations.pairs → MeansCore (core_settle s.core) entry x → AreRelated s.relations x → Before k s entry x
+    (k : Stack) (s : AbsState) (entry : Activation) (x : MState) → IsCore s.core → ArePairs s.relations.pairs → AreWithin k.setting.entered (entered_with entry) → MeansCore (core_settle s.core) entry x → AreRelated s.relations entry x → Before k s entry x
 unfolding product_before
-before_of k s entry x core are m related =
-    by (reduced k.setting.rules (core_settle s.core) s.relations) refl
-    ((reduced_sound k.setting.rules (core_settle s.core) s.relations _ refl are).gives entry x (AreBytes-core (core_settle s.core) entry x (IsCore-settle s.core core) m) m related)
-    (reduced_cuts k.setting.rules (core_settle s.core) s.relations _ refl)
+before_of k s entry x core are within m related =
+    by (reduced k.setting.rules k.setting.entered (core_settle s.core) s.relations) refl
+    ((reduced_sound k.setting.rules k.setting.entered (core_settle s.core) s.relations _ refl are).gives entry x within (AreBytes-core (core_settle s.core) entry x (IsCore-settle s.core core) m) m related)
+    (reduced_cuts k.setting.rules k.setting.entered (core_settle s.core) s.relations _ refl)
   where
-    by : (o : Option Product) → reduced k.setting.rules (core_settle s.core) s.relations ≡ o → IsMeantProduct o entry x → IfSome o (IsReduced (core_settle s.core) s.relations) → Before k s entry x
+    by : (o : Option Product) → reduced k.setting.rules k.setting.entered (core_settle s.core) s.relations ≡ o → IsMeantProduct o entry x → IfSome o (IsReduced (core_settle s.core) s.relations) → Before k s entry x
     by None e h cut = absurd h
     by (Some p) e h cut = record { product = p; is = e; means = h; cut = cut }
 
@@ -353,22 +381,22 @@ some_of None h = cc
 -- ---- executed
 
 stack_ruled :
-    (k : Stack) (program : Program) (rom : List ℕ) (row : Row) (a : ℕ) (s : AbsState) (base : ℕ) (p : Product) (t : Successor) → k.setting.rules ≡ Extended → product_before k.setting.rules s ≡ Some p
+    (k : Stack) (program : Program) (rom : List ℕ) (row : Row) (a : ℕ) (s : AbsState) (base : ℕ) (p : Product) (t : Successor) → k.setting.rules ≡ Extended → product_before k.setting.rules k.setting.entered s ≡ Some p
     → (successors_of k program rom row a s).taken ≡ Some t → IsRuled k program rom row a s base → IsReady k row.op (taken_move k program rom row (behind_row a row) s p) s base
 stack_ruled k program rom row a s base p t e is way h =
     let ruled : IsStackRuled Extended k program rom row a s base = subst (λ r. IsStackRuled r k program rom row a s base) e h.stack in
-    ruled (ap is_some way) p (subst (λ r. product_before r s ≡ Some p) e is)
+    ruled (ap is_some way) p (subst (λ r. product_before r k.setting.entered s ≡ Some p) e is)
 
 -- as many are held as the move leaves
 held_taken :
-    (k : Stack) (program : Program) (rom : List ℕ) (row : Row) (a : ℕ) (s : AbsState) (t : Successor) (p : Product) → k.setting.rules ≡ Extended → product_before k.setting.rules s ≡ Some p
+    (k : Stack) (program : Program) (rom : List ℕ) (row : Row) (a : ℕ) (s : AbsState) (t : Successor) (p : Product) → k.setting.rules ≡ Extended → product_before k.setting.rules k.setting.entered s ≡ Some p
     → (successors_of k program rom row a s).taken ≡ Some t → length t.state.items ≡ bytes_moved (taken_move k program rom row (behind_row a row) s p) (length s.items) → IsHeld k.setting.rules k program rom row a s t
 held_taken k program rom row a s t p e is way h =
     subst (λ r. IsHeld r k program rom row a s t) (sym e)
     (inr (
       way,
       λ q same.
-          subst (λ (v : Product). length t.state.items ≡ bytes_moved (taken_move k program rom row (behind_row a row) s v) (length s.items)) (same_product p q (sym (subst (λ r. product_before r s ≡ Some p) e is) ∙ same)) h,
+          subst (λ (v : Product). length t.state.items ≡ bytes_moved (taken_move k program rom row (behind_row a row) s v) (length s.items)) (same_product p q (sym (subst (λ r. product_before r k.setting.entered s ≡ Some p) e is) ∙ same)) h,
     ))
   where
     same_product : (p q : Product) → Some p ≡ Some q → p ≡ q
@@ -395,7 +423,7 @@ IsAllowed-settled k rom ranges s base o core t e h =
     record { stores = h.stores; ram = h.ram; oam_transfer = h.oam_transfer; stack = subst (λ q. IsStackFit q k.region t.target s t base) (sym e) found }
 
 pub taken_way :
-    (k : Stack) (program : Program) (rom : List ℕ) (row : Row) (a : ℕ) (s : AbsState) (p : Product) (b : Branch) (t : Successor) → product_before k.setting.rules s ≡ Some p
+    (k : Stack) (program : Program) (rom : List ℕ) (row : Row) (a : ℕ) (s : AbsState) (p : Product) (b : Branch) (t : Successor) → product_before k.setting.rules k.setting.entered s ≡ Some p
     → taken_side row.op (memory_before k program s p) p.core p.relations ≡ Some b → taken_by_side k program rom row (behind_row a row) s b ≡ Some t
     → (successors_of k program rom row a s).taken ≡ Some t
 unfolding successors_of
@@ -404,7 +432,7 @@ taken_way k program rom row a s p b t before side is =
     ∙ (ap (option_and_then (taken_by_side k program rom row (behind_row a row) s)) side ∙ is)
 
 untaken_way :
-    (k : Stack) (program : Program) (rom : List ℕ) (row : Row) (a : ℕ) (s : AbsState) (p : Product) (b : Branch) (t : Successor) → product_before k.setting.rules s ≡ Some p
+    (k : Stack) (program : Program) (rom : List ℕ) (row : Row) (a : ℕ) (s : AbsState) (p : Product) (b : Branch) (t : Successor) → product_before k.setting.rules k.setting.entered s ≡ Some p
     → not_taken_side row.op (memory_before k program s p) p.core p.relations ≡ Some b → not_taken_by_side k row (behind_row a row) s b ≡ Some t
     → (successors_of k program rom row a s).not_taken ≡ Some t
 unfolding successors_of
@@ -412,9 +440,9 @@ untaken_way k program rom row a s p b t before side is =
     ap (option_and_then (not_taken_from k program row (behind_row a row) s)) before
     ∙ (ap (option_and_then (not_taken_by_side k row (behind_row a row) s)) side ∙ is)
 
-pub reduced_way : (rules : Rules) (t : Successor) (p : Product) → reduced rules t.state.core t.state.relations ≡ Some p → reduced_successor rules t ≡ Some (with_product t p)
+pub reduced_way : (rules : Rules) (entered : PairBounds) (t : Successor) (p : Product) → reduced rules entered t.state.core t.state.relations ≡ Some p → reduced_successor rules entered t ≡ Some (with_product t p)
 unfolding reduced_successor
-reduced_way rules t p e = ap (option_map (with_product t)) e
+reduced_way rules entered t p e = ap (option_map (with_product t)) e
 
 -- the successor by its parts
 summary_told :
@@ -453,11 +481,11 @@ executed_at c k = executed_is c.rom c.machine c.row c.reads ∙ ap (left_by c.ro
 
 -- an instruction that is taken leads by the successor, reduced
 Leads-at :
-    (c : Situation) (p : Product) → IsTakenIn c → reduced c.stack.setting.rules (parts_at c).state.core (related_at c) ≡ Some p → DoneAt c
+    (c : Situation) (p : Product) → IsTakenIn c → reduced c.stack.setting.rules c.stack.setting.entered (parts_at c).state.core (related_at c) ≡ Some p → DoneAt c
     → LeadsRelated c.stack.setting c.stack.region c.ranges (with_product (related_successor (related_at c) (parts_at c)) p) c.entry c.base c.machine (left_at c)
 Leads-at c p k e d =
     let r : Relations = related_at c in
-    Leads-narrowed c.stack.setting c.stack.region c.ranges (related_successor r (parts_at c)) p c.entry c.base c.machine (left_at c) k.extended e (pairs_behind c k)
+    Leads-narrowed c.stack.setting c.stack.region c.ranges (related_successor r (parts_at c)) p c.entry c.base c.machine (left_at c) k.extended e (pairs_behind c k) k.stands.within
     (bytes_behind_it c (given_at c).low (given_at c).high k (given_by c k d.loads)) d.leaves.related
     (LeadsWidely-related c.stack.setting c.stack.region (parts_at c).target r (parts_at c) c.entry c.base (left_at c) d.to) d.leaves.kept
 
@@ -511,7 +539,7 @@ cell_left c k done (Some d) conditional place h = subst (λ n. Holds d.val c.ent
 taken_executes :
     (k : Stack) (rom : List ℕ) (row : Row) (a : ℕ) (s : AbsState) (ranges : List Range) (entry : Activation) (base : ℕ) (x : MState) (reads : List ℕ) (p : Product) (b : Branch)
     → k.setting.rules ≡ Extended → entry.mark ≡ address_below base k.mark → Stands k.setting rom k.region row a s entry base x → IsRuled k entry.program rom row a s base → x.processor.halt_mark ≡ false → slice_index reads 0 ≤ 255 → slice_index reads 1 ≤ 255
-    → product_before k.setting.rules s ≡ Some p → IsReduced (core_settle s.core) s.relations p → taken_side row.op (memory_before k entry.program s p) p.core p.relations ≡ Some b → MeansBranch b entry (begun row x)
+    → product_before k.setting.rules k.setting.entered s ≡ Some p → IsReduced (core_settle s.core) s.relations p → taken_side row.op (memory_before k entry.program s p) p.core p.relations ≡ Some b → MeansBranch b entry (begun row x)
     → (effect rom row x reads).is_taken ≡ true
     → Executes k entry.program rom ranges row a s (successors_of k entry.program rom row a s) entry base x reads
 taken_executes k rom row a s ranges entry base x reads p b extended marked stands ruled mark byte second before cut side meant taken =
@@ -542,11 +570,11 @@ taken_executes k rom row a s ranges entry base x reads p b extended marked stand
     taken_told k entry.program rom row (behind_row a row) s o
     (IsNoPop-outside k.region b.cell row.op (IsNoPop-taken row.op (memory_before k entry.program s p) p.core p.relations b side))
     (IsTold-outside k.region b.cell (read_of row.op b.core) (IsTold-taken row.op (memory_before k entry.program s p) p.core b.core p.relations b side)) in
-    let way : (q : Product) → reduced k.setting.rules (parts_at c).state.core (related_at c) ≡ Some q → (successors_of k entry.program rom row a s).taken ≡ Some (settled q) =
+    let way : (q : Product) → reduced k.setting.rules k.setting.entered (parts_at c).state.core (related_at c) ≡ Some q → (successors_of k entry.program rom row a s).taken ≡ Some (settled q) =
     λ q e.
     taken_way k entry.program rom row a s p b (settled q) before side
     (settled_is k b.cell s.core (taken_successor k entry.program rom row (behind_row a row) s o) (inner q) extended
-    (ap (reduced_successor k.setting.rules) parts_are ∙ reduced_way k.setting.rules (said_successor m (related_successor (related_at c) (parts_at c))) q e)
+    (ap (reduced_successor k.setting.rules k.setting.entered) parts_are ∙ reduced_way k.setting.rules k.setting.entered (said_successor m (related_successor (related_at c) (parts_at c))) q e)
     (ap (λ (t : Successor). t.target) parts_are)) in
     let t : IsTakenIn c = record {
       stands = Stands-told k.setting rom k.region row a o.cell s entry base x cell stands;
@@ -555,7 +583,7 @@ taken_executes k rom row a s ranges entry base x reads p b extended marked stand
       runs = ruled.runs;
       marked = marked;
       ready = λ meant.
-          let some = some_of (reduced k.setting.rules (parts_at c).state.core (related_at c)) meant in
+          let some = some_of (reduced k.setting.rules k.setting.entered (parts_at c).state.core (related_at c)) meant in
           subst (λ m. IsReady k row.op m told base) (sym same)
           (IsReady-told k row.op _ o.cell s base (stack_ruled k entry.program rom row a s base p (settled some.0) extended before (way some.0 some.1) ruled));
       mark = mark;
@@ -620,7 +648,7 @@ cell_stays (Some d) entry x y same h = subst (λ n. Holds d.val entry n) (sym (s
 untaken_leads :
     (k : Stack) (program : Program) (rom : List ℕ) (row : Row) (a : ℕ) (s : AbsState) (ranges : List Range) (entry : Activation) (base : ℕ) (x : MState) (reads : List ℕ) (p : Product) (b : Branch)
     → k.setting.rules ≡ Extended → Stands k.setting rom k.region row a s entry base x → IsRuled k program rom row a s base → x.processor.halt_mark ≡ false
-    → product_before k.setting.rules s ≡ Some p → IsReduced (core_settle s.core) s.relations p → not_taken_side row.op (memory_before k program s p) p.core p.relations ≡ Some b → MeansBranch b entry (begun row x)
+    → product_before k.setting.rules k.setting.entered s ≡ Some p → IsReduced (core_settle s.core) s.relations p → not_taken_side row.op (memory_before k program s p) p.core p.relations ≡ Some b → MeansBranch b entry (begun row x)
     → (effect rom row x reads).is_taken ≡ false
     → Executes k program rom ranges row a s (successors_of k program rom row a s) entry base x reads
 untaken_leads k program rom row a s ranges entry base x reads p b extended stands ruled mark before cut side meant not_taken =
@@ -638,15 +666,15 @@ untaken_leads k program rom row a s ranges entry base x reads p b extended stand
     let core : IsCore b.core = is.inhabited (cut.inhabited (IsCore-settle s.core stands.core)) in
     let done = untaken_executes k.setting rom k.region ranges row a told entry base x reads b.core b.relations (Stands-told k.setting rom k.region row a o.cell s entry base x cell stands) ruled.runs mark keeps meant.core meant.related not_taken in
     let to : LeadsWidely k.setting k.region (target.At (behind_row a row)) t entry base y = from_widely k.setting k.region (target.At (behind_row a row)) t entry base x y extended done.0.to in
-    let related : AreRelated b.relations y = done.0.related (followed_at k.setting.rules (behind_row a row)) in
+    let related : AreRelated b.relations entry y = done.0.related (followed_at k.setting.rules (behind_row a row)) in
     let bytes : AreBytes y.processor.registers = AreBytes-core t.state.core entry y (IsCore-untaken row (behind_row a row) told b.core b.relations core) to.means.core in
-    let some = some_reduced k.setting.rules t.state.core b.relations y.processor.registers are bytes (Holds-values t.state.core b.relations entry y to.means.core related) in
+    let some = some_reduced k.setting.rules k.setting.entered t.state.core b.relations (entered_with entry) y.processor.registers are stands.within bytes (Holds-values t.state.core b.relations entry y to.means.core related) in
     let inner : Successor = with_product t some.product in
     record {
       successor = held_successor k (told_successor (told_by Extended k b.cell) s.core inner);
       is_one = inr (inl (untaken_way k program rom row a s p b (held_successor k (told_successor (told_by Extended k b.cell) s.core inner)) before side
           (settled_is k b.cell s.core (untaken_successor k row (behind_row a row) s o) inner extended
-          (ap (reduced_successor k.setting.rules) (untaken_simply k row (behind_row a row) s o) ∙ reduced_way k.setting.rules t some.product some.is)
+          (ap (reduced_successor k.setting.rules k.setting.entered) (untaken_simply k row (behind_row a row) s o) ∙ reduced_way k.setting.rules k.setting.entered t some.product some.is)
           (ap (λ (u : Successor). u.target) (untaken_simply k row (behind_row a row) s o)))));
       mark = executed_mark rom x row reads;
       held = λ allowed. held_as_before k program rom row a s (held_successor k (told_successor (told_by Extended k b.cell) s.core inner)) extended
@@ -656,7 +684,7 @@ untaken_leads k program rom row a s ranges entry base x reads p b extended stand
           (record { extended = extended; based = stands.based; is_region = stands.is_region })
           (told_right k b.cell entry y (cell_stays b.cell entry (begun row x) y done.3 meant.cell))
           (Leads-summarized k.setting k.region ranges inner entry base x y
-          (Leads-narrowed k.setting k.region ranges t some.product entry base x y extended some.is are bytes related to done.0.kept) done.1);
+          (Leads-narrowed k.setting k.region ranges t some.product entry base x y extended some.is are stands.within bytes related to done.0.kept) done.1);
       faults = λ allowed. done.2;
     }
 
@@ -665,12 +693,12 @@ pub executes_widely :
     → k.setting.rules ≡ Extended → entry.program ≡ program → entry.mark ≡ address_below base k.mark → Stands k.setting rom k.region row a s entry base x → IsRuled k program rom row a s base → x.processor.halt_mark ≡ false → slice_index reads 0 ≤ 255 → slice_index reads 1 ≤ 255
     → Executes k program rom ranges row a s (successors_of k program rom row a s) entry base x reads
 executes_widely k program rom row a s ranges entry base x reads extended of marked stands ruled mark byte second =
-    let before = before_of k s entry (begun row x) stands.core stands.pairs (begun_core row x s.core entry stands.means.parts.core) (related_begun row x s.relations stands.means.related) in
+    let before = before_of k s entry (begun row x) stands.core stands.pairs stands.within (begun_core row x s.core entry stands.means.parts.core) (related_begun row x s.relations entry stands.means.related) in
     by_flags before (effect rom row x reads).is_taken refl
   where
     known : (b : Before k s entry (begun row x)) → IsKnown (memory_before k program s b.product) b.product.relations entry (begun row x)
     known b = record {
-      byte = held_before k s b.product entry base x program of stands.based stands.means.parts stands.means.summary (values_begun row x (values_of b.product.core.registers b.product.relations.pairs) (Holds-values b.product.core b.product.relations entry (begun row x) b.means.core b.means.related));
+      byte = held_before k s b.product entry base x program of stands.based stands.means.parts stands.means.summary (values_begun row x (values_of b.product.core.registers b.product.relations.pairs) (entered_with entry) (Holds-values b.product.core b.product.relations entry (begun row x) b.means.core b.means.related));
       related = b.means.related;
     }
 

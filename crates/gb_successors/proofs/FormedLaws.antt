@@ -2,7 +2,7 @@
 -- pairs have words, and what is said of the whole program lies in RAM outside the stack region.
 use Rattle.std.proofs.Common.{◌≡◌, ℕ, ◌+◌, ◌%◌, ◌≤◌, ◌<◌, Bool, true, false, cond, inl, inr, List, length, Option, Some, None, refl, sym, ◌∙◌, subst, arith}
 use Rattle.std.proofs.lemmas.Option.{same_Some}
-use Rattle.std.specs.Prelude.{IfSome, option_map, option_and_then}
+use Rattle.std.specs.Prelude.{IfSome, option_and_then}
 use Rattle.gb_ops.specs.declared.machine.Kind.{Kind}
 use Rattle.gb_ops.specs.declared.machine.Region.{Region}
 use Rattle.gb_ops.specs.declared.op.Register.{Register}
@@ -14,6 +14,7 @@ use Rattle.gb_ops.specs.Play.{MState}
 use Rattle.gb_ops.specs.Registers.{get}
 use Rattle.gb_domain.specs.declared.low_bits.LowBits.{LowBits}
 use Rattle.gb_domain.specs.declared.pairs.Bounds.{Bounds}
+use Rattle.gb_domain.specs.declared.pairs.PairBounds.{PairBounds}
 use Rattle.gb_domain.specs.declared.pairs.WordPair.TheVariants as pairs
 use Rattle.gb_domain.specs.declared.places.OneByte.{OneByte}
 use Rattle.gb_domain.specs.declared.rules.Rules.{Rules}
@@ -59,6 +60,7 @@ use Rattle.gb_product.specs.Reduced.{product_of, reduced}
 use Rattle.gb_product.specs.Sides.{taken_side, not_taken_side}
 use Rattle.gb_product.specs.Sound.{IsReduced, IsSideOf}
 use Rattle.gb_product.proofs.Below.gb_relations_laws.TransferLaws.{relations_after_sound, relations_after_kept}
+use Rattle.gb_product.proofs.Below.gb_relations_laws.Below.gb_pairs_laws.KeptLaws.{without_bases_kept}
 use Rattle.gb_product.proofs.ReducedLaws.{reduced_cuts}
 use Rattle.gb_product.proofs.SideLaws.{taken_side_cuts, not_taken_side_cuts}
 use Rattle.gb_successors.specs.declared.stacks.Stack.{Stack}
@@ -69,7 +71,7 @@ use Rattle.gb_successors.specs.Behind.{starts, written_core, core_behind, ended}
 use Rattle.gb_successors.specs.Refined.{cut_write, with_carry, refined}
 use Rattle.gb_successors.specs.Sound.{IsOneOf, Stands}
 use Rattle.gb_successors.specs.Stacks.{moved_core}
-use Rattle.gb_successors.specs.Successors.{pointer_in, bits_in, word_in, effect_in, taken_parts, relations_behind, taken_successor, untaken_successor, with_product, reduced_successor, woken, staying_successor, may_stay, stays, product_before, settled_way, taken_by_side, not_taken_by_side, taken_from, not_taken_from, successors_of, summary_behind, memory_before}
+use Rattle.gb_successors.specs.Successors.{pointer_in, bits_in, word_in, effect_in, taken_parts, relations_behind, taken_successor, untaken_successor, with_product, woken, staying_successor, may_stay, stays, product_before, settled_way, taken_by_side, not_taken_by_side, taken_from, not_taken_from, successors_of, summary_behind, memory_before}
 use Rattle.gb_successors.specs.Way.{Successor}
 use Rattle.gb_successors.proofs.AroundLaws.{IsSpWithin-aside}
 use Rattle.gb_successors.proofs.RelatedLaws.{IsCore-ended, has_operands}
@@ -177,10 +179,10 @@ IsCore-behind whole k m n w c is h = IsCore-ended (starts w) n _ (IsCore-written
 -- ---- reduced
 
 formed_product :
-    (rules : Rules) (z : Setting) (region : Region) (n : ℕ) (t : Successor) (p : Product) → reduced rules t.state.core t.state.relations ≡ Some p
+    (rules : Rules) (entered : PairBounds) (z : Setting) (region : Region) (n : ℕ) (t : Successor) (p : Product) → reduced rules entered t.state.core t.state.relations ≡ Some p
     → IsFormedAmong z region n t.state → IsFormedAmong z region n (with_product t p).state
-formed_product rules z region n t p e h =
-    let cut : IsReduced t.state.core t.state.relations p = reduced_cuts rules t.state.core t.state.relations (Some p) (sym e) in
+formed_product rules entered z region n t p e h =
+    let cut : IsReduced t.state.core t.state.relations p = reduced_cuts rules entered t.state.core t.state.relations (Some p) (sym e) in
     record {
       core = cut.inhabited h.core;
       place = subst (λ (o : OneByte). IsBytePlaced (stack_held z region n) o.address) (sym cut.relations.byte) h.place;
@@ -190,13 +192,13 @@ formed_product rules z region n t p e h =
 
 -- ---- settled
 
-pairs_left : (k : Stack) (w : Target) (s : AbsState) → (relations_left k w s).pairs ≡ s.relations.pairs
-pairs_left k (target.Main a) s = refl
-pairs_left k (target.At a) s = refl
-pairs_left k (target.Call a) s = refl
-pairs_left k target.Return s = refl
-pairs_left k target.Unknown s = refl
-pairs_left k target.Lost s = refl
+pairs_left : (k : Stack) (w : Target) (s : AbsState) → ArePairs s.relations.pairs → ArePairs (relations_left k w s).pairs
+pairs_left k (target.Main a) s h = without_bases_kept s.relations.pairs _ refl h
+pairs_left k (target.At a) s h = h
+pairs_left k (target.Call a) s h = h
+pairs_left k target.Return s h = h
+pairs_left k target.Unknown s h = h
+pairs_left k target.Lost s h = h
 
 formed_told : (z : Setting) (region : Region) (n : ℕ) (o : Option Told) (core : Core) (s : AbsState) → IsFormedAmong z region n s → IsFormedAmong z region n (told_behind o core s)
 formed_told z region n None core s h = h
@@ -209,7 +211,7 @@ formed_held k n o core t h =
     record {
       core = told.core;
       place = λ e. placed_behind k t.target s n told.place;
-      pairs = subst (λ p. ArePairs p) (sym (pairs_left k t.target s)) told.pairs;
+      pairs = pairs_left k t.target s told.pairs;
       apart = told.apart;
     }
 
@@ -220,9 +222,9 @@ formed_settled :
     (k : Stack) (n : ℕ) (cell : Option Cell) (core : Core) (t u : Successor) → settled_way k cell core t ≡ Some u → IsFormedAmong k.setting k.region n t.state → IsFormed k.setting k.region u
 formed_settled k n cell core t u is h =
     settled_cases (λ (w : Successor). IsFormed k.setting k.region w) k cell core t u is
-    (λ p e extended. formed_held k n (told_by Extended k cell) core (with_product t p) (formed_product k.setting.rules k.setting k.region n t p e h))
+    (λ p e extended. formed_held k n (told_by Extended k cell) core (with_product t p) (formed_product k.setting.rules k.setting.entered k.setting k.region n t p e h))
     (λ p e simple.
-    let f = formed_product k.setting.rules k.setting k.region n t p e h in
+    let f = formed_product k.setting.rules k.setting.entered k.setting k.region n t p e h in
     record { core = f.core; place = λ extended. absurd (not_both (sym simple ∙ extended)); pairs = f.pairs; apart = f.apart })
 
 -- ---- the sides
@@ -342,7 +344,7 @@ formed_taken :
     → (successors_of k program rom row a s).taken ≡ Some t → IsFormed k.setting k.region t
 unfolding successors_of product_before
 formed_taken k program rom row a s t entry base x stands operands h =
-    from (reduced k.setting.rules (core_settle s.core) s.relations) (reduced_cuts k.setting.rules (core_settle s.core) s.relations _ refl) h
+    from (reduced k.setting.rules k.setting.entered (core_settle s.core) s.relations) (reduced_cuts k.setting.rules k.setting.entered (core_settle s.core) s.relations _ refl) h
   where
     at_side : (p : Product) → IsReduced (core_settle s.core) s.relations p → (o : Option Branch) → IfSome o (IsSideOf (memory_before k program s p) p.core p.relations)
         → option_and_then (taken_by_side k program rom row (behind_row a row) s) o ≡ Some t → IsFormed k.setting k.region t
@@ -360,7 +362,7 @@ formed_untaken :
     (k : Stack) (program : Program) (rom : List ℕ) (row : Row) (a : ℕ) (s : AbsState) (t : Successor) → IsFormedAmong k.setting k.region (length s.items) s → (successors_of k program rom row a s).not_taken ≡ Some t
     → IsFormed k.setting k.region t
 unfolding successors_of product_before
-formed_untaken k program rom row a s t formed h = from (reduced k.setting.rules (core_settle s.core) s.relations) (reduced_cuts k.setting.rules (core_settle s.core) s.relations _ refl) h
+formed_untaken k program rom row a s t formed h = from (reduced k.setting.rules k.setting.entered (core_settle s.core) s.relations) (reduced_cuts k.setting.rules k.setting.entered (core_settle s.core) s.relations _ refl) h
   where
     at_side : (p : Product) → IsReduced (core_settle s.core) s.relations p → (o : Option Branch) → IfSome o (IsSideOf (memory_before k program s p) p.core p.relations)
         → option_and_then (not_taken_by_side k row (behind_row a row) s) o ≡ Some t → IsFormed k.setting k.region t
@@ -375,7 +377,7 @@ formed_untaken k program rom row a s t formed h = from (reduced k.setting.rules 
 
 formed_staying : (k : Stack) (program : Program) (rom : List ℕ) (row : Row) (a : ℕ) (s : AbsState) (t : Successor) → IsFormedAmong k.setting k.region (length s.items) s → (successors_of k program rom row a s).stays ≡ Some t → IsFormed k.setting k.region t
 unfolding successors_of stays
-formed_staying k program rom row a s t formed h = from (product_before k.setting.rules s) h
+formed_staying k program rom row a s t formed h = from (product_before k.setting.rules k.setting.entered s) h
   where
     by : (b : Bool) → cond b (Some (staying_successor a s)) None ≡ Some t → IsFormed k.setting k.region t
     by true e = subst (λ (w : Successor). IsFormed k.setting k.region w) (same_Some _ _ e) (staying_formed k.setting k.region a s formed)

@@ -18,7 +18,6 @@ use Rattle.gb_ops.specs.Play.{MState, within, outside}
 use Rattle.gb_domain.specs.declared.pairs.Bounds.{Bounds}
 use Rattle.gb_domain.specs.declared.relations.Relations.{Relations}
 use Rattle.gb_domain.specs.declared.setting.Setting.{Setting}
-use Rattle.gb_domain.specs.declared.types.Cell.{Cell}
 use Rattle.gb_domain.specs.declared.types.Core.{Core}
 use Rattle.gb_domain.specs.declared.types.Halves.{Halves}
 use Rattle.gb_domain.specs.declared.types.Range.{Range}
@@ -209,7 +208,7 @@ repeats_widely :
     → LeadsBy k.setting k.region ranges (length s.items) (successors_of k entry.program rom row a s).taken entry base x (outside (halt_bug (within rom x)))
 unfolding taken_successor with_cell_if
 repeats_widely k rom row a s ranges entry base x extended below stands halt off mark =
-    let before = before_of k s entry (begun row x) stands.core stands.pairs (begun_core row x s.core entry stands.means.parts.core) (related_begun row x s.relations stands.means.related) in
+    let before = before_of k s entry (begun row x) stands.core stands.pairs stands.within (begun_core row x s.core entry stands.means.parts.core) (related_begun row x s.relations entry stands.means.related) in
     let p : Product = before.product in
     let c : Situation = record {
       stack = k;
@@ -260,12 +259,12 @@ repeats_widely k rom row a s ranges entry base x extended below stands halt off 
       successor = settled;
       is_way = taken_way k entry.program rom row a s p (record { core = p.core; relations = p.relations; cell = None }) settled before.is (halt_side row.op (memory_before k entry.program s p) p halt.op_is)
           (settled_is k None s.core (taken_successor k entry.program rom row (behind_row a row) s (record { core = p.core; relations = p.relations; cell = None })) inner extended
-          (reduced_way k.setting.rules parts some.product some.is) refl);
+          (reduced_way k.setting.rules k.setting.entered parts some.product some.is) refl);
       held = as_many (settled_count k None s.core inner ∙ subst (λ m. length (parts_at c).state.items ≡ bytes_moved m (length s.items)) (halt_stays_put c halt.op_is) done.bytes);
       leads = subst (λ y. Leads k.setting k.region ranges settled entry base x y) (sym (left_is rom row x [] halt off mark))
           (Leads-settled k ranges None s.core inner entry base x (marked (left_at c)) (record { extended = extended; based = stands.based; is_region = stands.is_region }) tt
           (Leads-said k.setting k.region ranges m (with_product related some.product) entry base x (marked (left_at c)) (said_aside c t)
-          (Leads-narrowed k.setting k.region ranges related some.product entry base x (marked (left_at c)) extended some.is (pairs_behind c t) bytes done.leaves.related
+          (Leads-narrowed k.setting k.region ranges related some.product entry base x (marked (left_at c)) extended some.is (pairs_behind c t) stands.within bytes done.leaves.related
           (LeadsWidely-related k.setting k.region (parts_at c).target r (parts_at c) entry base (marked (left_at c)) to) done.leaves.kept)
           (HoldSummary-settled entry.program (parts_at c).state.cells (said_at c) (left_at c).processor (marked (left_at c)).processor (peek (left_at c).storage) (left_at c).storage.banks refl refl (λ e. e)
           (said_holds c t (halt_allowed c t halt.op_is) done))));

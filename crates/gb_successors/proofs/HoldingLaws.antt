@@ -1,21 +1,20 @@
 -- What a side tells of an item holds behind it, and of places in the stack items alone are left.
-use Rattle.std.proofs.Common.{◌≡◌, ℕ, ◌+◌, ◌≤◌, Bool, true, false, not, ◌&&◌, ◌||◌, cond, List, length, Option, Some, None, refl, sym, ◌∙◌, ap, subst}
+use Rattle.std.proofs.Common.{◌≡◌, ℕ, ◌+◌, Bool, true, false, cond, List, length, Option, Some, None, refl, sym, ◌∙◌, ap, subst}
 use Rattle.std.specs.Prelude.{IfSome, option_map}
 use Rattle.gb_ops.specs.declared.machine.Region.{Region}
-use Rattle.gb_ops.specs.Memory.{Storage}
 use Rattle.gb_ops.specs.Play.{MState}
 use Rattle.gb_domain.specs.declared.relations.Relations.{Relations}
+use Rattle.gb_domain.specs.declared.pairs.PairBounds.{PairBounds}
 use Rattle.gb_domain.specs.declared.rules.Rules.{Rules}
 use Rattle.gb_domain.specs.declared.rules.Rules.TheVariants.{Simple, Extended}
 use Rattle.gb_domain.specs.declared.setting.Setting.{Setting}
 use Rattle.gb_domain.specs.declared.types.Cell.{Cell}
 use Rattle.gb_domain.specs.declared.types.Core.{Core}
 use Rattle.gb_domain.specs.declared.types.Range.{Range}
-use Rattle.gb_domain.specs.declared.types.Val.{Val}
 use Rattle.gb_domain.specs.Areas.{IsRegion, meets}
 use Rattle.gb_domain.specs.Settings.{IsBase}
 use Rattle.gb_domain.specs.Types.{AbsState}
-use Rattle.gb_product.specs.Below.gb_abs.Meaning.{Activation, Holds, MeansParts, is_located}
+use Rattle.gb_product.specs.Below.gb_abs.Meaning.{Activation, MeansParts, is_located}
 use Rattle.gb_product.specs.Below.gb_abs.Cells.{ArePlaced}
 use Rattle.gb_product.specs.Below.gb_abs.Span.{one}
 use Rattle.gb_product.specs.Below.gb_abs.Stack.{AreInRegion}
@@ -25,7 +24,7 @@ use Rattle.gb_product.specs.Below.gb_abs_effects.declared.targets.Target.TheVari
 use Rattle.gb_product.specs.Below.gb_relations.Items.{held_places}
 use Rattle.gb_product.specs.Below.gb_relations.Sound.{IsByteFree, IsBytePlaced}
 use Rattle.gb_product.specs.declared.parts.Product.{Product}
-use Rattle.gb_product.specs.Held.{stack_held, held_relations, relations_outside}
+use Rattle.gb_product.specs.Held.{stack_held, held_relations}
 use Rattle.gb_product.proofs.HeldLaws.{free_held, related_held, related_outside, held_placed, outside_free}
 use Rattle.gb_product.specs.Meaning.{AreRelated, IsSummarized}
 use Rattle.gb_product.specs.Reduced.{reduced}
@@ -36,22 +35,23 @@ use Rattle.gb_abs_memory.proofs.ItemLaws.{length-items_stored, AreItems-stored}
 use Rattle.gb_successors.specs.declared.stacks.Stack.{Stack}
 use Rattle.gb_successors.specs.declared.way.Told.{Told}
 use Rattle.gb_successors.specs.Behind.{with_relations, told_behind}
-use Rattle.gb_successors.specs.Settled.{cell_outside, told_by, branch_outside, told_at_target, told_successor, relations_left, held_successor, held_way}
-use Rattle.gb_successors.specs.Sound.{StaysAt, CalledAt, ReturnsBy, BeginsAnew, LeadsWidely, LeadsTo, Leads, is_followed}
+use Rattle.gb_successors.specs.Settled.{told_by, told_at_target, told_successor, relations_left, held_successor, held_way}
+use Rattle.gb_successors.specs.Sound.{LeadsWidely, LeadsTo, AreRelatedBehind, Leads}
 use Rattle.gb_successors.specs.Successors.{related_successor, with_product, reduced_successor, settled_way}
 use Rattle.gb_successors.specs.Way.{Successor}
 use Rattle.gb_successors.proofs.RelatedLaws.{MeansParts-related}
+use Rattle.gb_successors.proofs.SaidLaws.{LeadsHere}
 
 -- ---- places that are left
 
-pub related_left : (k : Stack) (w : Target) (s : AbsState) (y : MState) → AreRelated s.relations y → AreRelated (relations_left k w s) y
-related_left k w s y h = by w
+pub related_left : (k : Stack) (w : Target) (s : AbsState) (entry : Activation) (y : MState) → AreRelated s.relations entry y → AreRelatedBehind w (relations_left k w s) entry y
+related_left k w s entry y h = by w
   where
-    items : AreRelated (held_relations (stack_held k.setting k.region (length s.items)) s.relations) y
-    items = related_held (stack_held k.setting k.region (length s.items)) s.relations y h
+    items : AreRelated (held_relations (stack_held k.setting k.region (length s.items)) s.relations) entry y
+    items = related_held (stack_held k.setting k.region (length s.items)) s.relations entry y h
 
-    by : (w : Target) → AreRelated (relations_left k w s) y
-    by (target.Main a) = related_outside k.region s.relations y h
+    by : (w : Target) → AreRelatedBehind w (relations_left k w s) entry y
+    by (target.Main a) = λ begun. related_outside k.region s.relations entry begun y h
     by (target.At a) = items
     by (target.Call a) = items
     by target.Return = items
@@ -247,7 +247,7 @@ from_widely z region w t entry base x y e h = subst (λ r. LeadsTo r z region w 
 -- what it leads to holds of the states that are settled
 pub Leads-settled :
     (k : Stack) (ranges : List Range) (o : Option Told) (core : Core) (t : Successor) (entry : Activation) (base : ℕ) (x y : MState)
-    → IsSettledAt k base → IfSome o (IsToldRight k.setting k.region entry y) → Leads k.setting k.region ranges t entry base x y
+    → IsSettledAt k base → IfSome o (IsToldRight k.setting k.region entry y) → LeadsHere k.setting k.region ranges t entry base x y
     → Leads k.setting k.region ranges (held_successor k (told_successor o core t)) entry base x y
 Leads-settled k ranges o core t entry base x y is right h =
     let q = told_at_target t.target o in
@@ -257,20 +257,20 @@ Leads-settled k ranges o core t entry base x y is right h =
           (LeadsWidely-related k.setting k.region t.target (relations_left k t.target u.state) u entry base y
           (LeadsWidely-told k t.target o core t entry base y is right (from_widely k.setting k.region t.target t entry base x y is.extended h.to)));
       kept = h.kept;
-      related = λ known. related_left k t.target u.state y (subst (λ r. AreRelated r y) (sym (related_told q core t.state)) (h.related known));
+      related = λ known. related_left k t.target u.state entry y (subst (λ r. AreRelated r entry y) (sym (related_told q core t.state)) (h.related known));
       summary = summary_told q core t.state entry y h.summary;
     }
 
 -- ---- reduced
 
-reduced_told : (rules : Rules) (q : Option Told) (core : Core) (t : Successor) → reduced_successor rules (with_told q core t) ≡ option_map (with_told q core) (reduced_successor rules t)
+reduced_told : (rules : Rules) (entered : PairBounds) (q : Option Told) (core : Core) (t : Successor) → reduced_successor rules entered (with_told q core t) ≡ option_map (with_told q core) (reduced_successor rules entered t)
 unfolding reduced_successor
-reduced_told rules None core t = by (reduced rules t.state.core t.state.relations)
+reduced_told rules entered None core t = by (reduced rules entered t.state.core t.state.relations)
   where
     by : (o : Option Product) → option_map (with_product (with_told None core t)) o ≡ option_map (with_told None core) (option_map (with_product t) o)
     by None = refl
     by (Some p) = refl
-reduced_told rules (Some u) core t = by (reduced rules t.state.core t.state.relations)
+reduced_told rules entered (Some u) core t = by (reduced rules entered t.state.core t.state.relations)
   where
     by : (o : Option Product) → option_map (with_product (with_told (Some u) core t)) o ≡ option_map (with_told (Some u) core) (option_map (with_product t) o)
     by None = refl
@@ -281,21 +281,21 @@ nothing_told None k = refl
 nothing_told (Some c) k = refl
 
 -- by the rules of versions 1 and 2 it is reduced alone
-pub settled_simply : (k : Stack) (cell : Option Cell) (core : Core) (t : Successor) → k.setting.rules ≡ Simple → settled_way k cell core t ≡ reduced_successor k.setting.rules t
+pub settled_simply : (k : Stack) (cell : Option Cell) (core : Core) (t : Successor) → k.setting.rules ≡ Simple → settled_way k cell core t ≡ reduced_successor k.setting.rules k.setting.entered t
 unfolding settled_way
 settled_simply k cell core t simple =
-    ap (λ r. held_way r k (reduced_successor k.setting.rules (told_successor (told_by r k cell) core t))) simple
-    ∙ ap (λ o. reduced_successor k.setting.rules (told_successor o core t)) (nothing_told cell k)
+    ap (λ r. held_way r k (reduced_successor k.setting.rules k.setting.entered (told_successor (told_by r k cell) core t))) simple
+    ∙ ap (λ o. reduced_successor k.setting.rules k.setting.entered (told_successor o core t)) (nothing_told cell k)
 
 -- the settled way of a successor that is reduced so
 pub settled_is :
-    (k : Stack) (cell : Option Cell) (core : Core) (t u : Successor) → k.setting.rules ≡ Extended → reduced_successor k.setting.rules t ≡ Some u → t.target ≡ u.target
+    (k : Stack) (cell : Option Cell) (core : Core) (t u : Successor) → k.setting.rules ≡ Extended → reduced_successor k.setting.rules k.setting.entered t ≡ Some u → t.target ≡ u.target
     → settled_way k cell core t ≡ Some (held_successor k (told_successor (told_by Extended k cell) core u))
 unfolding settled_way
 settled_is k cell core t u extended e same =
-    ap (λ r. held_way r k (reduced_successor k.setting.rules (told_successor (told_by r k cell) core t))) extended
+    ap (λ r. held_way r k (reduced_successor k.setting.rules k.setting.entered (told_successor (told_by r k cell) core t))) extended
     ∙ ap (option_map (held_successor k))
-    (reduced_told k.setting.rules (told_at_target t.target (told_by Extended k cell)) core t
+    (reduced_told k.setting.rules k.setting.entered (told_at_target t.target (told_by Extended k cell)) core t
     ∙ (ap (option_map (with_told (told_at_target t.target (told_by Extended k cell)) core)) e
     ∙ ap (λ w. Some (with_told (told_at_target w (told_by Extended k cell)) core u)) same))
 
@@ -305,22 +305,22 @@ settled_count k o core t = told_count (told_at_target t.target o) core t.state
 
 -- ---- by what is left where it is reduced
 
-pub reduced_is : (rules : Rules) (t : Successor) (p : Product) → reduced rules t.state.core t.state.relations ≡ Some p → reduced_successor rules t ≡ Some (with_product t p)
+pub reduced_is : (rules : Rules) (entered : PairBounds) (t : Successor) (p : Product) → reduced rules entered t.state.core t.state.relations ≡ Some p → reduced_successor rules entered t ≡ Some (with_product t p)
 unfolding reduced_successor
-reduced_is rules t p e = ap (option_map (with_product t)) e
+reduced_is rules entered t p e = ap (option_map (with_product t)) e
 
-pub reduced_none : (rules : Rules) (t : Successor) → reduced rules t.state.core t.state.relations ≡ None → reduced_successor rules t ≡ None
+pub reduced_none : (rules : Rules) (entered : PairBounds) (t : Successor) → reduced rules entered t.state.core t.state.relations ≡ None → reduced_successor rules entered t ≡ None
 unfolding reduced_successor
-reduced_none rules t e = ap (option_map (with_product t)) e
+reduced_none rules entered t e = ap (option_map (with_product t)) e
 
 pub settled_none :
-    (k : Stack) (cell : Option Cell) (core : Core) (t : Successor) → k.setting.rules ≡ Extended → reduced k.setting.rules t.state.core t.state.relations ≡ None → settled_way k cell core t ≡ None
+    (k : Stack) (cell : Option Cell) (core : Core) (t : Successor) → k.setting.rules ≡ Extended → reduced k.setting.rules k.setting.entered t.state.core t.state.relations ≡ None → settled_way k cell core t ≡ None
 unfolding settled_way
 settled_none k cell core t extended e =
-    ap (λ r. held_way r k (reduced_successor k.setting.rules (told_successor (told_by r k cell) core t))) extended
+    ap (λ r. held_way r k (reduced_successor k.setting.rules k.setting.entered (told_successor (told_by r k cell) core t))) extended
     ∙ ap (option_map (held_successor k))
-    (reduced_told k.setting.rules (told_at_target t.target (told_by Extended k cell)) core t
-    ∙ ap (option_map (with_told (told_at_target t.target (told_by Extended k cell)) core)) (reduced_none k.setting.rules t e))
+    (reduced_told k.setting.rules k.setting.entered (told_at_target t.target (told_by Extended k cell)) core t
+    ∙ ap (option_map (with_told (told_at_target t.target (told_by Extended k cell)) core)) (reduced_none k.setting.rules k.setting.entered t e))
 
 no_way : (w : Successor) → None ≡ Some w → ⊥
 no_way w e = cc
@@ -331,23 +331,23 @@ same_way v w e = cc
 -- what holds of it by the rules of versions 1 and 2, and by those of version 3, holds
 pub settled_cases :
     (P : Successor → Type 0) (k : Stack) (cell : Option Cell) (core : Core) (t u : Successor) → settled_way k cell core t ≡ Some u
-    → ((p : Product) → reduced k.setting.rules t.state.core t.state.relations ≡ Some p → k.setting.rules ≡ Extended → P (held_successor k (told_successor (told_by Extended k cell) core (with_product t p))))
-    → ((p : Product) → reduced k.setting.rules t.state.core t.state.relations ≡ Some p → k.setting.rules ≡ Simple → P (with_product t p))
+    → ((p : Product) → reduced k.setting.rules k.setting.entered t.state.core t.state.relations ≡ Some p → k.setting.rules ≡ Extended → P (held_successor k (told_successor (told_by Extended k cell) core (with_product t p))))
+    → ((p : Product) → reduced k.setting.rules k.setting.entered t.state.core t.state.relations ≡ Some p → k.setting.rules ≡ Simple → P (with_product t p))
     → P u
 settled_cases P k cell core t u is extended simple = by_rules k.setting.rules refl
   where
-    widely : (o : Option Product) → reduced k.setting.rules t.state.core t.state.relations ≡ o → k.setting.rules ≡ Extended → P u
+    widely : (o : Option Product) → reduced k.setting.rules k.setting.entered t.state.core t.state.relations ≡ o → k.setting.rules ≡ Extended → P u
     widely None e r = absurd (no_way u (sym (settled_none k cell core t r e) ∙ is))
     widely (Some p) e r =
-        subst P (same_way _ u (sym (settled_is k cell core t (with_product t p) r (reduced_is k.setting.rules t p e) refl) ∙ is)) (extended p e r)
+        subst P (same_way _ u (sym (settled_is k cell core t (with_product t p) r (reduced_is k.setting.rules k.setting.entered t p e) refl) ∙ is)) (extended p e r)
 
-    simply : (o : Option Product) → reduced k.setting.rules t.state.core t.state.relations ≡ o → k.setting.rules ≡ Simple → P u
-    simply None e r = absurd (no_way u (sym (reduced_none k.setting.rules t e) ∙ (sym (settled_simply k cell core t r) ∙ is)))
-    simply (Some p) e r = subst P (same_way _ u (sym (reduced_is k.setting.rules t p e) ∙ (sym (settled_simply k cell core t r) ∙ is))) (simple p e r)
+    simply : (o : Option Product) → reduced k.setting.rules k.setting.entered t.state.core t.state.relations ≡ o → k.setting.rules ≡ Simple → P u
+    simply None e r = absurd (no_way u (sym (reduced_none k.setting.rules k.setting.entered t e) ∙ (sym (settled_simply k cell core t r) ∙ is)))
+    simply (Some p) e r = subst P (same_way _ u (sym (reduced_is k.setting.rules k.setting.entered t p e) ∙ (sym (settled_simply k cell core t r) ∙ is))) (simple p e r)
 
     by_rules : (r : Rules) → k.setting.rules ≡ r → P u
-    by_rules Extended r = widely (reduced k.setting.rules t.state.core t.state.relations) refl r
-    by_rules Simple r = simply (reduced k.setting.rules t.state.core t.state.relations) refl r
+    by_rules Extended r = widely (reduced k.setting.rules k.setting.entered t.state.core t.state.relations) refl r
+    by_rules Simple r = simply (reduced k.setting.rules k.setting.entered t.state.core t.state.relations) refl r
 
 same_summary : (o : Option Told) (core : Core) (s : AbsState) → (told_behind o core s).summary ≡ s.summary
 same_summary None core s = refl

@@ -177,7 +177,7 @@ stored_at c = stored (view c.rom c.machine false) (acted_at c).write
 pub record Leaves (c : Situation) : Type 0 where
   pub kept : (b : ℕ) → IsKept c.stack.setting c.stack.region c.ranges c.base b → peek (left_at c).storage b ≡ peek c.machine.storage b
   pub faults : row_faults (Some c.row) c.stack.region (within c.rom c.machine) c.reads ≡ no_faults
-  pub related : AreRelated (related_at c) (left_at c)
+  pub related : AreRelated (related_at c) c.entry (left_at c)
   pub store : store_faults c.stack.region (view c.rom c.machine false) (acted_at c).write ≡ no_faults
   pub in_turn : WritesInTurn (held_at c) (acted_at c).write (ram_at c.machine.storage) (ram_at (stored_at c).storage)
 
@@ -188,9 +188,9 @@ place_behind c k =
     (has_operands c.row.op k.operands) (sp_below c k) (k.pairs.each pairs.Bc).last (k.pairs.each pairs.De).last (k.pairs.each pairs.Hl).last).placed k.place
 
 related_left : (c : Situation) → IsTakenIn c → LoadsAt c → relations.Writes (held_at c) (acted_at c).write (ram_at c.machine.storage) (ram_at (stored_at c).storage)
-    → AreRelated (related_at c) (left_at c)
+    → AreRelated (related_at c) c.entry (left_at c)
 related_left c k l w =
-    HoldRelations-ram (held_at c) _ _ (ram_at (stored_at c).storage) (peek (left_at c).storage) _ (place_behind c k)
+    HoldRelations-ram (held_at c) _ _ _ (ram_at (stored_at c).storage) (peek (left_at c).storage) _ (place_behind c k)
     (λ b ram. passed_peek (stored_at c) c.row.cycles b ∙ sym (ram_is (stored_at c).storage b ram))
     (related_behind c (given_at c).low (given_at c).high (ram_at (stored_at c).storage) k (given_by c k l) w)
 

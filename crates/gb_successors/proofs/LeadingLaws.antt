@@ -50,6 +50,7 @@ use Rattle.gb_successors.specs.Successors.{taken_move, taken_parts}
 use Rattle.gb_successors.proofs.AroundLaws.{around_top, top_none, located-same}
 use Rattle.gb_product.proofs.Below.gb_abs_laws.LocationLaws.{is_located-of}
 use Rattle.gb_product.specs.Below.gb_abs.Located.{IsSpWithin}
+use Rattle.gb_product.specs.Meaning.{entered_with}
 use Rattle.gb_successors.proofs.AccessLaws.{clear_stack, closed_same, limited_same, Loads}
 use Rattle.gb_successors.proofs.PlainLaws.{IsPlainRead}
 use Rattle.gb_successors.proofs.SuccessorLaws.{begun_pc, begun_sp}
@@ -63,7 +64,6 @@ use Rattle.gb_successors.proofs.Situations.{Situation, next_at, pointer_at, read
 use Rattle.gb_successors.proofs.SituationLaws.{values_hold, read_holds, read_placed, sp_within, said_begun}
 use Rattle.gb_successors.proofs.LandingLaws.{LoadsAt, loads_plainly, state_by, state_is, moved_at, quiet_state, Landed, ended_quietly, acting}
 use Rattle.gb_ops.specs.declared.op.Register.TheVariants.{H, L}
-use Rattle.gb_ops.specs.Pairs.{word}
 use Rattle.gb_domain.specs.declared.types.Origin.TheVariants.{MarkHigh, MarkLow}
 use Rattle.gb_successors.specs.Stacks.{address_below}
 use Rattle.gb_successors.proofs.GoingLaws.{own_value}
@@ -105,7 +105,7 @@ hl_within : (c : Situation) → IsTakenIn c → pointer_of c.row.op ≡ Some wor
 unfolding pair_value
 hl_within c k e =
     subst (λ p. PointsWithin (pointer_at c) p (begun_at c).processor.registers) e
-    ((pointer_bounds_sound c.stack.setting.rules c.row.op c.product.core.registers c.product.relations.pairs _ refl).word (begun_at c).processor.registers (values_hold c k))
+    ((pointer_bounds_sound c.stack.setting.rules c.row.op c.product.core.registers c.product.relations.pairs _ refl).word (entered_with c.entry) (begun_at c).processor.registers (values_hold c k))
 
 pub goes_at : (c : Situation) → IsTakenIn c → LoadsAt c → GoesTo c.stack.setting.is_main (parts_at c).target c.entry (acted_at c).processor.pc
 unfolding pointer_of

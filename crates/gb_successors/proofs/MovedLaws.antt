@@ -27,7 +27,6 @@ use Rattle.gb_product.specs.Below.gb_abs.Located.{stack_base}
 use Rattle.gb_successors.specs.declared.stacks.Stack.{Stack}
 use Rattle.gb_successors.specs.declared.stacks.StackMove.{StackMove}
 use Rattle.gb_successors.specs.declared.stacks.StackMove.TheVariants as move
-use Rattle.gb_successors.specs.declared.way.Moved.{Moved}
 use Rattle.gb_successors.specs.Stacks.{pushed_if_room, appended_if_room, set_if_room, begun_anew, with_aside as stack_aside, with_stack_moved}
 use Rattle.gb_successors.specs.Summaries.{aside_behind, with_aside}
 use Rattle.gb_successors.specs.Behind.{behind, written, ended, moves_stack, is_in_ram, changes_cells, move_of, with_cell_if, moved_state, moved_by, with_relations, with_summary, summary_or, state_behind, written_core}

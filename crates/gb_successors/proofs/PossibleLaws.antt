@@ -1,6 +1,6 @@
 -- Reducing loses no successor of the machine's own side, whether its accesses are refused or not: there are bytes that its reads
 -- might have given, by which the states behind hold registers.
-use Rattle.std.proofs.Common.{◌≡◌, ℕ, ◌≤◌, Bool, true, false, cond, not, ◌&&◌, ◌==◌, nat_lt, inl, List, length, Option, Some, None, refl, sym, ◌∙◌, ap, subst, arith, ◌<◌, ◌+◌, ◌-◌, ◌%◌, slice_get}
+use Rattle.std.proofs.Common.{◌≡◌, ℕ, ◌≤◌, Bool, true, false, cond, not, ◌&&◌, ◌==◌, nat_lt, List, length, Option, Some, None, refl, sym, ◌∙◌, ap, subst, arith, ◌<◌, ◌+◌, ◌-◌, ◌%◌, slice_get}
 use Rattle.std.proofs.lemmas.Bool.{eq-eqb, and_parts}
 use Rattle.std.proofs.lemmas.Bool.Decides.{nat_tests}
 use Rattle.gb_ops.specs.declared.machine.Kind.{Kind}
@@ -23,6 +23,7 @@ use Rattle.gb_ops.specs.Memory.{Storage}
 use Rattle.gb_ops.specs.Play.{MState}
 use Rattle.gb_ops.specs.Registers.{get}
 use Rattle.gb_domain.specs.declared.relations.Relations.{Relations}
+use Rattle.gb_domain.specs.declared.pairs.PairBounds.{PairBounds}
 use Rattle.gb_domain.specs.declared.low_bits.LowBits.{LowBits}
 use Rattle.gb_domain.specs.declared.rules.Rules.{Rules}
 use Rattle.gb_domain.specs.declared.rules.Rules.TheVariants.{Simple, Extended}
@@ -43,7 +44,7 @@ use Rattle.gb_product.specs.Below.gb_abs.Operations.{core_end, with_core}
 use Rattle.gb_product.specs.Below.gb_abs.Origins.{registers_without_origins, core_without_origins}
 use Rattle.gb_product.specs.Below.gb_abs.Stack.{youngest}
 use Rattle.gb_product.specs.Below.gb_abs.Storage.{is_ram, peek}
-use Rattle.gb_product.proofs.Below.gb_abs_laws.StackLaws.{Pops-popped, MeansParts-with_core}
+use Rattle.gb_product.proofs.Below.gb_abs_laws.StackLaws.{MeansParts-with_core}
 use Rattle.gb_product.specs.Below.gb_abs_effects.declared.reads.AbsRead.{AbsRead}
 use Rattle.gb_product.specs.Below.gb_abs_effects.declared.reads.AbsRead.TheVariants as read
 use Rattle.gb_product.specs.Below.gb_abs_effects.declared.writes.AbsWrite.{AbsWrite}
@@ -62,11 +63,11 @@ use Rattle.gb_product.specs.Below.gb_pairs.Meaning.{AreBytes}
 use Rattle.gb_product.specs.Below.gb_pairs.Meaning as pair_meaning
 use Rattle.gb_product.specs.Below.gb_pairs.declared.values.Values.{Values}
 use Rattle.gb_product.specs.Below.gb_pairs.Reduced as Pairs
-use Rattle.gb_product.specs.Below.gb_pairs.Sound.{HoldsIn}
+use Rattle.gb_product.specs.Below.gb_pairs.Sound.{HoldsIn, AreWithin}
 use Rattle.gb_product.specs.Below.gb_relations.Places.{behind_echo}
 use Rattle.gb_product.specs.Below.gb_relations.Sound as relations
 use Rattle.gb_product.specs.Below.gb_relations.Transfer.{values_of}
-use Rattle.gb_product.specs.Meaning.{IsSummarized}
+use Rattle.gb_product.specs.Meaning.{entered_with, IsSummarized}
 use Rattle.gb_product.specs.Reduced.{product_of, with_values_if, reduced}
 use Rattle.gb_product.proofs.Below.gb_relations_laws.MachineLaws.{effect_of-bytes}
 use Rattle.gb_product.proofs.Below.gb_relations_laws.TransferLaws.{relations_after_kept}
@@ -98,7 +99,7 @@ use Rattle.gb_successors.proofs.StackWayLaws.{is_word_read, word_top, top_held}
 use Rattle.gb_successors.proofs.Situations.{Situation, read_at, bits_at, word_at, effect_at, move_at, parts_at, begun_at, given_at, effect_by, IsTakenIn, means_begun, related_at, held_at}
 use Rattle.gb_domain.specs.declared.places.StackBytes.{StackBytes}
 use Rattle.gb_successors.proofs.SituationLaws.{AreGiven, values_hold, said_begun, read_has, follows, related_behind, read_holds, read_placed, is_word_at, bytes_begun}
-use Rattle.gb_successors.proofs.LandingLaws.{few_words, set_by_items, state_is}
+use Rattle.gb_successors.proofs.LandingLaws.{few_words, state_is}
 
 -- ---- bytes that its reads might have given
 
@@ -552,17 +553,19 @@ In-behind whole k m cycles w core r n h =
 -- ---- reducing
 
 -- reducing leaves something
-pub record IsSome (rules : Rules) (core : Core) (r : Relations) : Type 0 where
+pub record IsSome (rules : Rules) (entered : PairBounds) (core : Core) (r : Relations) : Type 0 where
   pub product : Product
-  pub is : reduced rules core r ≡ Some product
+  pub is : reduced rules entered core r ≡ Some product
 
-pub some_reduced : (rules : Rules) (core : Core) (r : Relations) (x : Registers ℕ) → ArePairs r.pairs → AreBytes x → pair_meaning.Holds (values_of core.registers r.pairs) x → IsSome rules core r
+pub some_reduced :
+    (rules : Rules) (entered : PairBounds) (core : Core) (r : Relations) (was x : Registers ℕ)
+    → ArePairs r.pairs → AreWithin entered was → AreBytes x → pair_meaning.Holds (values_of core.registers r.pairs) was x → IsSome rules entered core r
 unfolding reduced
-some_reduced Simple core r x are bytes h = record { product = product_of core r; is = refl }
-some_reduced Extended core r x are bytes h =
-    by (Pairs.reduced (values_of core.registers r.pairs)) refl ((pair_laws.reduced_sound (values_of core.registers r.pairs) _ refl are).gives x bytes h)
+some_reduced Simple entered core r was x are within bytes h = record { product = product_of core r; is = refl }
+some_reduced Extended entered core r was x are within bytes h =
+    by (Pairs.reduced entered (values_of core.registers r.pairs)) refl ((pair_laws.reduced_sound entered (values_of core.registers r.pairs) _ refl are).gives was x within bytes h)
   where
-    by : (o : Option Values) → Pairs.reduced (values_of core.registers r.pairs) ≡ o → HoldsIn o x → IsSome Extended core r
+    by : (o : Option Values) → Pairs.reduced entered (values_of core.registers r.pairs) ≡ o → HoldsIn o was x → IsSome Extended entered core r
     by None e h = absurd h
     by (Some v) e h = record { product = _; is = ap (with_values_if core r) e }
 
@@ -578,13 +581,13 @@ bytes_behind_it c l h k g =
     effect_of-bytes c.row.op (advanced c.machine.processor c.row) l h (has_operands c.row.op k.operands) (omega arith) (omega arith) (bytes_begun c k)
 
 -- the side's successor isn't lost
-pub possible : (c : Situation) → IsTakenIn c → IsSome c.stack.setting.rules (parts_at c).state.core (related_at c)
+pub possible : (c : Situation) → IsTakenIn c → IsSome c.stack.setting.rules c.stack.setting.entered (parts_at c).state.core (related_at c)
 possible c k =
     let g = is_given c k in
     let e : Effect = effect_by c g.low g.high in
     let f = follows c g.low g.high k g.given in
     let behind_it = related_behind c g.low g.high (after_write e.write (ram_at c.machine.storage)) k g.given (Writes-after (held_at c) e.write (ram_at c.machine.storage)) in
-    some_reduced c.stack.setting.rules (parts_at c).state.core _ e.processor.registers (pairs_behind c k) (bytes_behind_it c g.low g.high k g.given)
+    some_reduced c.stack.setting.rules c.stack.setting.entered (parts_at c).state.core _ (entered_with c.entry) e.processor.registers (pairs_behind c k) k.stands.within (bytes_behind_it c g.low g.high k g.given)
     (record {
       registers = λ r.
           subst (λ (s : AbsState). In (get r s.core.registers) (get r e.processor.registers)) (sym (state_is c))

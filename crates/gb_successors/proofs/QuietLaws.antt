@@ -1,16 +1,15 @@
 -- Where nothing was said of the whole program, and no store tells of the controller, the states of a successor say nothing of it.
-use Rattle.std.proofs.Common.{◌≡◌, ℕ, Bool, true, false, cond, List, Option, Some, None, option_and_then, option_map, inl, inr, subst}
+use Rattle.std.proofs.Common.{◌≡◌, ℕ, Bool, true, false, cond, List, Option, Some, None, option_and_then, inl, inr, subst}
 use Rattle.std.proofs.lemmas.Option.{same_Some}
 use Rattle.gb_ops.specs.declared.machine.Kind.TheVariants as kind
 use Rattle.gb_ops.specs.declared.op.Row.{Row}
-use Rattle.gb_domain.specs.declared.rules.Rules.{Rules}
 use Rattle.gb_domain.specs.declared.types.Cell.{Cell}
 use Rattle.gb_domain.specs.declared.setting.Setting.{Setting}
 use Rattle.gb_domain.specs.Summaries.{Program, no_summary}
 use Rattle.gb_domain.specs.Types.{AbsState}
 use Rattle.gb_product.specs.declared.parts.Branch.{Branch}
 use Rattle.gb_product.specs.declared.parts.Product.{Product}
-use Rattle.gb_product.specs.Reduced.{product_of, reduced}
+use Rattle.gb_product.specs.Reduced.{product_of}
 use Rattle.gb_domain.specs.declared.pairs.Bounds.{Bounds}
 use Rattle.gb_domain.specs.Summaries.{SummaryParts}
 use Rattle.std.specs.Prelude.{◌&&◌, ◌⊎◌, is_some}
@@ -91,10 +90,10 @@ pub quiet_successor :
     → k.setting.is_whole ≡ false → program.kind ≡ kind.Rom → s.summary ≡ no_summary → IsOneOf (successors_of k program rom row a s) t → t.state.summary ≡ no_summary
 unfolding successors_of
 quiet_successor k program rom row a s t older unknown q (inl e) =
-    quiet_ways (taken_from k program rom row (behind_row a row) s) (product_before k.setting.rules s) t
+    quiet_ways (taken_from k program rom row (behind_row a row) s) (product_before k.setting.rules k.setting.entered s) t
     (λ p. quiet_sides k s.core (taken_successor k program rom row (behind_row a row) s) _ t (λ b. quiet_taken k program rom row (behind_row a row) s b older unknown q)) e
 quiet_successor k program rom row a s t older unknown q (inr (inl e)) =
-    quiet_ways (not_taken_from k program row (behind_row a row) s) (product_before k.setting.rules s) t
+    quiet_ways (not_taken_from k program row (behind_row a row) s) (product_before k.setting.rules k.setting.entered s) t
     (λ p. quiet_sides k s.core (untaken_successor k row (behind_row a row) s) _ t (λ b. quiet_untaken k row (behind_row a row) s b q)) e
 quiet_successor k program rom row a s t older unknown q (inr (inr e)) =
-    quiet_ways (λ p. stays row a s) (product_before k.setting.rules s) t (λ p. quiet_stays row a s t q) e
+    quiet_ways (λ p. stays row a s) (product_before k.setting.rules k.setting.entered s) t (λ p. quiet_stays row a s t q) e

@@ -1,7 +1,6 @@
 -- Bytes of RAM by address, where all other addresses hold nothing: what is known together of memory is said of them alone.
 use Rattle.std.proofs.Common.{◌≡◌, ℕ, ◌≤◌, Bool, true, false, cond, ◌==◌, Option, Some, None, refl, ◌∙◌, ap, subst}
 use Rattle.std.proofs.lemmas.Bool.{eqb-true}
-use Rattle.gb_ops.specs.declared.machine.Region.{Region}
 use Rattle.gb_ops.specs.declared.registers.Registers.{Registers}
 use Rattle.gb_ops.specs.declared.registers.Flags.{Flags}
 use Rattle.gb_ops.specs.declared.machine.Faults.{Faults}
@@ -47,9 +46,9 @@ wrote_ram m a n k ram le faults = ram_is (wrote m a n).storage a ram ∙ (wrote-
 
 -- what is known together of memory is said of RAM
 pub HoldRelations-ram :
-    (held : StackBytes) (r : Relations) (x : Registers ℕ) (memory after : ℕ → ℕ) (f : Flags) → IsBytePlaced held r.byte.address
-    → ((b : ℕ) → is_ram b ≡ true → after b ≡ memory b) → HoldRelations r x memory f → HoldRelations r x after f
-HoldRelations-ram held r x memory after f free same h =
+    (held : StackBytes) (r : Relations) (was x : Registers ℕ) (memory after : ℕ → ℕ) (f : Flags) → IsBytePlaced held r.byte.address
+    → ((b : ℕ) → is_ram b ≡ true → after b ≡ memory b) → HoldRelations r was x memory f → HoldRelations r was x after f
+HoldRelations-ram held r was x memory after f free same h =
     record {
       byte = record {
         byte = h.byte.byte;

@@ -166,32 +166,32 @@ has_operands (op.AluImmediate how v) h = h
 has_operands o h = tt
 
 simply :
-    (is_whole : Bool) (held : StackBytes) (o : Op) (sp : Bounds) (vals : Registers Val) (low : Val) (r : Relations) (x : Registers ℕ) (memory : ℕ → ℕ) (f : Flags)
-    → HoldOneByte (compared_after o r.byte) x memory f → AreBytes x → HoldRelations (relations_after Simple is_whole held o sp vals low r) x memory f
+    (is_whole : Bool) (held : StackBytes) (o : Op) (sp : Bounds) (vals : Registers Val) (low : Val) (r : Relations) (was x : Registers ℕ) (memory : ℕ → ℕ) (f : Flags)
+    → HoldOneByte (compared_after o r.byte) x memory f → AreBytes x → HoldRelations (relations_after Simple is_whole held o sp vals low r) was x memory f
 unfolding relations_after
-simply is_whole held o sp vals low r x memory f byte bytes = record { byte = byte; zero = tt; pairs = HoldPairs-nothing x bytes }
+simply is_whole held o sp vals low r was x memory f byte bytes = record { byte = byte; zero = tt; pairs = HoldPairs-nothing was x bytes }
 
 pub by_rules :
-    (rules : Rules) (is_whole : Bool) (held : StackBytes) (o : Op) (sp : Bounds) (vals : Registers Val) (low : Val) (r : Relations) (x : Registers ℕ) (memory : ℕ → ℕ) (f : Flags)
-    → rules ≡ Simple → HoldOneByte (compared_after o r.byte) x memory f → AreBytes x → HoldRelations (relations_after rules is_whole held o sp vals low r) x memory f
-by_rules rules is_whole held o sp vals low r x memory f simple byte bytes =
-    subst (λ q. HoldRelations (relations_after q is_whole held o sp vals low r) x memory f) (sym simple) (simply is_whole held o sp vals low r x memory f byte bytes)
+    (rules : Rules) (is_whole : Bool) (held : StackBytes) (o : Op) (sp : Bounds) (vals : Registers Val) (low : Val) (r : Relations) (was x : Registers ℕ) (memory : ℕ → ℕ) (f : Flags)
+    → rules ≡ Simple → HoldOneByte (compared_after o r.byte) x memory f → AreBytes x → HoldRelations (relations_after rules is_whole held o sp vals low r) was x memory f
+by_rules rules is_whole held o sp vals low r was x memory f simple byte bytes =
+    subst (λ q. HoldRelations (relations_after q is_whole held o sp vals low r) was x memory f) (sym simple) (simply is_whole held o sp vals low r was x memory f byte bytes)
 
-pub related_begun : (row : Row) (x : MState) (r : Relations) → AreRelated r x → AreRelated r (begun row x)
+pub related_begun : (row : Row) (x : MState) (r : Relations) (entry : Activation) → AreRelated r entry x → AreRelated r entry (begun row x)
 unfolding advanced
-related_begun row x r h = h
+related_begun row x r entry h = h
 
 -- so do the values of registers and pairs hold
-pub values_begun : (row : Row) (x : MState) (v : Values) → HoldValues v (begun row x).processor.registers → HoldValues v x.processor.registers
+pub values_begun : (row : Row) (x : MState) (v : Values) (was : Registers ℕ) → HoldValues v was (begun row x).processor.registers → HoldValues v was x.processor.registers
 unfolding advanced
-values_begun row x v h = h
+values_begun row x v was h = h
 
 pub related_taken :
     (z : Setting) (rom : List ℕ) (region : Region) (ranges : List Range) (row : Row) (a : ℕ) (s : AbsState) (entry : Activation) (base : ℕ) (x : MState) (reads : List ℕ) (c : Core) (w : Target)
     → IsTaken z rom region ranges row a s entry base x reads c → is_followed Simple w ≡ true
     → LeadsSimply region w (simple_parts z rom region row (behind_row a row) s c) entry base x (outside (executed (within rom x) row reads))
-    → (held : StackBytes) (sp : Bounds) (low : Val) (r : Relations) → AreRelated r (begun row x)
-    → AreRelated (relations_after z.rules z.is_whole held row.op sp c.registers low r) (outside (executed (within rom x) row reads))
+    → (held : StackBytes) (sp : Bounds) (low : Val) (r : Relations) → AreRelated r entry (begun row x)
+    → AreRelated (relations_after z.rules z.is_whole held row.op sp c.registers low r) entry (outside (executed (within rom x) row reads))
 related_taken z rom region ranges row a s entry base x reads c w k known led held sp low r before =
     let t = simple_parts z rom region row (behind_row a row) s c in
     let e = effect rom row x reads in
@@ -201,14 +201,14 @@ related_taken z rom region ranges row a s entry base x reads c w k known led hel
     let byte : HoldOneByte (compared_after row.op r.byte) e.processor.registers (peek (left_by rom x e row.cycles).storage) e.processor.flags =
     HoldOneByte-compared_after row.op r.byte (begun row x).processor (peek x.storage) (peek (left_by rom x e row.cycles).storage)
     (given rom row x reads).low (given rom row x reads).high (has_operands row.op k.operands) (AreBytes-core c entry (begun row x) k.core k.means) before.byte in
-    subst (λ (v : MState). AreRelated (relations_after z.rules z.is_whole held row.op sp c.registers low r) v) (sym is)
-    (by_rules z.rules z.is_whole held row.op sp c.registers low r _ _ _ k.rules byte (subst (λ (v : MState). AreBytes v.processor.registers) is bytes))
+    subst (λ (v : MState). AreRelated (relations_after z.rules z.is_whole held row.op sp c.registers low r) entry v) (sym is)
+    (by_rules z.rules z.is_whole held row.op sp c.registers low r _ _ _ _ k.rules byte (subst (λ (v : MState). AreBytes v.processor.registers) is bytes))
 
 pub Leads-taken :
     (z : Setting) (rom : List ℕ) (region : Region) (ranges : List Range) (row : Row) (a : ℕ) (s : AbsState) (entry : Activation) (base : ℕ) (x : MState) (reads : List ℕ) (c : Core)
     → IsTaken z rom region ranges row a s entry base x reads c
     → LeadsParts z region ranges (simple_parts z rom region row (behind_row a row) s c) entry base x (outside (executed (within rom x) row reads))
-    → (held : StackBytes) (sp : Bounds) (low : Val) (r : Relations) → AreRelated r (begun row x)
+    → (held : StackBytes) (sp : Bounds) (low : Val) (r : Relations) → AreRelated r entry (begun row x)
     → LeadsRelated z region ranges (related_successor (relations_after z.rules z.is_whole held row.op sp c.registers low r) (simple_parts z rom region row (behind_row a row) s c)) entry base x
     (outside (executed (within rom x) row reads))
 Leads-taken z rom region ranges row a s entry base x reads c k led held sp low r before =
@@ -222,8 +222,8 @@ Leads-taken z rom region ranges row a s entry base x reads c k led held sp low r
 
 -- ---- memory that stays
 
-pub HoldRelations-same : (r : Relations) (x : Registers ℕ) (memory after : ℕ → ℕ) (f : Flags) → ((b : ℕ) → after b ≡ memory b) → HoldRelations r x memory f → HoldRelations r x after f
-HoldRelations-same r x memory after f same h =
+pub HoldRelations-same : (r : Relations) (was x : Registers ℕ) (memory after : ℕ → ℕ) (f : Flags) → ((b : ℕ) → after b ≡ memory b) → HoldRelations r was x memory f → HoldRelations r was x after f
+HoldRelations-same r was x memory after f same h =
     record {
       byte = record {
         byte = h.byte.byte;

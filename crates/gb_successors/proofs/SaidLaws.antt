@@ -1,7 +1,8 @@
 -- Where a successor leads doesn't hang on what its states say of the whole program; what they say holds by itself.
-use Rattle.std.proofs.Common.{◌≡◌, ℕ, ◌+◌, true, List, Bool, Option, sym, ◌∙◌, ap}
+use Rattle.std.proofs.Common.{◌≡◌, ℕ, ◌+◌, true, List, Bool, Option, sym, ◌∙◌, ap, subst}
 use Rattle.gb_ops.specs.declared.machine.Region.{Region}
 use Rattle.gb_ops.specs.Play.{MState}
+use Rattle.gb_domain.specs.declared.relations.Relations.{Relations}
 use Rattle.gb_domain.specs.declared.rules.Rules.{Rules}
 use Rattle.gb_domain.specs.declared.rules.Rules.TheVariants.{Simple, Extended}
 use Rattle.gb_domain.specs.declared.setting.Setting.{Setting}
@@ -20,7 +21,7 @@ use Rattle.gb_domain.specs.declared.pairs.Bounds.{Bounds}
 use Rattle.gb_product.specs.Below.gb_abs.Meaning.{located_by}
 use Rattle.gb_successors.specs.Behind.{with_summary}
 use Rattle.gb_successors.specs.Refused.{meets_closed, meets_oam_transfer}
-use Rattle.gb_successors.specs.Sound.{IsStackFit, IsAllowed, is_followed, LeadsSimply, LeadsWidely, LeadsTo, Leads}
+use Rattle.gb_successors.specs.Sound.{IsStackFit, IsAllowed, is_followed, LeadsSimply, LeadsWidely, LeadsTo, AreRelatedBehind, Leads}
 use Rattle.gb_successors.specs.Successors.{said_successor}
 use Rattle.gb_successors.specs.Way.{Successor}
 
@@ -28,11 +29,38 @@ use Rattle.gb_successors.specs.Way.{Successor}
 pub record LeadsRelated (z : Setting) (region : Region) (ranges : List Range) (t : Successor) (entry : Activation) (base : ℕ) (x y : MState) : Type 0 where
   pub to : LeadsTo z.rules z region t.target t entry base x y
   pub kept : (b : ℕ) → IsKept z region ranges base b → peek y.storage b ≡ peek x.storage b
-  pub related : is_followed z.rules t.target ≡ true → AreRelated t.state.relations y
+  pub related : is_followed z.rules t.target ≡ true → AreRelated t.state.relations entry y
+
+-- where it leads, with what is known together in a procedure that was entered as this one was
+pub record LeadsHere (z : Setting) (region : Region) (ranges : List Range) (t : Successor) (entry : Activation) (base : ℕ) (x y : MState) : Type 0 where
+  pub to : LeadsTo z.rules z region t.target t entry base x y
+  pub kept : (b : ℕ) → IsKept z region ranges base b → peek y.storage b ≡ peek x.storage b
+  pub related : is_followed z.rules t.target ≡ true → AreRelated t.state.relations entry y
+  pub summary : IsSummarized t.state entry y
+
+-- by the rules of versions 1 and 2 main begins nowhere anew
+related_simply : (w : Target) (r : Relations) (entry : Activation) (y : MState) → is_followed Simple w ≡ true → AreRelated r entry y → AreRelatedBehind w r entry y
+related_simply (target.Main a) r entry y known h = cc
+related_simply (target.At a) r entry y known h = h
+related_simply (target.Call a) r entry y known h = h
+related_simply target.Return r entry y known h = h
+related_simply target.Unknown r entry y known h = h
+related_simply target.Lost r entry y known h = h
+
+pub Leads-simply :
+    (z : Setting) (region : Region) (ranges : List Range) (t : Successor) (entry : Activation) (base : ℕ) (x y : MState)
+    → z.rules ≡ Simple → LeadsHere z region ranges t entry base x y → Leads z region ranges t entry base x y
+Leads-simply z region ranges t entry base x y simple h =
+    record {
+      to = h.to;
+      kept = h.kept;
+      related = λ known. related_simply t.target t.state.relations entry y (subst (λ r. is_followed r t.target ≡ true) simple known) (h.related known);
+      summary = h.summary;
+    }
 
 pub Leads-summarized :
     (z : Setting) (region : Region) (ranges : List Range) (t : Successor) (entry : Activation) (base : ℕ) (x y : MState)
-    → LeadsRelated z region ranges t entry base x y → IsSummarized t.state entry y → Leads z region ranges t entry base x y
+    → LeadsRelated z region ranges t entry base x y → IsSummarized t.state entry y → LeadsHere z region ranges t entry base x y
 Leads-summarized z region ranges t entry base x y h said = record { to = h.to; kept = h.kept; related = h.related; summary = said }
 
 -- ---- something else is said
@@ -78,7 +106,7 @@ LeadsTo-said Extended z region w m t entry base x y same h = LeadsWidely-said z 
 pub Leads-said :
     (z : Setting) (region : Region) (ranges : List Range) (m : SummaryParts) (t : Successor) (entry : Activation) (base : ℕ) (x y : MState)
     → m.aside ≡ t.state.summary.aside → LeadsRelated z region ranges t entry base x y → HoldSummary entry.program t.state.cells m y.processor (peek y.storage) y.storage.banks
-    → Leads z region ranges (said_successor m t) entry base x y
+    → LeadsHere z region ranges (said_successor m t) entry base x y
 Leads-said z region ranges m t entry base x y same h said =
     record { to = LeadsTo-said z.rules z region t.target m t entry base x y same h.to; kept = h.kept; related = h.related; summary = said }
 

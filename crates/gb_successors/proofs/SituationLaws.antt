@@ -57,7 +57,7 @@ use Rattle.gb_product.proofs.Below.gb_relations_laws.PointerLaws.{pointer_bounds
 use Rattle.gb_product.proofs.Below.gb_relations_laws.TransferLaws.{relations_after_sound}
 use Rattle.gb_product.proofs.Below.gb_relations_laws.Below.gb_pairs_laws.KeptLaws.{bounds_of_below}
 use Rattle.gb_product.specs.Below.gb_abs.Operations.{with_core}
-use Rattle.gb_product.specs.Meaning.{IsSummarized}
+use Rattle.gb_product.specs.Meaning.{entered_with, IsSummarized}
 use Rattle.gb_product.proofs.MeaningLaws.{AreBytes-core}
 use Rattle.gb_product.proofs.ReducedLaws.{Holds-values}
 use Rattle.gb_successors.specs.Refined.{span_within, with_bits, cut_read, cut_write, with_carry, refined}
@@ -137,7 +137,7 @@ IsWrite-cut b bits (write.Push high low) k = k
 -- ---- as it begins
 
 -- registers and pairs hold
-pub values_hold : (c : Situation) → IsTakenIn c → pair_meaning.Holds (values_of c.product.core.registers c.product.relations.pairs) (begun_at c).processor.registers
+pub values_hold : (c : Situation) → IsTakenIn c → pair_meaning.Holds (values_of c.product.core.registers c.product.relations.pairs) (entered_with c.entry) (begun_at c).processor.registers
 values_hold c k = Holds-values c.product.core c.product.relations c.entry (begun_at c) k.means k.related
 
 pub bytes_begun : (c : Situation) → IsTakenIn c → AreBytes (begun_at c).processor.registers
@@ -158,7 +158,7 @@ read_holds c k =
     (subst (IsSpWithin c.state.summary.aside) (sym (begun_sp c.row c.machine)) (sp_within c k))
     (HoldsRead-cut (pointer_at c) (read_of c.row.op c.product.core) (begun_at c).processor.sp _
     ((read_of_sound c.row.op c.product.core _ refl).gives c.entry (begun_at c) (given_at c).low (given_at c).high k.means k.taken)
-    ((pointer_bounds_sound c.stack.setting.rules c.row.op c.product.core.registers c.product.relations.pairs _ refl).reads (advanced c.machine.processor c.row) (values_hold c k)))
+    ((pointer_bounds_sound c.stack.setting.rules c.row.op c.product.core.registers c.product.relations.pairs _ refl).reads (entered_with c.entry) (advanced c.machine.processor c.row) (values_hold c k)))
 
 -- it has the low bits of its pointer
 pub read_has : (c : Situation) → IsTakenIn c → HasRead (bits_at c) (Effects.read_of c.row.op (advanced c.machine.processor c.row))
@@ -283,7 +283,7 @@ carry_given : (c : Situation) (l h : ℕ) → IsTakenIn c → IsIfKnown (carry_a
 carry_given c l h k =
     let known = bounds_sound c.stack.setting c.state (sp_bounds c.stack.setting c.state) refl in
     (known_carry_sound c.stack.setting.rules c.row.op (sp_bounds c.stack.setting c.state) c.product.core.registers c.product.relations.pairs (carry_at c) refl (sp_below c k)
-    (k.pairs.each pairs.Bc).last (k.pairs.each pairs.De).last (k.pairs.each pairs.Hl).last).gives
+    (k.pairs.each pairs.Bc).last (k.pairs.each pairs.De).last (k.pairs.each pairs.Hl).last).gives (entered_with c.entry)
     (advanced c.machine.processor c.row) l h (bytes_begun c k) (values_hold c k)
     (subst (λ n. (sp_bounds c.stack.setting c.state).first ≤ n) (sym (begun_sp c.row c.machine)) (known.first c.entry c.base c.machine k.stands.based k.stands.means.parts (sp_within c k)))
     (subst (λ n. n ≤ (sp_bounds c.stack.setting c.state).last) (sym (begun_sp c.row c.machine)) (known.last c.entry c.base c.machine k.stands.based k.stands.means.parts (sp_within c k)))
@@ -312,19 +312,19 @@ follows c l h k g =
       write = subst (λ w. HoldsWrite w c.entry (begun_at c).processor.sp (effect_by c l h).write) (sym (write_is c))
           (HoldsWrite-marked _ (marks_at c) c.entry (begun_at c).processor.sp (effect_by c l h).write (λ e. (takes_at c l h k e).stored)
           (HoldsWrite-cut (pointer_at c) (known_at c) (transferred c).write c.entry (begun_at c).processor.sp (effect_by c l h).write f.write
-          ((pointer_bounds_sound c.stack.setting.rules c.row.op c.product.core.registers c.product.relations.pairs _ refl).writes (advanced c.machine.processor c.row) l h (values_hold c k))
+          ((pointer_bounds_sound c.stack.setting.rules c.row.op c.product.core.registers c.product.relations.pairs _ refl).writes (entered_with c.entry) (advanced c.machine.processor c.row) l h (values_hold c k))
           ((known_bits_sound c.stack.setting.rules c.stack.setting.is_whole c.row.op c.product.core.registers _ refl).writes (advanced c.machine.processor c.row) l h (bytes_begun c k) (registers_in c k))));
     }
 
 -- what is known together holds behind it, as far as memory is RAM
 pub related_behind : (c : Situation) (l h : ℕ) (written : ℕ → ℕ) → IsTakenIn c → AreGiven c l h → relations.Writes (held_at c) (effect_by c l h).write (ram_at c.machine.storage) written
-    → HoldRelations (related_at c) (effect_by c l h).processor.registers written (effect_by c l h).processor.flags
+    → HoldRelations (related_at c) (entered_with c.entry) (effect_by c l h).processor.registers written (effect_by c l h).processor.flags
 unfolding relations_behind
 related_behind c l h written k g w =
     let known = bounds_sound c.stack.setting c.state (sp_bounds c.stack.setting c.state) refl in
     let word = is_word_at c k in
     (relations_after_sound c.stack.setting.rules c.stack.setting.is_whole (held_at c) c.row.op (sp_bounds c.stack.setting c.state) c.product.core.registers (word_at c).low c.product.relations _ refl
-    (has_operands c.row.op k.operands) (sp_below c k) (k.pairs.each pairs.Bc).last (k.pairs.each pairs.De).last (k.pairs.each pairs.Hl).last).gives
+    (has_operands c.row.op k.operands) (sp_below c k) (k.pairs.each pairs.Bc).last (k.pairs.each pairs.De).last (k.pairs.each pairs.Hl).last).gives (entered_with c.entry)
     (advanced c.machine.processor c.row) (ram_at c.machine.storage) written l h
     (record {
       registers = (values_hold c k).registers;
@@ -335,7 +335,7 @@ related_behind c l h written k g w =
       low_small = small (word_at c).low l word.low g.low;
       high_small = small (word_at c).high h word.high g.high;
       placed = k.place;
-      relations = HoldRelations-ram (held_at c) c.product.relations _ (peek c.machine.storage) (ram_at c.machine.storage) _ k.place (λ b ram. ram_is c.machine.storage b ram) k.related;
+      relations = HoldRelations-ram (held_at c) c.product.relations _ _ (peek c.machine.storage) (ram_at c.machine.storage) _ k.place (λ b ram. ram_is c.machine.storage b ram) k.related;
       reads = g.reads;
     })
     w

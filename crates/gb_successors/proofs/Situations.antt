@@ -128,7 +128,7 @@ related_at c = relations_behind c.stack c.entry.program c.rom c.row.op c.state c
 
 -- something is meant behind it
 abbrev pub is_meant : Situation → Bool
-is_meant c = is_some (reduced c.stack.setting.rules (parts_at c).state.core (related_at c))
+is_meant c = is_some (reduced c.stack.setting.rules c.stack.setting.entered (parts_at c).state.core (related_at c))
 
 -- the stack with the items before it
 abbrev pub held_at : Situation → StackBytes
@@ -146,7 +146,7 @@ pub record IsTakenIn (c : Situation) : Type 0 where
   pub second : slice_index c.reads 1 ≤ 255
   pub keeps : Keeps c.state.core c.product.core
   pub means : MeansCore c.product.core c.entry (begun_at c)
-  pub related : AreRelated c.product.relations (begun_at c)
+  pub related : AreRelated c.product.relations c.entry (begun_at c)
   pub core : IsCore c.product.core
   pub pairs : ArePairs c.product.relations.pairs
   pub place : IsBytePlaced (held_at c) c.product.relations.byte.address

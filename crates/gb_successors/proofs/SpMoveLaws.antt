@@ -33,7 +33,7 @@ use Rattle.gb_successors.specs.declared.stacks.Around.{Around}
 use Rattle.gb_successors.specs.declared.stacks.Stack.{Stack}
 use Rattle.gb_successors.specs.declared.stacks.StackMove.{StackMove}
 use Rattle.gb_successors.specs.declared.stacks.StackMove.TheVariants as move
-use Rattle.gb_successors.specs.Stacks.{address_below, bytes_to, bytes_to_if, own_bytes, main_bytes, restart_by, set_by, set_to, set_within, extended, displaced_by, push_of, behind_word, stack_move}
+use Rattle.gb_successors.specs.Stacks.{bytes_to, bytes_to_if, own_bytes, main_bytes, restart_by, set_by, set_to, set_within, extended, displaced_by, push_of, behind_word, stack_move}
 use Rattle.gb_successors.proofs.AroundLaws.{either_aside, either_within, either_back, either_popped}
 
 -- ---- what is written where SP moves

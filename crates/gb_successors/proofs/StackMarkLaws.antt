@@ -1,7 +1,6 @@
 -- An instruction that takes the address of the procedure's mark gives it: in HL, or as the word that it stores.
 use Rattle.std.proofs.Common.{◌≡◌, ℕ, ◌+◌, ◌-◌, ◌/◌, ◌%◌, ◌*◌, ◌≤◌, ◌<◌, Bool, true, false, cond, ◌==◌, ◌&&◌, nat_lt, length, refl, sym, ◌∙◌, ap, subst, arith}
 use Rattle.std.proofs.lemmas.Bool.{eqb-true, and_parts}
-use Rattle.std.specs.Prelude.{is_some}
 use Rattle.gb_ops.specs.declared.machine.Effect.{Effect}
 use Rattle.gb_ops.specs.declared.machine.Write.{Write}
 use Rattle.gb_ops.specs.declared.machine.Write.TheVariants as machine_write
@@ -14,11 +13,10 @@ use Rattle.gb_ops.specs.declared.registers.Processor.{Processor}
 use Rattle.gb_ops.specs.declared.registers.Registers.{Registers}
 use Rattle.gb_ops.specs.Arithmetic.{displaced}
 use Rattle.gb_ops.specs.Effects as Effects
-use Rattle.gb_ops.specs.Pairs.{with_pair, pair_value, word}
+use Rattle.gb_ops.specs.Pairs.{with_pair, pair_value}
 use Rattle.gb_ops.specs.Play.{MState}
 use Rattle.gb_ops.specs.Registers.{get}
-use Rattle.gb_domain.specs.declared.rules.Rules.{Rules}
-use Rattle.gb_domain.specs.declared.rules.Rules.TheVariants.{Simple, Extended}
+use Rattle.gb_domain.specs.declared.rules.Rules.TheVariants.{Simple}
 use Rattle.gb_domain.specs.declared.types.Core.{Core}
 use Rattle.gb_domain.specs.declared.types.Origin.{Origin}
 use Rattle.gb_domain.specs.declared.types.Origin.TheVariants.{MarkHigh, MarkLow}
@@ -30,11 +28,10 @@ use Rattle.gb_product.specs.Below.gb_abs.Origins.{own}
 use Rattle.gb_product.specs.Below.gb_abs_effects.declared.writes.AbsWrite.{AbsWrite}
 use Rattle.gb_product.specs.Below.gb_abs_effects.declared.writes.AbsWrite.TheVariants as write
 use Rattle.gb_product.specs.Below.gb_abs_effects.Sound.{HasBytes, HoldsWrite, IsWrite}
-use Rattle.gb_product.specs.Below.gb_vals.Flags as Flags
 use Rattle.gb_successors.specs.declared.stacks.Stack.{Stack}
-use Rattle.gb_successors.specs.StackMark.{is_moved_to, takes_mark, is_whole_by, is_known, marks, marked_write, marked_core}
+use Rattle.gb_successors.specs.StackMark.{is_moved_to, takes_mark, is_whole_by, marks, marked_write, marked_core}
 use Rattle.gb_successors.specs.Stacks.{address_below}
-use Rattle.std.proofs.Common.{Option, Some, None, nat_le}
+use Rattle.std.proofs.Common.{Some, None, nat_le}
 use Rattle.std.proofs.lemmas.Bool.Decides.{nat_tests}
 use Rattle.gb_ops.specs.declared.machine.Region.{Region}
 use Rattle.gb_domain.specs.Areas.{IsRegion}

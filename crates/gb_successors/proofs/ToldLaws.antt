@@ -1,5 +1,5 @@
 -- What a condition tells of a byte of memory is known of the states before the instruction too.
-use Rattle.std.proofs.Common.{◌≡◌, ℕ, zero, suc, ◌-◌, Bool, true, false, not, cond, ◌&&◌, ◌||◌, ◌⊎◌, inl, inr, nat_le, nat_lt, List, [], ◌∷◌, length, slice_get, Option, Some, None, refl, sym, subst, ◌≤◌, ◌<◌, arith}
+use Rattle.std.proofs.Common.{◌≡◌, ℕ, zero, suc, ◌-◌, Bool, true, false, not, cond, ◌&&◌, ◌||◌, ◌⊎◌, inl, inr, nat_le, nat_lt, List, [], ◌∷◌, length, slice_get, Option, Some, None, refl, sym, subst, arith}
 use Rattle.std.specs.Prelude.{IfSome, is_some}
 use Rattle.std.specs.List.{AllByRecursion, filter, list_any}
 use Rattle.gb_ops.specs.declared.machine.Region.{Region}
@@ -64,7 +64,7 @@ use Rattle.gb_domain.specs.declared.types.Val.{Val}
 use Rattle.gb_product.specs.Below.gb_pairs.declared.values.Values.{Values}
 use Rattle.gb_product.specs.Below.gb_relations.Transfer.{values_of}
 use Rattle.gb_product.specs.declared.parts.Product.{Product}
-use Rattle.gb_product.specs.Meaning.{IsSummarized}
+use Rattle.gb_product.specs.Meaning.{entered_with, IsSummarized}
 use Rattle.gb_domain.specs.Summaries.{Program}
 
 -- ---- cells alone change
@@ -166,7 +166,7 @@ Holds-item z s a v entry base x right m h = choose z.is_whole (item_at z s a) re
 
 pub held_before :
     (k : Stack) (s : AbsState) (p : Product) (entry : Activation) (base : ℕ) (x : MState) (program : Program)
-    → entry.program ≡ program → IsBase k.setting base → MeansParts s entry base x → IsSummarized s entry x → HoldValues (values_of p.core.registers p.relations.pairs) x.processor.registers
+    → entry.program ≡ program → IsBase k.setting base → MeansParts s entry base x → IsSummarized s entry x → HoldValues (values_of p.core.registers p.relations.pairs) (entered_with entry) x.processor.registers
     → (a : ℕ) → p.relations.byte.address ≡ Some a → Holds (memory_before k program s p) entry (peek x.storage a)
 held_before k s p entry base x program of right means said values a e =
     let v = values_of p.core.registers p.relations.pairs in
@@ -218,6 +218,7 @@ Stands-told z rom region row a (Some c) s entry base x told h =
       controlled = h.controlled;
       apart = h.apart;
       means = record { parts = MeansParts-told region (cell_room z.rules) c s entry base x told h.placed h.room h.is_region h.means.parts; related = h.means.related; summary = HoldSummary-with_cells entry.program s.cells _ s.summary x.processor (peek x.storage) x.storage.banks (has_cells_with_cell (cell_room z.rules) c s.cells) h.means.summary };
+      within = h.within;
       based = h.based;
       at = h.at;
     }

@@ -15,7 +15,6 @@ use Rattle.gb_domain.specs.declared.relations.Relations.{Relations}
 use Rattle.gb_domain.specs.declared.rules.Rules.{Rules}
 use Rattle.gb_domain.specs.declared.rules.Rules.TheVariants.{Simple, Extended}
 use Rattle.gb_domain.specs.declared.setting.Setting.{Setting}
-use Rattle.gb_domain.specs.declared.types.Cell.{Cell}
 use Rattle.gb_domain.specs.declared.types.Core.{Core}
 use Rattle.gb_domain.specs.declared.types.Range.{Range}
 use Rattle.gb_domain.specs.Types.{AbsState}
@@ -102,7 +101,7 @@ bytes_untaken row next s c r = bytes-least row.op (length s.items)
 pub untaken_executes :
     (z : Setting) (rom : List ℕ) (region : Region) (ranges : List Range) (row : Row) (a : ℕ) (s : AbsState) (entry : Activation) (base : ℕ) (x : MState) (reads : List ℕ) (c : Core) (r : Relations)
     → Stands z rom region row a s entry base x → (row.op ≡ op.Stop → ⊥) → x.processor.halt_mark ≡ false
-    → Keeps s.core c → MeansCore c entry (begun row x) → AreRelated r (begun row x) → (effect rom row x reads).is_taken ≡ false
+    → Keeps s.core c → MeansCore c entry (begun row x) → AreRelated r entry (begun row x) → (effect rom row x reads).is_taken ≡ false
     → LeadsRelated z region ranges (simple_untaken row (behind_row a row) s c r) entry base x (outside (executed (within rom x) row reads))
     × IsSummarized (simple_untaken row (behind_row a row) s c r).state entry (outside (executed (within rom x) row reads)) × (row_faults (Some row) region (within rom x) reads ≡ no_faults)
     × ((b : ℕ) → peek (outside (executed (within rom x) row reads)).storage b ≡ peek x.storage b)
@@ -129,7 +128,7 @@ untaken_executes z rom region ranges row a s entry base x reads c r stands runs 
               room = ended_room region base false row.cycles_not_taken (with_core s c) stands.room;
             });
             kept = λ b kept. passed_peek (view rom x false) row.cycles_not_taken b;
-            related = λ known. HoldRelations-same r _ (peek x.storage) _ _ (λ b. passed_peek (view rom x false) row.cycles_not_taken b) related;
+            related = λ known. HoldRelations-same r _ _ (peek x.storage) _ _ (λ b. passed_peek (view rom x false) row.cycles_not_taken b) related;
           }),
       subst (λ y. IsSummarized (simple_untaken row (behind_row a row) s c r).state entry y) (sym is)
           (HoldSummary-passed entry.program s.cells s.summary (advanced x.processor row) (view rom x false) row.cycles_not_taken (HoldSummary-begun entry.program s.cells s.summary row x stands.means.summary)),

@@ -13,6 +13,7 @@ use Rattle.gb_ops.specs.Memory.{passed}
 use Rattle.gb_ops.specs.Machine.{executed, mark_of, halt_stay, halt_bug, has_enabled}
 use Rattle.gb_ops.specs.Play.{MState, within, outside}
 use Rattle.gb_domain.specs.declared.relations.Relations.{Relations}
+use Rattle.gb_domain.specs.declared.pairs.PairBounds.{PairBounds}
 use Rattle.gb_domain.specs.declared.rules.Rules.{Rules}
 use Rattle.gb_domain.specs.declared.rules.Rules.TheVariants.{Simple, Extended}
 use Rattle.gb_domain.specs.declared.setting.Setting.{Setting}
@@ -45,7 +46,7 @@ use Rattle.gb_product.specs.Below.gb_relations.Compared.{comparison_of, writes_a
 use Rattle.gb_product.specs.Below.gb_relations.Written.{writes_flags}
 use Rattle.gb_product.specs.Below.gb_relations.Written.{written as written_registers}
 use Rattle.gb_product.proofs.Below.gb_relations_laws.ComparedLaws.{HoldOneByte-only_of_a}
-use Rattle.gb_product.specs.Meaning.{AreRelated}
+use Rattle.gb_product.specs.Meaning.{entered_with, AreRelated}
 use Rattle.gb_product.specs.declared.parts.Branch.{Branch}
 use Rattle.gb_product.specs.declared.parts.Product.{Product}
 use Rattle.gb_product.specs.Reduced.{product_of, reduced}
@@ -54,7 +55,6 @@ use Rattle.gb_product.specs.Sound.{IsKnown, IsMeantBranch}
 use Rattle.gb_product.proofs.MeaningLaws.{AreBytes-core}
 use Rattle.gb_product.proofs.SideLaws.{taken_side_sound, not_taken_side_sound, taken_side_cuts, not_taken_side_cuts}
 use Rattle.gb_ops.specs.declared.op.Pair.TheVariants as pair
-use Rattle.gb_domain.specs.declared.types.Halves.{Halves}
 use Rattle.gb_domain.specs.Limits.{item_room}
 use Rattle.gb_product.specs.Below.gb_abs.Stack.{pushed, popped}
 use Rattle.gb_product.specs.Below.gb_abs_effects.declared.writes.AbsWrite.TheVariants as write
@@ -68,7 +68,7 @@ use Rattle.gb_successors.specs.Behind.{starts, written, with_cell_if, ended}
 use Rattle.gb_successors.specs.Way.{Successor}
 use Rattle.gb_successors.specs.Successors.{word_in, related_successor, relations_behind, taken_successor, untaken_successor, with_product, reduced_successor, product_before, taken_by_side, not_taken_by_side, taken_from, not_taken_from, staying_successor, woken, may_stay, stays, successors_of, taken_parts, said_successor, summary_behind, memory_before, taken_move}
 use Rattle.gb_successors.specs.Summaries.{summary_by}
-use Rattle.gb_successors.specs.Sound.{bytes_behind, IsAllowed, Leads, LeadsSimply, LeadsParts, LeadsBy, IsHalt, IsHeld, IsStackKnown, Stands, IsRuled, IsStackRuled, Executes, AreSoundSuccessors}
+use Rattle.gb_successors.specs.Sound.{bytes_behind, IsAllowed, LeadsSimply, LeadsParts, LeadsBy, IsHalt, IsHeld, IsStackKnown, Stands, IsRuled, IsStackRuled, Executes, AreSoundSuccessors}
 use Rattle.gb_successors.proofs.SimpleLaws.{behind_row, with_stack_of, simple_parts, IsTold, taken_simply}
 use Rattle.gb_successors.proofs.ToldLaws.{told_core, told_items, IsToldCell, IsToldCell-side, Stands-told, IsStackKnown-told, IsAllowed-told, IsTold-outside, IsTold-taken, IsVal-memory_before, held_before}
 use Rattle.gb_successors.proofs.HoldingLaws.{settled_simply}
@@ -76,7 +76,7 @@ use Rattle.gb_successors.specs.Settled.{branch_outside}
 use Rattle.gb_product.specs.Held.{stack_held}
 use Rattle.gb_successors.proofs.PlainLaws.{Keeps, Keeps-settle}
 use Rattle.gb_successors.proofs.MarkLaws.{executed_mark}
-use Rattle.gb_successors.proofs.SaidLaws.{Leads-summarized, Leads-said, IsAllowed-said}
+use Rattle.gb_successors.proofs.SaidLaws.{Leads-summarized, Leads-said, IsAllowed-said, LeadsHere, Leads-simply}
 use Rattle.gb_successors.proofs.SettledLaws.{HoldSummary-settled}
 use Rattle.gb_successors.proofs.SummaryLaws.{HoldSummary-passed}
 use Rattle.gb_successors.proofs.RelatedLaws.{MeansParts-related, IsAllowed-parts, LeadsSimply-related, by_rules, related_begun, Leads-taken, HoldRelations-same, values_begun}
@@ -91,15 +91,15 @@ use Rattle.gb_successors.specs.Stacks.{address_below}
 
 -- ---- executed
 
-reduced_simply : (rules : Rules) (c : Core) (r : Relations) → rules ≡ Simple → reduced rules c r ≡ Some (product_of c r)
+reduced_simply : (rules : Rules) (entered : PairBounds) (c : Core) (r : Relations) → rules ≡ Simple → reduced rules entered c r ≡ Some (product_of c r)
 unfolding reduced
-reduced_simply Simple c r h = refl
-reduced_simply Extended c r h = absurd cc
+reduced_simply Simple entered c r h = refl
+reduced_simply Extended entered c r h = absurd cc
 
 -- nothing is cut behind it
-whole_successor : (rules : Rules) (t : Successor) → rules ≡ Simple → reduced_successor rules t ≡ Some t
+whole_successor : (rules : Rules) (entered : PairBounds) (t : Successor) → rules ≡ Simple → reduced_successor rules entered t ≡ Some t
 unfolding reduced_successor
-whole_successor rules t h = ap (option_map (with_product t)) (reduced_simply rules t.state.core t.state.relations h)
+whole_successor rules entered t h = ap (option_map (with_product t)) (reduced_simply rules entered t.state.core t.state.relations h)
 
 taken_way : (k : Stack) (program : Program) (rom : List ℕ) (row : Row) (a : ℕ) (s : AbsState) (b : Branch) → k.setting.rules ≡ Simple
     → taken_side row.op (memory_before k program s (product_of (core_settle s.core) s.relations)) (core_settle s.core) s.relations ≡ Some b
@@ -107,10 +107,10 @@ taken_way : (k : Stack) (program : Program) (rom : List ℕ) (row : Row) (a : �
 unfolding successors_of product_before
 taken_way k program rom row a s b h e =
     let next = behind_row a row in
-    ap (option_and_then (taken_from k program rom row next s)) (reduced_simply k.setting.rules (core_settle s.core) s.relations h)
+    ap (option_and_then (taken_from k program rom row next s)) (reduced_simply k.setting.rules k.setting.entered (core_settle s.core) s.relations h)
     ∙ (ap (option_and_then (taken_by_side k program rom row next s)) e
     ∙ (settled_simply k b.cell s.core (taken_successor k program rom row next s (branch_outside k.region b)) h
-    ∙ whole_successor k.setting.rules (taken_successor k program rom row next s (branch_outside k.region b)) h))
+    ∙ whole_successor k.setting.rules k.setting.entered (taken_successor k program rom row next s (branch_outside k.region b)) h))
 
 untaken_way : (k : Stack) (program : Program) (rom : List ℕ) (row : Row) (a : ℕ) (s : AbsState) (b : Branch) → k.setting.rules ≡ Simple
     → not_taken_side row.op (memory_before k program s (product_of (core_settle s.core) s.relations)) (core_settle s.core) s.relations ≡ Some b
@@ -118,10 +118,10 @@ untaken_way : (k : Stack) (program : Program) (rom : List ℕ) (row : Row) (a : 
 unfolding successors_of product_before
 untaken_way k program rom row a s b h e =
     let next = behind_row a row in
-    ap (option_and_then (not_taken_from k program row next s)) (reduced_simply k.setting.rules (core_settle s.core) s.relations h)
+    ap (option_and_then (not_taken_from k program row next s)) (reduced_simply k.setting.rules k.setting.entered (core_settle s.core) s.relations h)
     ∙ (ap (option_and_then (not_taken_by_side k row next s)) e
     ∙ (settled_simply k b.cell s.core (untaken_successor k row next s (branch_outside k.region b)) h
-    ∙ whole_successor k.setting.rules (untaken_successor k row next s (branch_outside k.region b)) h))
+    ∙ whole_successor k.setting.rules k.setting.entered (untaken_successor k row next s (branch_outside k.region b)) h))
 
 -- the successor where it is taken, which says nothing of the whole program
 abbrev simple_related : Stack → Program → List ℕ → Row → ℕ → AbsState → Branch → Successor
@@ -175,9 +175,9 @@ simple_none z rom region row next s c h =
 Leads-behind :
     (k : Stack) (program : Program) (rom : List ℕ) (ranges : List Range) (row : Row) (a : ℕ) (s : AbsState) (entry : Activation) (base : ℕ) (x : MState) (reads : List ℕ) (b : Branch)
     → (with_cell_if k.setting b.cell s).summary.aside ≡ None
-    → IsTaken k.setting rom k.region ranges row a (with_cell_if k.setting b.cell s) entry base x reads b.core → AreRelated b.relations (begun row x)
+    → IsTaken k.setting rom k.region ranges row a (with_cell_if k.setting b.cell s) entry base x reads b.core → AreRelated b.relations entry (begun row x)
     → LeadsParts k.setting k.region ranges (simple_parts k.setting rom k.region row (behind_row a row) (with_cell_if k.setting b.cell s) b.core) entry base x (outside (executed (within rom x) row reads))
-    → Leads k.setting k.region ranges (simple_taken k program rom row (behind_row a row) s b) entry base x (outside (executed (within rom x) row reads))
+    → LeadsHere k.setting k.region ranges (simple_taken k program rom row (behind_row a row) s b) entry base x (outside (executed (within rom x) row reads))
 unfolding relations_behind
 Leads-behind k program rom ranges row a s entry base x reads b none taken related led =
     let y = outside (executed (within rom x) row reads) in
@@ -209,12 +209,12 @@ executes_simply k program rom row a s ranges entry base x reads simple of stands
     begins : MeansCore settled entry (begun row x)
     begins = begun_core row x s.core entry stands.means.parts.core
 
-    related : AreRelated s.relations (begun row x)
-    related = related_begun row x s.relations stands.means.related
+    related : AreRelated s.relations entry (begun row x)
+    related = related_begun row x s.relations entry stands.means.related
 
     known : IsKnown memory s.relations entry (begun row x)
     known = record {
-      byte = held_before k s (product_of settled s.relations) entry base x program of stands.based stands.means.parts stands.means.summary (values_begun row x (values_of settled.registers s.relations.pairs) (Holds-values settled s.relations entry (begun row x) begins related));
+      byte = held_before k s (product_of settled s.relations) entry base x program of stands.based stands.means.parts stands.means.summary (values_begun row x (values_of settled.registers s.relations.pairs) (entered_with entry) (Holds-values settled s.relations entry (begun row x) begins related));
       related = related;
     }
 
@@ -250,7 +250,8 @@ executes_simply k program rom row a s ranges entry base x reads simple of stands
           is_one = inl (taken_way k program rom row a s b simple e ∙ ap Some (taken_is k program rom row (behind_row a row) s o simple (IsTold-outside k.region b.cell (read_of row.op b.core) (IsTold-taken row.op memory settled b.core s.relations b e))));
           mark = executed_mark rom x row reads;
           held = λ allowed. held_simply k program rom row a s (simple_taken k program rom row (behind_row a row) s o) simple (subst (λ items. length parts.state.items ≤ bytes_behind row.op (length items)) (told_items k.setting o.cell s) (done allowed).held);
-          leads = λ allowed. Leads-behind k program rom ranges row a s entry base x reads o (ap (λ (m : SummaryParts). m.aside) (told_summary k.setting o.cell s) ∙ stands.quiet simple) t h.related (done allowed).leads;
+          leads = λ allowed. Leads-simply k.setting k.region ranges (simple_taken k program rom row (behind_row a row) s o) entry base x (outside (executed (within rom x) row reads)) simple
+              (Leads-behind k program rom ranges row a s entry base x reads o (ap (λ (m : SummaryParts). m.aside) (told_summary k.setting o.cell s) ∙ stands.quiet simple) t h.related (done allowed).leads);
           faults = λ allowed. (done allowed).faults;
         }
 
@@ -270,7 +271,8 @@ executes_simply k program rom row a s ranges entry base x reads simple of stands
           mark = executed_mark rom x row reads;
           held = λ allowed. held_simply k program rom row a s (simple_untaken row (behind_row a row) told b.core b.relations) simple (subst (λ items. length (simple_untaken row (behind_row a row) told b.core b.relations).state.items ≤ bytes_behind row.op (length items)) (told_items k.setting o.cell s)
               (bytes_untaken row (behind_row a row) told b.core b.relations));
-          leads = λ allowed. Leads-summarized k.setting k.region ranges (simple_untaken row (behind_row a row) told b.core b.relations) entry base x (outside (executed (within rom x) row reads)) done.0 done.1;
+          leads = λ allowed. Leads-simply k.setting k.region ranges (simple_untaken row (behind_row a row) told b.core b.relations) entry base x (outside (executed (within rom x) row reads)) simple
+              (Leads-summarized k.setting k.region ranges (simple_untaken row (behind_row a row) told b.core b.relations) entry base x (outside (executed (within rom x) row reads)) done.0 done.1);
           faults = λ allowed. done.2;
         }
 
@@ -297,7 +299,7 @@ stays_way : (row : Row) (a : ℕ) (s : AbsState) → row.op ≡ op.Halt → s.co
 unfolding stays may_stay
 stays_way row a s is pending enable = rw (is, pending, enable) refl
 
-stays_at : (k : Stack) (program : Program) (rom : List ℕ) (row : Row) (a : ℕ) (s : AbsState) (p : Product) → product_before k.setting.rules s ≡ Some p → (successors_of k program rom row a s).stays ≡ stays row a s
+stays_at : (k : Stack) (program : Program) (rom : List ℕ) (row : Row) (a : ℕ) (s : AbsState) (p : Product) → product_before k.setting.rules k.setting.entered s ≡ Some p → (successors_of k program rom row a s).stays ≡ stays row a s
 unfolding successors_of
 stays_at k program rom row a s p is = ap (option_and_then (λ (q : Product). stays row a s)) is
 
@@ -325,7 +327,7 @@ unfolding halt_stay within outside staying_successor ended
 halt_stays k program rom row a s ranges entry base x stands halt pending enabled =
     let m = stands.means.parts in
     let woke : MState = record x { processor = record x.processor { ime = ime.On } } in
-    let before = before_of k s entry (begun row x) stands.core stands.pairs (begun_core row x s.core entry m.core) (related_begun row x s.relations stands.means.related) in
+    let before = before_of k s entry (begun row x) stands.core stands.pairs stands.within (begun_core row x s.core entry m.core) (related_begun row x s.relations entry stands.means.related) in
     record {
       successor = staying_successor a s;
       held = bytes_ended 1 (with_core s (woken s.core));
@@ -339,7 +341,7 @@ halt_stays k program rom row a s ranges entry base x stands halt pending enabled
           room = ended_room k.region base false 1 (with_core s (woken s.core)) stands.room;
         });
         kept = λ b kept. passed_peek (view rom x false) 1 b;
-        related = λ known. HoldRelations-same s.relations _ (peek x.storage) _ _ (λ b. passed_peek (view rom x false) 1 b) stands.means.related;
+        related = λ known. HoldRelations-same s.relations _ _ (peek x.storage) _ _ (λ b. passed_peek (view rom x false) 1 b) stands.means.related;
         summary = HoldSummary-passed entry.program s.cells s.summary woke.processor (view rom x false) 1
             (HoldSummary-settled entry.program s.cells s.summary x.processor woke.processor (peek x.storage) x.storage.banks refl refl (λ off. absurd (not_both x.processor.ime pending off)) stands.means.summary);
       };
@@ -381,10 +383,10 @@ halt_target z rom region row a s c halt = rw (halt.op_is, halt.length_is) refl
 halt_related :
     (k : Stack) (program : Program) (rom : List ℕ) (row : Row) (a : ℕ) (s : AbsState) (entry : Activation) (base : ℕ) (x y : MState)
     → k.setting.rules ≡ Simple → Stands k.setting rom k.region row a s entry base x → IsHalt row → y.processor.registers ≡ x.processor.registers → y.processor.flags ≡ x.processor.flags
-    → AreRelated (relations_behind k program rom row.op s (product_of (core_settle s.core) s.relations)) y
+    → AreRelated (relations_behind k program rom row.op s (product_of (core_settle s.core) s.relations)) entry y
 unfolding relations_behind compared_after comparison_of writes_a writes_flags written_registers
 halt_related k program rom row a s entry base x y simple stands halt registers flags =
-    by_rules k.setting.rules k.setting.is_whole (stack_held k.setting k.region (length s.items)) row.op _ _ _ s.relations _ _ _ simple
+    by_rules k.setting.rules k.setting.is_whole (stack_held k.setting k.region (length s.items)) row.op _ _ _ s.relations _ _ _ _ simple
     (subst (λ (o : Op). HoldOneByte (compared_after o s.relations.byte) y.processor.registers (peek y.storage) y.processor.flags) (sym halt.op_is)
     (HoldOneByte-only_of_a s.relations.byte x.processor.registers y.processor.registers (peek x.storage) (peek y.storage) x.processor.flags y.processor.flags
     (ap (λ (r : Registers ℕ). r.a) registers) flags stands.means.related.byte))
@@ -416,14 +418,15 @@ halt_repeats_simply k program rom row a s ranges entry base x simple stands halt
       successor = simple_taken k program rom row (behind_row a row) s b;
       is_way = taken_way k program rom row a s b simple (halt_side row (memory_before k program s (product_of c s.relations)) c s.relations halt.op_is) ∙ ap Some (taken_is k program rom row (behind_row a row) s b simple tt);
       held = subst (λ (u : AbsState). length u.items ≤ length s.items) (sym (halt_state k.setting rom k.region row a s c halt)) (bytes_ended 1 (with_core s c));
-      leads = Leads-said k.setting k.region ranges no_summary (related_successor (relations_behind k program rom row.op s (product_of c s.relations)) t) entry base x y
+      leads = Leads-simply k.setting k.region ranges (simple_taken k program rom row (behind_row a row) s b) entry base x y simple
+          (Leads-said k.setting k.region ranges no_summary (related_successor (relations_behind k program rom row.op s (product_of c s.relations)) t) entry base x y
           (sym (simple_none k.setting rom k.region row (behind_row a row) s c (stands.quiet simple)))
           (record {
             to = leads_simply k.setting k.region t.target _ entry base x y simple (LeadsSimply-related k.region t.target (relations_behind k program rom row.op s (product_of c s.relations)) t entry base x y to);
             kept = λ b kept. passed_peek (view rom x false) 1 b;
             related = λ known. halt_related k program rom row a s entry base x y simple stands halt refl refl;
           })
-          (nothing_holds entry.program _ y.processor (peek y.storage) y.storage.banks);
+          (nothing_holds entry.program _ y.processor (peek y.storage) y.storage.banks));
     }
 
 -- ---- by any rules

@@ -1,6 +1,6 @@
 -- What of the stack is known of the states behind an instruction: a side may tell of an item, and items that are gone are no places
 -- (abstract semantics; own rules: version 4).
-use Rattle.std.specs.Prelude.{ℕ, length, Option, Some, None, option_map, if◌then◌else◌}
+use Rattle.std.specs.Prelude.{length, Option, Some, None, option_map, if◌then◌else◌}
 use Rattle.gb_ops.specs.declared.machine.Region.{Region}
 use Rattle.gb_domain.specs.declared.relations.Relations.{Relations}
 use Rattle.gb_domain.specs.declared.rules.Rules.{Rules}

@@ -13,6 +13,7 @@ use Rattle.gb_ops.specs.Pairs.{word}
 use Rattle.gb_ops.specs.Machine.{executed, halt_stay, halt_bug, has_enabled}
 use Rattle.gb_ops.specs.Faults.{no_faults, row_faults}
 use Rattle.gb_ops.specs.Play.{MState, within, outside}
+use Rattle.gb_domain.specs.declared.relations.Relations.{Relations}
 use Rattle.gb_domain.specs.declared.rules.Rules.{Rules}
 use Rattle.gb_domain.specs.declared.rules.Rules.TheVariants.{Simple, Extended}
 use Rattle.gb_domain.specs.declared.setting.Setting.{Setting}
@@ -36,10 +37,11 @@ use Rattle.gb_product.specs.Below.gb_abs_effects.Sound.{HasBytes}
 use Rattle.gb_product.specs.Below.gb_abs_effects.Targets.{moves_sp, is_push, is_pop, is_call, is_return}
 use Rattle.gb_abs_memory.specs.Kept.{IsKept}
 use Rattle.gb_abs_memory.specs.Sound.{IsRom, AreVals}
+use Rattle.gb_product.specs.Below.gb_pairs.Sound.{AreWithin}
 use Rattle.gb_product.specs.Below.gb_relations.Sound.{IsBytePlaced}
 use Rattle.gb_product.specs.Held.{stack_held}
 use Rattle.gb_product.specs.declared.parts.Product.{Product}
-use Rattle.gb_product.specs.Meaning.{AreRelated, IsSummarized, Means}
+use Rattle.gb_product.specs.Meaning.{entered_with, AreRelated, IsSummarized, Means}
 use Rattle.gb_abs_memory.specs.Windows.{known_kind}
 use Rattle.gb_successors.specs.declared.stacks.Stack.{Stack}
 use Rattle.gb_successors.specs.declared.stacks.StackMove.{StackMove}
@@ -117,7 +119,7 @@ abbrev pub IsStackRuled : Rules → Stack → Program → List ℕ → Row → �
 IsStackRuled Simple k program rom row a s base = IsStackKnown k.setting k.region row.op s base
 IsStackRuled Extended k program rom row a s base =
     is_some (successors_of k program rom row a s).taken ≡ true
-    → (p : Product) → product_before Extended s ≡ Some p → IsReady k row.op (move_before k program rom row a s p) s base
+    → (p : Product) → product_before Extended k.setting.entered s ≡ Some p → IsReady k row.op (move_before k program rom row a s p) s base
 
 -- what the stack has to have for a successor by the rules of versions 1 and 2: a call wants room for the return address, a return
 -- finds nothing but its own
@@ -155,7 +157,7 @@ abbrev pub IsMovedFrom : Stack → Program → List ℕ → Row → ℕ → AbsS
 IsMovedFrom k program rom row a s t =
     (length t.state.items ≡ length s.items)
     ⊎ (((successors_of k program rom row a s).taken ≡ Some t)
-    × ((p : Product) → product_before Extended s ≡ Some p → length t.state.items ≡ bytes_moved (move_before k program rom row a s p) (length s.items)))
+    × ((p : Product) → product_before Extended k.setting.entered s ≡ Some p → length t.state.items ≡ bytes_moved (move_before k program rom row a s p) (length s.items)))
 
 -- how many bytes a successor holds
 abbrev pub IsHeld : Rules → Stack → Program → List ℕ → Row → ℕ → AbsState → Successor → Type 0
@@ -245,12 +247,17 @@ pub record LeadsParts (z : Setting) (region : Region) (ranges : List Range) (t :
   pub to : LeadsTo z.rules z region t.target t entry base x y
   pub kept : (b : ℕ) → IsKept z region ranges base b → peek y.storage b ≡ peek x.storage b
 
+-- what is known together holds of y behind a successor's target; main begins anew, however it was entered then
+abbrev pub AreRelatedBehind : Target → Relations → Activation → MState → Type 0
+AreRelatedBehind (target.Main a) r entry y = (begun : Activation) → AreRelated r begun y
+AreRelatedBehind w r entry y = AreRelated r entry y
+
 -- so it does, and what is known together of the states behind holds of y, where it is said where that is; what they say of the
 -- whole program does wherever that is
 pub record Leads (z : Setting) (region : Region) (ranges : List Range) (t : Successor) (entry : Activation) (base : ℕ) (x y : MState) : Type 0 where
   pub to : LeadsTo z.rules z region t.target t entry base x y
   pub kept : (b : ℕ) → IsKept z region ranges base b → peek y.storage b ≡ peek x.storage b
-  pub related : is_followed z.rules t.target ≡ true → AreRelated t.state.relations y
+  pub related : is_followed z.rules t.target ≡ true → AreRelatedBehind t.target t.state.relations entry y
   pub summary : IsSummarized t.state entry y
 
 -- a program that states may speak of: its controller is the cartridge's, or none, of which nothing is said; its facts lie in RAM
@@ -259,7 +266,8 @@ pub record IsProgram (rom : List ℕ) (region : Region) (program : Program) : Ty
   pub controller : (program.kind ≡ kind.Rom) ⊎ (program.kind ≡ kind_of rom)
   pub facts : AreFreeFacts region program.facts
 
--- the machine stands before an instruction at an address, in a state that s means
+-- the machine stands before an instruction at an address, in a state that s means, and the pairs lay within bounds as the procedure was
+-- entered
 pub record Stands (z : Setting) (rom : List ℕ) (region : Region) (row : Row) (a : ℕ) (s : AbsState) (entry : Activation) (base : ℕ) (x : MState) : Type 0 where
   pub cartridge : IsRom rom
   pub is_region : IsRegion region
@@ -277,6 +285,7 @@ pub record Stands (z : Setting) (rom : List ℕ) (region : Region) (row : Row) (
   pub controlled : entry.program.kind ≡ known_kind z.is_whole (kind_of rom)
   pub apart : IsFree region s.summary
   pub means : Means s entry base x
+  pub within : AreWithin z.entered (entered_with entry)
   pub based : IsBase z base
   pub at : x.processor.pc ≡ a
 

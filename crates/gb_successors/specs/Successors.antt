@@ -7,6 +7,7 @@ use Rattle.gb_ops.specs.Cartridge.{kind_of}
 use Rattle.gb_ops.specs.Pointers.{pointer_of}
 use Rattle.gb_domain.specs.declared.low_bits.LowBits.{LowBits}
 use Rattle.gb_domain.specs.declared.pairs.Bounds.{Bounds}
+use Rattle.gb_domain.specs.declared.pairs.PairBounds.{PairBounds}
 use Rattle.gb_domain.specs.declared.relations.Relations.{Relations}
 use Rattle.gb_domain.specs.declared.rules.Rules.{Rules}
 use Rattle.gb_domain.specs.declared.setting.Setting.{Setting}
@@ -134,9 +135,10 @@ untaken_successor k row next s b =
 abbrev pub with_product : Successor → Product → Successor
 with_product t p = record t { state = with_relations p.relations (with_core t.state p.core) }
 
--- the states behind are reduced; where nothing is meant it isn't possible
-unfoldable pub reduced_successor : Rules → Successor → Option Successor
-reduced_successor rules t = option_map (with_product t) (reduced rules t.state.core t.state.relations)
+-- the states behind are reduced, where the pairs lay in these bounds as the procedure was entered; where nothing is meant it isn't
+-- possible
+unfoldable pub reduced_successor : Rules → PairBounds → Successor → Option Successor
+reduced_successor rules entered t = option_map (with_product t) (reduced rules entered t.state.core t.state.relations)
 
 -- a successor, where it is possible
 abbrev pub some_if : Bool → Successor → Option Successor
@@ -159,9 +161,9 @@ may_stay _ core = false
 unfoldable pub stays : Row → ℕ → AbsState → Option Successor
 stays row a s = if may_stay row.op s.core then Some (staying_successor a s) else None
 
--- the states before are settled and reduced; none where nothing is meant
-unfoldable pub product_before : Rules → AbsState → Option Product
-product_before rules s = reduced rules (core_settle s.core) s.relations
+-- the states before are settled and so reduced; none where nothing is meant
+unfoldable pub product_before : Rules → PairBounds → AbsState → Option Product
+product_before rules entered s = reduced rules entered (core_settle s.core) s.relations
 
 -- the item at the address among the places, by the rules of version 4
 abbrev pub item_of : Setting → AbsState → Option ℕ → Option Val
@@ -177,7 +179,7 @@ memory_before k program s p =
 -- of a side, which may tell of an item: reduced, and with the places that are left
 unfoldable pub settled_way : Stack → Option Cell → Core → Successor → Option Successor
 settled_way k cell core t =
-    held_way k.setting.rules k (reduced_successor k.setting.rules (told_successor (told_by k.setting.rules k cell) core t))
+    held_way k.setting.rules k (reduced_successor k.setting.rules k.setting.entered (told_successor (told_by k.setting.rules k cell) core t))
 
 abbrev pub taken_by_side : Stack → Program → List ℕ → Row → ℕ → AbsState → Branch → Option Successor
 taken_by_side k program rom row next s b =
@@ -196,18 +198,18 @@ not_taken_from k program row next s p =
 
 -- each of the possible successors of the instruction at an address
 abbrev pub way_taken : Stack → Program → List ℕ → Row → ℕ → AbsState → Option Successor
-way_taken k program rom row a s = option_and_then (taken_from k program rom row ((a + row.length) % 65536) s) (product_before k.setting.rules s)
+way_taken k program rom row a s = option_and_then (taken_from k program rom row ((a + row.length) % 65536) s) (product_before k.setting.rules k.setting.entered s)
 
 abbrev pub way_not_taken : Stack → Program → Row → ℕ → AbsState → Option Successor
-way_not_taken k program row a s = option_and_then (not_taken_from k program row ((a + row.length) % 65536) s) (product_before k.setting.rules s)
+way_not_taken k program row a s = option_and_then (not_taken_from k program row ((a + row.length) % 65536) s) (product_before k.setting.rules k.setting.entered s)
 
-abbrev pub way_staying : Rules → Row → ℕ → AbsState → Option Successor
-way_staying rules row a s = option_and_then (λ (p : Product). stays row a s) (product_before rules s)
+abbrev pub way_staying : Rules → PairBounds → Row → ℕ → AbsState → Option Successor
+way_staying rules entered row a s = option_and_then (λ (p : Product). stays row a s) (product_before rules entered s)
 
 -- all of them
 unfoldable pub successors_of : Stack → Program → List ℕ → Row → ℕ → AbsState → Successors
 successors_of k program rom row a s =
-    record { taken = way_taken k program rom row a s; not_taken = way_not_taken k program row a s; stays = way_staying k.setting.rules row a s }
+    record { taken = way_taken k program rom row a s; not_taken = way_not_taken k program row a s; stays = way_staying k.setting.rules k.setting.entered row a s }
 
 -- ---- tests of all of them
 

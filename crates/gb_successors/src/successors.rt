@@ -15,6 +15,7 @@ ghost use Rattle.gb_product.specs.Reduced.{product_of};
 use crate::stacks::Stack;
 use crate::successor::{Successor, Told, staying_successor, taken_successor, untaken_successor};
 use gb_abs_memory::{Rom, item_at};
+use gb_domain::pairs::PairBounds;
 use gb_domain::relations::Relations;
 use gb_domain::types::{Abs, Cell, Core, Rules, Setting, Val};
 use gb_ops::machine::Region;
@@ -62,10 +63,11 @@ pub fn successors_of<'a>(
     each_way(stack, program, rom, row, address, state)
 }
 
-/// What is known before the instruction, settled and reduced; none where nothing is meant.
+/// What is known before the instruction, settled and reduced, where the pairs lay in these bounds as the procedure was entered; none
+/// where nothing is meant.
 #[tactic(auto, unfolding(crate::specs::Successors::product_before, gb_product::specs::Reduced::reduced))]
-pub fn product_before(rules: Rules, state: &Abs) -> Option<Product>
-    ensures { result ≡ Succession.product_before rules state.now }
+pub fn product_before(rules: Rules, entered: &PairBounds, state: &Abs) -> Option<Product>
+    ensures { result ≡ Succession.product_before rules entered.now state.now }
 {
     let core = settle(state.core());
     match rules {
@@ -73,7 +75,7 @@ pub fn product_before(rules: Rules, state: &Abs) -> Option<Product>
             core,
             relations: *state.relations(),
         }),
-        Rules::Extended => reduced(rules, &core, state.relations()),
+        Rules::Extended => reduced(rules, entered, &core, state.relations()),
     }
 }
 
@@ -131,9 +133,9 @@ fn hold<'a>(stack: &Stack, successor: &mut Successor<'a>)
 /// A successor is reduced, and of the places in the stack those are left that are items still; whether something is meant by it.
 #[inline(always)]
 pub fn settle_way<'a>(stack: &Stack, successor: &mut Successor<'a>) -> bool
-    ensures { held_way stack.now.setting.rules stack.now (Succession.reduced_successor stack.now.setting.rules successor.old) ≡ Succession.some_if result successor.new }
+    ensures { held_way stack.now.setting.rules stack.now (Succession.reduced_successor stack.now.setting.rules stack.now.setting.entered successor.old) ≡ Succession.some_if result successor.new }
 {
-    if successor.reduce(stack.setting.rules) {
+    if successor.reduce(stack.setting.rules, &stack.setting.entered) {
         hold(stack, successor);
         true
     } else {
@@ -144,7 +146,7 @@ pub fn settle_way<'a>(stack: &Stack, successor: &mut Successor<'a>) -> bool
 /// A successor is reduced and put in the place of none, where something is meant by it.
 fn put_reduced<'a>(stack: &Stack, successor: Successor<'a>, way: &mut Option<Successor<'a>>)
     requires { way.old ≡ None }
-    ensures { way.new ≡ held_way stack.now.setting.rules stack.now (Succession.reduced_successor stack.now.setting.rules successor.entry) }
+    ensures { way.new ≡ held_way stack.now.setting.rules stack.now (Succession.reduced_successor stack.now.setting.rules stack.now.setting.entered successor.entry) }
 {
     let mut successor = successor;
     if settle_way(stack, &mut successor) {
@@ -342,7 +344,7 @@ fn put_taken<'a>(
     before: &Option<Product>,
     way: &mut Option<Successor<'a>>,
 )
-    requires before { before.now ≡ Succession.product_before stack.setting.rules state.now }
+    requires before { before.now ≡ Succession.product_before stack.setting.rules stack.setting.entered state.now }
     requires none { way.old ≡ None }
     ensures { way.new ≡ Succession.way_taken stack program.now rom.now row address state.now }
 {
@@ -372,7 +374,7 @@ fn put_not_taken<'a>(
     before: &Option<Product>,
     way: &mut Option<Successor<'a>>,
 )
-    requires before { before.now ≡ Succession.product_before stack.setting.rules state.now }
+    requires before { before.now ≡ Succession.product_before stack.setting.rules stack.setting.entered state.now }
     requires none { way.old ≡ None }
     ensures { way.new ≡ Succession.way_not_taken stack program.now row address state.now }
 {
@@ -404,16 +406,16 @@ fn put_stay<'a>(row: Row, address: u16, state: &'a Abs, way: &mut Option<Success
 /// The successor where the processor stays on it, in the place of none; what is known before it is given.
 #[inline(always)]
 fn put_staying<'a>(
-    rules: Rules,
+    setting: &Setting,
     row: Row,
     address: u16,
     state: &'a Abs,
     before: &Option<Product>,
     way: &mut Option<Successor<'a>>,
 )
-    requires before { before.now ≡ Succession.product_before rules state.now }
+    requires before { before.now ≡ Succession.product_before setting.now.rules setting.now.entered state.now }
     requires none { way.old ≡ None }
-    ensures { way.new ≡ Succession.way_staying rules row address state.now }
+    ensures { way.new ≡ Succession.way_staying setting.now.rules setting.now.entered row address state.now }
 {
     if let Some(_) = before {
         put_stay(row, address, state, way);
@@ -431,7 +433,7 @@ fn each_way<'a>(
 ) -> Successors<'a>
     ensures { result ≡ Succession.successors_of stack program.now rom.now row address state.now }
 {
-    let before = product_before(stack.setting.rules, state);
+    let before = product_before(stack.setting.rules, &stack.setting.entered, state);
     let mut ways = Successors {
         taken: None,
         not_taken: None,
@@ -458,7 +460,7 @@ fn each_way<'a>(
         &mut ways.not_taken,
     );
     put_staying(
-        stack.setting.rules,
+        &stack.setting,
         row,
         address,
         state,

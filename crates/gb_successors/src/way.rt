@@ -10,6 +10,7 @@ ghost use Rattle.gb_successors.specs.Behind.{with_relations, with_summary};
 use crate::stacks::{Stack, StackMove, count_behind, move_stack};
 use gb_abs_memory::store::store_in;
 use gb_abs_memory::tell_item;
+use gb_domain::pairs::PairBounds;
 use gb_domain::relations::Relations;
 use gb_domain::summary::Summary;
 use gb_domain::types::{Abs, Cell, Core, Rules, Setting, Val};
@@ -103,13 +104,14 @@ impl<'a> Successor<'a> {
         }
     }
 
-    /// The states behind are reduced in place; whether something is meant by them, so that the successor is possible.
+    /// The states behind are reduced in place, where the pairs lay in these bounds as the procedure was entered; whether something is
+    /// meant by them, so that the successor is possible.
     #[inline(always)]
     #[tactic(auto, unfolding(crate::specs::Successors::reduced_successor))]
-    pub fn reduce(&mut self, rules: Rules) -> bool
-        ensures { reduced_successor rules self.old ≡ some_if result self.new }
+    pub fn reduce(&mut self, rules: Rules, entered: &PairBounds) -> bool
+        ensures { reduced_successor rules entered.now self.old ≡ some_if result self.new }
     {
-        reduce(rules, &mut self.core, &mut self.relations)
+        reduce(rules, entered, &mut self.core, &mut self.relations)
     }
 
     /// How many items the states behind hold.

@@ -62,7 +62,7 @@ HoldsState-known program v c cells s p memory banks h =
       cells_hold = h.cells_hold;
       facts_hold = h.summary.facts;
       fills_hold = h.summary.fills;
-      pointers = PointersIn-known v p h.values;
+      pointers = PointersIn-known v h.was p h.values;
     }
 
 HoldFacts-covered :

@@ -322,6 +322,7 @@ HoldSummary-instruction :
 HoldSummary-instruction program region cells o sp v b w s before p memory after banks r l h c g i aside m =
     (after_registers_sound program region o sp v (after_write program region cells o b w s) _ refl).gives cells p after r l h
     (record {
+      was = g.was;
       values = g.values;
       bytes = g.bytes;
       sp_first = g.sp_first;

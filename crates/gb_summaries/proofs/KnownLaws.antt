@@ -1,6 +1,6 @@
 -- What a state knows of its pointers holds.
-use Rattle.std.proofs.Common.{◌≡◌, ℕ, ◌+◌, ◌*◌, ◌/◌, ◌%◌, ◌≤◌, ◌==◌, Bool, true, false, cond, refl, arith}
-use Rattle.std.proofs.lemmas.Bool.{eqb-true}
+use Rattle.std.proofs.Common.{ℕ, ◌+◌, ◌*◌, ◌≤◌, refl, arith}
+use Rattle.gb_ops.specs.declared.registers.Registers.{Registers}
 use Rattle.gb_ops.specs.declared.machine.Banks.{Banks}
 use Rattle.gb_ops.specs.declared.machine.Kind.{Kind}
 use Rattle.gb_ops.specs.declared.machine.Kind.TheVariants as kind
@@ -21,7 +21,6 @@ use Rattle.gb_relations.specs.Below.gb_pairs.Below.gb_vals.Meaning.{In as InVal}
 use Rattle.gb_ram_bounds.specs.Fills.{at_pointer}
 use Rattle.gb_ram_bounds.specs.Meaning.{PointersIn}
 use Rattle.gb_summaries.specs.Meaning.{pointers_of}
-use Rattle.gb_domain.specs.declared.pairs.Bounds.{Bounds}
 use Rattle.gb_domain.specs.declared.types.Ctl.{Ctl}
 use Rattle.gb_relations.specs.Below.gb_copies.declared.windows.BankWindow.{BankWindow}
 use Rattle.gb_relations.specs.Below.gb_copies.declared.windows.BankWindow.TheVariants.{First, Second}
@@ -41,22 +40,22 @@ high-least lo c h = omega arith
 high-most : (hi c : ℕ) → c ≤ hi → 256 * 0xFF + c ≤ 0xFF00 + hi
 high-most hi c h = omega arith
 
-known-least : (v : Values) (p : Processor) (q : Pointer) → Holds v p.registers → (at_pointer q (pointer_bounds v)).first ≤ at_pointer q (pointers_of p)
+known-least : (v : Values) (was : Registers ℕ) (p : Processor) (q : Pointer) → Holds v was p.registers → (at_pointer q (pointer_bounds v)).first ≤ at_pointer q (pointers_of p)
 unfolding pointer_bounds pointed byte_or_page high_register low_register
-known-least v p Bc h = ((bounds_of_sound words.Bc v _ refl).gives p.registers h).least
-known-least v p De h = ((bounds_of_sound words.De v _ refl).gives p.registers h).least
-known-least v p Hl h = ((bounds_of_sound words.Hl v _ refl).gives p.registers h).least
-known-least v p HighC h = high-least v.registers.c.lo p.registers.c (h.registers C).least
+known-least v was p Bc h = ((bounds_of_sound words.Bc v _ refl).gives was p.registers h).least
+known-least v was p De h = ((bounds_of_sound words.De v _ refl).gives was p.registers h).least
+known-least v was p Hl h = ((bounds_of_sound words.Hl v _ refl).gives was p.registers h).least
+known-least v was p HighC h = high-least v.registers.c.lo p.registers.c (h.registers C).least
 
-known-most : (v : Values) (p : Processor) (q : Pointer) → Holds v p.registers → at_pointer q (pointers_of p) ≤ (at_pointer q (pointer_bounds v)).last
+known-most : (v : Values) (was : Registers ℕ) (p : Processor) (q : Pointer) → Holds v was p.registers → at_pointer q (pointers_of p) ≤ (at_pointer q (pointer_bounds v)).last
 unfolding pointer_bounds pointed byte_or_page high_register low_register
-known-most v p Bc h = ((bounds_of_sound words.Bc v _ refl).gives p.registers h).most
-known-most v p De h = ((bounds_of_sound words.De v _ refl).gives p.registers h).most
-known-most v p Hl h = ((bounds_of_sound words.Hl v _ refl).gives p.registers h).most
-known-most v p HighC h = high-most v.registers.c.hi p.registers.c (h.registers C).most
+known-most v was p Bc h = ((bounds_of_sound words.Bc v _ refl).gives was p.registers h).most
+known-most v was p De h = ((bounds_of_sound words.De v _ refl).gives was p.registers h).most
+known-most v was p Hl h = ((bounds_of_sound words.Hl v _ refl).gives was p.registers h).most
+known-most v was p HighC h = high-most v.registers.c.hi p.registers.c (h.registers C).most
 
-pub PointersIn-known : (v : Values) (p : Processor) → Holds v p.registers → PointersIn (pointer_bounds v) (pointers_of p)
-PointersIn-known v p h = record { least = λ q. known-least v p q h; most = λ q. known-most v p q h }
+pub PointersIn-known : (v : Values) (was : Registers ℕ) (p : Processor) → Holds v was p.registers → PointersIn (pointer_bounds v) (pointers_of p)
+PointersIn-known v was p h = record { least = λ q. known-least v was p q h; most = λ q. known-most v was p q h }
 
 -- ---- the controller's windows
 

@@ -394,7 +394,8 @@ HaveMoved-pair which m p w h = record { each = λ q. IsMove-pair which m p w q h
 -- ---- instructions
 
 record Known (sp : Bounds) (v : Values) (p : Processor) : Type 0 where
-  values : Holds v p.registers
+  was : Registers ℕ
+  values : Holds v was p.registers
   bytes : AreBytes p.registers
   sp_first : sp.first ≤ p.sp
   sp_last : p.sp ≤ sp.last
@@ -402,9 +403,9 @@ record Known (sp : Bounds) (v : Values) (p : Processor) : Type 0 where
 
 Within-addend : (which : Pair) (sp : Bounds) (v : Values) (p : Processor) → Known sp v p → Within (addend which sp v) (pair_value p which)
 unfolding pair_value
-Within-addend pair.Bc sp v p k = (bounds_of_sound words.Bc v _ refl).gives p.registers k.values
-Within-addend pair.De sp v p k = (bounds_of_sound words.De v _ refl).gives p.registers k.values
-Within-addend pair.Hl sp v p k = (bounds_of_sound words.Hl v _ refl).gives p.registers k.values
+Within-addend pair.Bc sp v p k = (bounds_of_sound words.Bc v _ refl).gives k.was p.registers k.values
+Within-addend pair.De sp v p k = (bounds_of_sound words.De v _ refl).gives k.was p.registers k.values
+Within-addend pair.Hl sp v p k = (bounds_of_sound words.Hl v _ refl).gives k.was p.registers k.values
 Within-addend pair.Sp sp v p k = record { least = k.sp_first; most = k.sp_last }
 
 small_word : (h l : ℕ) → h < 256 → l < 256 → word h l < 65536
@@ -466,7 +467,7 @@ pub moves_of_sound : (o : Op) (sp : Bounds) (v : Values) (m : Pointers Move) →
 moves_of_sound o sp v m e =
     subst (λ r. AreSoundMoves o sp v r) (sym e)
     (record {
-      gives = λ p l h values bytes first last small.
+      gives = λ was p l h values bytes first last small.
           HaveMoved-registers (moves_of o sp v) p (effect_of o p l h).processor
-          (HaveMoved-moves o sp v p l h (record { values = values; bytes = bytes; sp_first = first; sp_last = last; sp_small = small }));
+          (HaveMoved-moves o sp v p l h (record { was = was; values = values; bytes = bytes; sp_first = first; sp_last = last; sp_small = small }));
     })

@@ -1,7 +1,6 @@
 -- What is said where a routine returns holds.
-use Rattle.std.proofs.Common.{◌≡◌, ℕ, zero, suc, ◌+◌, ◌-◌, ◌≤◌, ◌<◌, Bool, true, false, not, ◌&&◌, ◌||◌, nat_lt, cond, List, [], ◌∷◌, ◌++◌, take, drop, length, Option, Some, None, inl, inr, refl, sym, ◌∙◌, subst, ap, arith}
+use Rattle.std.proofs.Common.{◌≡◌, ℕ, zero, suc, ◌+◌, ◌-◌, ◌≤◌, ◌<◌, Bool, true, false, not, ◌&&◌, cond, List, [], ◌∷◌, ◌++◌, take, drop, length, Option, Some, None, inl, inr, refl, sym, ◌∙◌, subst, ap, arith}
 use Rattle.std.proofs.lemmas.Bool.{and_parts, or_cases}
-use Rattle.std.proofs.lemmas.Bool.Decides.{nat_tests}
 use Rattle.std.proofs.lemmas.List.{append-nil, length-take}
 use Rattle.std.proofs.Math.ListN.{drop_of_length-le}
 use Rattle.std.proofs.Math.Seq.{take-append-add}
@@ -17,7 +16,6 @@ use Rattle.gb_ops.specs.Registers.{get}
 use Rattle.gb_ops.specs.declared.registers.Processor.{Processor}
 use Rattle.gb_ops.specs.declared.registers.Registers.{Registers}
 use Rattle.gb_ops.specs.Pointers.{pointed, byte_or_page, high_register, low_register}
-use Rattle.gb_ops.specs.Pairs.{word}
 use Rattle.gb_domain.specs.declared.pairs.Bounds.{Bounds}
 use Rattle.gb_domain.specs.declared.summary.Fact.{Fact}
 use Rattle.gb_domain.specs.declared.summary.Fill.{Fill}
@@ -39,7 +37,7 @@ use Rattle.gb_relations.specs.Below.gb_copies.ShadowMeaning.{AreShadows}
 use Rattle.gb_relations.proofs.Below.gb_copies_laws.BankReturnedLaws.{returned_sound}
 use Rattle.gb_ram_bounds.specs.declared.pointers.Pointers.{Pointers}
 use Rattle.gb_ram_bounds.specs.Fills.{at_pointer, fixed_at}
-use Rattle.gb_ram_bounds.specs.Meaning.{HoldFacts, HoldsFill, HoldFills, HoldsSome, PointersIn}
+use Rattle.gb_ram_bounds.specs.Meaning.{HoldFacts, HoldFills, HoldsSome, PointersIn}
 use Rattle.gb_ram_bounds.specs.Returned.{is_in_ranges, lies_in_one, misses_all, kept_or_fixed, left_of_caller, stays, staying, IsReturn, KeepsPointers}
 use Rattle.gb_ram_bounds.proofs.ReturnedLaws.{staying_sound, exit_fill_sound, caller_fill_sound}
 use Rattle.gb_summaries.specs.declared.returning.GivenBack.{GivenBack}
@@ -301,13 +299,13 @@ IsFree-returned program ranges g addresses v before caller last exit has_room ce
 -- the same, with memory where only RAM outside the stack region counts
 HoldSummary-of_free :
     (program : Program) (ranges : List Range) (g : GivenBack) (addresses : List ℕ) (v : Values) (before : List Cell) (caller : SummaryParts) (last : List Cell) (exit : SummaryParts) (has_room : Bool) (cells : List Cell)
-    (region : Region) (x y : Processor) (memory stored : ℕ → ℕ) (r s : Banks)
-    → Holds v x.registers → GivesBack program.kind region ranges g addresses x y memory stored r s
+    (region : Region) (was : Registers ℕ) (x y : Processor) (memory stored : ℕ → ℕ) (r s : Banks)
+    → Holds v was x.registers → GivesBack program.kind region ranges g addresses x y memory stored r s
     → (has_room ≡ true → IsReturn ranges last before cells memory (of_free region stored memory))
     → HoldSummary program before caller x memory r → HoldSummary program last exit y (of_free region stored memory) s
     → HoldSummary program cells (summary_returned program ranges g addresses v before caller last exit has_room cells) y (of_free region stored memory) s
 unfolding summary_returned fills_returned
-HoldSummary-of_free program ranges g addresses v before caller last exit has_room cells region x y memory stored r s i b back c h =
+HoldSummary-of_free program ranges g addresses v before caller last exit has_room cells region was x y memory stored r s i b back c h =
     record {
       facts = facts has_room refl;
       fills = fills has_room refl;
@@ -326,21 +324,21 @@ HoldSummary-of_free program ranges g addresses v before caller last exit has_roo
         (HoldFills-joined (filter (lies_in_one ranges) exit.fills) (filter_map (left_of_caller ranges (kept_pointers g.registers) (pointer_bounds v)) caller.fills) cells (of_free region stored memory) (pointers_of y)
         (HoldFills-exit ranges last before cells memory (of_free region stored memory) (pointers_of y) exit.fills (back e) h.fills)
         (HoldFills-caller ranges (kept_pointers g.registers) (pointer_bounds v) last before cells memory (of_free region stored memory) (pointers_of x) (pointers_of y) caller.fills (back e)
-        (PointersIn-known v x i) (record { same = keeps g.registers x y b.registers }) c.fills))
+        (PointersIn-known v was x i) (record { same = keeps g.registers x y b.registers }) c.fills))
     fills false e = tt
 
 HoldSummary-returned :
     (program : Program) (ranges : List Range) (g : GivenBack) (addresses : List ℕ) (v : Values) (before : List Cell) (caller : SummaryParts) (last : List Cell) (exit : SummaryParts) (has_room : Bool) (cells : List Cell)
-    (region : Region) (x y : Processor) (memory stored : ℕ → ℕ) (r s : Banks)
+    (region : Region) (was : Registers ℕ) (x y : Processor) (memory stored : ℕ → ℕ) (r s : Banks)
     → AreFreeFacts region program.facts → IsFree region caller → IsFree region exit
-    → Holds v x.registers → GivesBack program.kind region ranges g addresses x y memory stored r s
+    → Holds v was x.registers → GivesBack program.kind region ranges g addresses x y memory stored r s
     → (has_room ≡ true → AreCellsBack ranges last before cells)
     → HoldSummary program before caller x memory r → HoldSummary program last exit y stored s
     → HoldSummary program cells (summary_returned program ranges g addresses v before caller last exit has_room cells) y stored s
-HoldSummary-returned program ranges g addresses v before caller last exit has_room cells region x y memory stored r s facts free_caller free_exit i b back c h =
+HoldSummary-returned program ranges g addresses v before caller last exit has_room cells region was x y memory stored r s facts free_caller free_exit i b back c h =
     stays_elsewhere program region cells (summary_returned program ranges g addresses v before caller last exit has_room cells) y (of_free region stored memory) stored s facts
     (IsFree-returned program ranges g addresses v before caller last exit has_room cells region free_caller free_exit) (λ a free. sym (of_free-free region stored memory a free))
-    (HoldSummary-of_free program ranges g addresses v before caller last exit has_room cells region x y memory stored r s i b returns c
+    (HoldSummary-of_free program ranges g addresses v before caller last exit has_room cells region was x y memory stored r s i b returns c
     (stays_elsewhere program region last exit y stored (of_free region stored memory) s facts free_exit (of_free-free region stored memory) h))
   where
     returns : has_room ≡ true → IsReturn ranges last before cells memory (of_free region stored memory)

@@ -16,7 +16,6 @@ use Rattle.gb_ops.specs.Registers.{get, set}
 use Rattle.gb_domain.specs.declared.pairs.Bounds.{Bounds}
 use Rattle.gb_domain.specs.declared.places.Place.{Place}
 use Rattle.gb_domain.specs.declared.places.Place.TheVariants as place
-use Rattle.gb_domain.specs.declared.summary.Fact.{Fact}
 use Rattle.gb_domain.specs.declared.summary.Shadows.{Shadows}
 use Rattle.gb_domain.specs.declared.types.Cell.{Cell}
 use Rattle.gb_domain.specs.Summaries.{SummaryParts, Program}
@@ -85,11 +84,11 @@ AreShadows-after :
 unfolding shadows_after effect_of read_of operand_read store_operand operand_value
 AreShadows-after k which region (op.LoadA from) sp v s p memory banks l h b m =
     AreShadows-written k which (counted from) _ (set A l p.registers) _ memory banks (Overwrites-beside_a from p l)
-    (AreShadows-loaded_from k which region A (at_indirect from v) (indirect_address p from) l s p.registers memory banks (Within-indirect from v p b.values) (b.reads refl) m)
+    (AreShadows-loaded_from k which region A (at_indirect from v) (indirect_address p from) l s p.registers memory banks (Within-indirect from v b.was p b.values) (b.reads refl) m)
 AreShadows-after k which region (op.Load (operand.Register to) (operand.Register from)) sp v s p memory banks l h b m =
     (copied_to_register_sound to (place.Register from) s _ refl).gives k which p.registers memory banks m
 AreShadows-after k which region (op.Load (operand.Register to) operand.AtHl) sp v s p memory banks l h b m =
-    AreShadows-loaded_from k which region to (at_hl v) (hl p) l s p.registers memory banks (Within-hl v p b.values) (b.reads refl) m
+    AreShadows-loaded_from k which region to (at_hl v) (hl p) l s p.registers memory banks (Within-hl v b.was p b.values) (b.reads refl) m
 AreShadows-after k which region (op.Load operand.AtHl from) sp v s p memory banks l h b m = m
 AreShadows-after k which region (op.LoadHigh n) sp v s p memory banks l h b m =
     AreShadows-loaded_from k which region A (one (0xFF00 + n)) (0xFF00 + n) l s p.registers memory banks (Within-one (0xFF00 + n)) (b.reads refl) m
@@ -110,7 +109,7 @@ HoldSummary-after program region o sp v s cells p memory banks l h b aside m =
       facts = m.facts;
       fills =
           (fills_moved_sound (moves_of o sp v) (pointer_bounds v) s.fills _ refl).gives cells memory (pointers_of p) (pointers_of (effect_of o p l h).processor)
-          (PointersIn-known v p b.values) ((moves_of_sound o sp v _ refl).gives p l h b.values b.bytes b.sp_first b.sp_last b.sp_small) m.fills;
+          (PointersIn-known v b.was p b.values) ((moves_of_sound o sp v _ refl).gives b.was p l h b.values b.bytes b.sp_first b.sp_last b.sp_small) m.fills;
       first = AreShadows-after program.kind First region o sp v s.shadows.first p memory banks l h b m.first;
       second = AreShadows-after program.kind Second region o sp v s.shadows.second p memory banks l h b m.second;
       aside = aside;

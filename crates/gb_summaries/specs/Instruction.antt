@@ -1,5 +1,6 @@
 -- What an instruction leaves of what is said of the whole program (abstract interpretation: transfer functions; memory map; own).
 use Rattle.std.specs.Prelude.{◌≡◌, ℕ, ◌+◌, ◌/◌, ◌%◌, ◌<◌, ◌≤◌, true, nat_lt, if◌then◌else◌, List}
+use Rattle.gb_ops.specs.declared.registers.Registers.{Registers}
 use Rattle.gb_ops.specs.declared.machine.Banks.{Banks}
 use Rattle.gb_ops.specs.declared.machine.Kind.{Kind}
 use Rattle.gb_ops.specs.declared.machine.Region.{Region}
@@ -91,7 +92,8 @@ Stores k region stored w memory after banks r = ⊥
 
 -- the machine as an instruction, taken or not, begins its work: its reads gave l and h
 pub record Begins (program : Program) (region : Region) (o : Op) (sp : Bounds) (v : Values) (b : OneByte) (s : SummaryParts) (p : Processor) (memory : ℕ → ℕ) (l h : ℕ) : Type 0 where
-  pub values : Holds v p.registers
+  pub was : Registers ℕ
+  pub values : Holds v was p.registers
   pub bytes : AreBytes p.registers
   pub sp_first : sp.first ≤ p.sp
   pub sp_last : p.sp ≤ sp.last

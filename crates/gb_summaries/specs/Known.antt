@@ -1,5 +1,6 @@
 -- What a state knows of its pointers, and of the controller's windows (abstract interpretation: the interval domain; MBCs; own).
 use Rattle.std.specs.Prelude.{◌≡◌, ℕ, ◌+◌, ◌/◌, ◌%◌, ◌≤◌, ◌<◌, List}
+use Rattle.gb_ops.specs.declared.registers.Registers.{Registers}
 use Rattle.gb_ops.specs.declared.machine.Banks.{Banks}
 use Rattle.gb_ops.specs.declared.machine.Kind.{Kind}
 use Rattle.gb_ops.specs.declared.machine.Kind.TheVariants as kind
@@ -58,7 +59,8 @@ WindowsAreWithin = (k : Kind) (c : Ctl) (r : Banks) → AreWithin k c r → Hold
 
 -- registers, the controller's, cells and a summary hold, and memory has bytes
 pub record HoldsKnown (program : Program) (v : Values) (c : Ctl) (cells : List Cell) (s : SummaryParts) (p : Processor) (memory : ℕ → ℕ) (banks : Banks) : Type 0 where
-  pub values : Holds v p.registers
+  pub was : Registers ℕ
+  pub values : Holds v was p.registers
   pub windows : HoldWindows program.kind c banks
   pub bytes : (a : ℕ) → memory a < 256
   pub cells_hold : HoldCells cells memory

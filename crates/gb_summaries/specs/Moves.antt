@@ -2,6 +2,7 @@
 -- functions; CPU instruction set; own).
 use Rattle.std.specs.Prelude.{◌≡◌, ℕ, ◌+◌, ◌*◌, ◌-◌, ◌≤◌, ◌<◌, nat_le, nat_lt, ◌==◌, if◌then◌else◌, List, [], ◌∷◌, Option, Some, None}
 use Rattle.std.specs.List.{filter_map}
+use Rattle.gb_ops.specs.declared.registers.Registers.{Registers}
 use Rattle.gb_ops.specs.declared.op.Indirect.{Indirect}
 use Rattle.gb_ops.specs.declared.op.Indirect.TheVariants as indirect
 use Rattle.gb_ops.specs.declared.op.Op.{Op}
@@ -148,8 +149,8 @@ pub record HaveMoved (m : Pointers Move) (x y : Pointers ℕ) : Type 0 where
 -- so far the machine moves them
 pub record AreSoundMoves (o : Op) (sp : Bounds) (v : Values) (m : Pointers Move) : Type 0 where
   pub gives :
-      (p : Processor) (l h : ℕ)
-      → Holds v p.registers → AreBytes p.registers → sp.first ≤ p.sp → p.sp ≤ sp.last → p.sp < 65536
+      (was : Registers ℕ) (p : Processor) (l h : ℕ)
+      → Holds v was p.registers → AreBytes p.registers → sp.first ≤ p.sp → p.sp ≤ sp.last → p.sp < 65536
       → HaveMoved m (pointers_of p) (pointers_of (Effects.effect_of o p l h).processor)
 
 -- fills hold where the pointers moved so far

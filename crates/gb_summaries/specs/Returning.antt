@@ -1,5 +1,5 @@
 -- What a routine that returns leaves of what is said of the whole program (abstract interpretation: procedure summaries; own).
-use Rattle.std.specs.Prelude.{◌≡◌, ℕ, Bool, true, false, not, ◌&&◌, ◌||◌, ◌==◌, if◌then◌else◌, List, [], ◌++◌, take, Option, Some, None}
+use Rattle.std.specs.Prelude.{◌≡◌, ℕ, Bool, true, false, not, ◌&&◌, ◌||◌, ◌==◌, List, [], ◌++◌, take, Option, Some, None}
 use Rattle.std.specs.List.{filter, filter_map, list_any}
 use Rattle.gb_ops.specs.declared.machine.Banks.{Banks}
 use Rattle.gb_ops.specs.declared.machine.Kind.{Kind}
@@ -106,9 +106,9 @@ pub record AreCellsBack (ranges : List Range) (exit caller cells : List Cell) : 
 -- what the caller's state said, and what the exit says, gives what is said where it returns
 pub record IsSoundReturn (program : Program) (ranges : List Range) (g : GivenBack) (addresses : List ℕ) (v : Values) (before : List Cell) (caller : SummaryParts) (last : List Cell) (exit : SummaryParts) (has_room : Bool) (cells : List Cell) (after : SummaryParts) : Type 0 where
   pub gives :
-      (region : Region) (x y : Processor) (memory stored : ℕ → ℕ) (r s : Banks)
+      (region : Region) (was : Registers ℕ) (x y : Processor) (memory stored : ℕ → ℕ) (r s : Banks)
       → AreFreeFacts region program.facts → IsFree region caller → IsFree region exit
-      → Holds v x.registers → GivesBack program.kind region ranges g addresses x y memory stored r s
+      → Holds v was x.registers → GivesBack program.kind region ranges g addresses x y memory stored r s
       → (has_room ≡ true → AreCellsBack ranges last before cells)
       → HoldSummary program before caller x memory r → HoldSummary program last exit y stored s
       → HoldSummary program cells after y stored s

@@ -1,6 +1,7 @@
 -- What an instruction leaves of what is said of the whole program, what it stores apart (abstract interpretation: transfer functions;
 -- own).
 use Rattle.std.specs.Prelude.{◌≡◌, ℕ, ◌+◌, ◌≤◌, ◌<◌, List, [], ◌∷◌, Option, Some, None}
+use Rattle.gb_ops.specs.declared.registers.Registers.{Registers}
 use Rattle.gb_ops.specs.declared.machine.Banks.{Banks}
 use Rattle.gb_ops.specs.declared.machine.Region.{Region}
 use Rattle.gb_ops.specs.declared.machine.Write.TheVariants as write
@@ -73,7 +74,8 @@ after_registers region o sp v s =
 
 -- the machine as an instruction, taken or not, begins its work: its reads gave l and h, and what a load reads is in memory
 pub record HasBegun (o : Op) (sp : Bounds) (v : Values) (p : Processor) (memory : ℕ → ℕ) (l h : ℕ) : Type 0 where
-  pub values : Holds v p.registers
+  pub was : Registers ℕ
+  pub values : Holds v was p.registers
   pub bytes : AreBytes p.registers
   pub sp_first : sp.first ≤ p.sp
   pub sp_last : p.sp ≤ sp.last

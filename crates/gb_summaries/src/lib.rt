@@ -42,6 +42,6 @@ pub use gb_relations::pointers::{known_carry, pointer_bounds};
 pub use gb_relations::returned::{Kept, returned};
 pub use gb_relations::transfer::relations_after;
 pub use gb_relations::{
-    BankWindow, PlaceContents, Values, covers_byte, covers_pairs, has_place, is_same_pair,
-    narrowed, reduce, restricted,
+    BankWindow, PlaceContents, Values, bounds_of, covers_byte, covers_pairs, has_place,
+    is_same_pair, narrowed, reduce, restricted, without_bases,
 };

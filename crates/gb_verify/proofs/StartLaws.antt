@@ -42,7 +42,9 @@ use Rattle.gb_rules.proofs.Below.gb_product_laws.CoveringLaws.{Means-covered}
 use Rattle.gb_rules.proofs.Below.gb_product_laws.MeaningLaws.{HoldRelations-nothing}
 use Rattle.gb_rules.specs.Below.gb_domain.Limits.{rules_of}
 use Rattle.gb_rules.specs.Below.gb_domain.Settings.{IsBase}
-use Rattle.gb_rules.specs.Procedures.{need_of, setting_of, program_of}
+use Rattle.gb_rules.proofs.EntryLaws.{AreWithin-entered}
+use Rattle.gb_rules.proofs.NodeLaws.{IsNodeState-node}
+use Rattle.gb_rules.specs.Procedures.{pairs_at, pairs_in, need_of, setting_of, program_of}
 use Rattle.gb_rules.specs.Safety.{Declares, begun, IsMeant}
 use Rattle.gb_rules.proofs.SearchLaws.{Contains-slice_get}
 use Rattle.gb_rules.proofs.CoveringLaws.{covered_items, covered_place, IsBytePlaced-among}
@@ -186,7 +188,7 @@ Means-start : (rom : List ℕ) (cert : Certificate) (s : MState) → IsStart rom
 Means-start rom cert s h =
     record {
       parts = MeansParts-start rom cert s h;
-      related = HoldRelations-nothing _ _ _ (record { each = λ r. register_start rom s r h.processor });
+      related = HoldRelations-nothing _ _ _ _ (record { each = λ r. register_start rom s r h.processor });
       summary = nothing_holds _ _ s.processor (peek s.storage) s.storage.banks;
     }
 
@@ -228,13 +230,23 @@ main_entry_node cert n c at = by cert.procedures c.some_procedure c.entries at
     by [] lt h e = absurd (omega arith)
     by (p ∷ ps) lt h e = is_of_main (slice_get cert.nodes p.entry) n e (and_parts _ _ h).0
 
+-- its bounds at entry are that node's
+main_pairs : (cert : Certificate) (n : Node) → IsCertificate cert → slice_get cert.nodes (main_entry cert) ≡ Some n → n.procedure ≡ 0 → pairs_in cert (slice_get cert.procedures n.procedure) ≡ pairs_at (Some n)
+main_pairs cert n c at main = ap (λ q. pairs_in cert (slice_get cert.procedures q)) main ∙ by cert.procedures c.some_procedure at
+  where
+    by : (ps : List ProcedureParts) → 0 < length ps → slice_get cert.nodes (entry_of (slice_get ps 0)) ≡ Some n → pairs_in cert (slice_get ps 0) ≡ pairs_at (Some n)
+    by [] lt e = absurd (omega arith)
+    by (p ∷ ps) lt e = ap pairs_at e
+
 IsMeant-entry : (rom : List ℕ) (cert : Certificate) (o : Option Node) (s : MState) → IsCertificate cert → ((n : Node) → o ≡ Some n → Contains cert.nodes n) → ((n : Node) → o ≡ Some n → n.procedure ≡ 0)
+    → ((n : Node) → o ≡ Some n → pairs_in cert (slice_get cert.procedures n.procedure) ≡ pairs_at (Some n))
     → is_bad_node rom cert o ≡ false → IsStart rom s → IsMeant rom cert 0 (begun rom cert 0 (main_base cert) s) (main_base cert) s
-IsMeant-entry rom cert None s c f g h i = not_so h
-IsMeant-entry rom cert (Some n) s c f g h i =
+IsMeant-entry rom cert None s c f g enters h i = not_so h
+IsMeant-entry rom cert (Some n) s c f g enters h i =
     let p = or_parts _ _ h in
     let q = or_parts _ _ p.0 in
     let covered = not-false _ p.1 in
+    let met = Means-covered (state_at_power_up rom cert.region) n.state (begun rom cert 0 (main_base cert) s) (main_base cert) s covered (Means-start rom cert s i) in
     record {
       node = n;
       is_node = f n refl;
@@ -243,10 +255,11 @@ IsMeant-entry rom cert (Some n) s c f g h i =
         address = pc_start rom s i ∙ sym (eqb-true _ _ (not-false _ q.0));
         program = refl;
         names = subst (λ p. Declares cert p (main_base cert) (begun rom cert 0 (main_base cert) s)) (sym (g n refl)) (record { kept = refl; mark = refl });
-        means = Means-covered _ _ _ _ _ covered (Means-start rom cert s i);
+        means = met;
         mark = inl (mark_start rom s i);
         main = λ is. refl;
         based = subst (λ p. IsBase (setting_of cert p) (main_base cert)) (sym (g n refl)) (main_based cert c);
+        within = AreWithin-entered cert n (begun rom cert 0 (main_base cert) s) (main_base cert) s (enters n refl) (IsNodeState-node cert n c (f n refl)).core met;
         return_word = HasReturnWord-main (rules_of cert.version) cert.region n.procedure (main_base cert) (g n refl);
         room = room_start cert n c (g n refl);
         held = no_items cert (need_of cert n.procedure) (length n.state.items) (items_covered (program_of rom cert) rom cert.region n.state covered) (room_start cert n c (g n refl));
@@ -258,4 +271,4 @@ IsMeant-entry rom cert (Some n) s c f g h i =
 pub IsMeant-start : (rom : List ℕ) (cert : Certificate) (s : MState) → IsCertificate cert → is_bad_entry rom cert ≡ false → IsStart rom s → IsMeant rom cert 0 (begun rom cert 0 (main_base cert) s) (main_base cert) s
 unfolding is_bad_entry
 IsMeant-start rom cert s c good start =
-    IsMeant-entry rom cert (slice_get cert.nodes (main_entry cert)) s c (Contains-slice_get cert.nodes (main_entry cert)) (λ n at. main_entry_node cert n c at) good start
+    IsMeant-entry rom cert (slice_get cert.nodes (main_entry cert)) s c (Contains-slice_get cert.nodes (main_entry cert)) (λ n at. main_entry_node cert n c at) (λ n at. main_pairs cert n c at (main_entry_node cert n c at)) good start

@@ -28,7 +28,9 @@ use Rattle.gb_rules.specs.Below.gb_successors.Successors.{product_before, has, a
 use Rattle.gb_rules.specs.Below.gb_abs_memory.Windows.{known_kind}
 use Rattle.gb_rules.specs.Below.gb_calls.Resuming.{resumed}
 use Rattle.gb_rules.specs.Covered.{covered_at, is_covered_by_bytes, is_covered_by_one, is_covered_by_register, registers}
-use Rattle.gb_rules.specs.Procedures.{kept_of, mark_of, ranges_of, need_of, exit_of, base_in, setting_of, stack_of, program_of, taken_by}
+use Rattle.gb_rules.specs.Below.gb_domain.declared.pairs.PairBounds.{PairBounds}
+use Rattle.gb_rules.specs.Below.gb_domain.Pairs.{any_pairs}
+use Rattle.gb_rules.specs.Procedures.{entered_of, pairs_in, kept_of, mark_of, ranges_of, need_of, exit_of, base_in, setting_of, stack_of, program_of, taken_by}
 use Rattle.gb_rules.specs.Below.gb_successors.Refused.{is_unstorable, meets_oam_transfer}
 use Rattle.gb_rules.specs.Below.gb_successors.Code.{area_end, leaves_area, known_byte}
 use Rattle.gb_rules.specs.Rules.{may_read_twice, is_undefined, breaks_stack, is_code_limited, moves_too_deep, callee_by, callee_at, is_over, is_overfull, calls_too_deep, is_uncovered_if, is_resumed_uncovered, is_back_uncovered, is_inlined_uncovered, is_call_uncovered, is_uncovered_at, is_uncovered, is_outside_of, is_uncallable_at, is_uncallable, is_unreturnable_at, is_unreturnable, interrupts, is_dispatch_deep, handles_too_deep, is_unhandled, lacks_handler, test_row, test_instruction, node_bytes, ways_of, any_of, is_possible, grows_too_deep, stores_outside, meets_ram, meets_transfer, leads_anywhere, leads_uncovered, calls_wrongly, returns_wrongly, applies_to_row, applies, reasons, reason_of}
@@ -152,21 +154,30 @@ record AreRuledAlike (cert : Certificate) (version : ℕ) : Type 0 where
   rules : rules_of version ≡ rules_of cert.version
   fourth : (version == 4) ≡ (cert.version == 4)
 
+same_entered : (cert : Certificate) (version procedure : ℕ) → AreRuledAlike cert version → entered_of (other cert version) procedure ≡ entered_of cert procedure
+unfolding entered_of
+same_entered cert version procedure e = ap (λ b. cond b (pairs_in cert (slice_get cert.procedures procedure)) any_pairs) e.fourth
+
 same_setting : (cert : Certificate) (version procedure : ℕ) → AreRuledAlike cert version → setting_of (other cert version) procedure ≡ setting_of cert procedure
 unfolding setting_of
 same_setting cert version procedure e =
-    let with : Rules → Bool → Setting = λ rules whole. record { rules = rules; is_whole = whole; is_main = procedure == 0; base = base_in (slice_get cert.procedures procedure) } in
-    ap (λ rules. with rules (version == 4)) e.rules ∙ ap (with (rules_of cert.version)) e.fourth
+    let with : Rules → Bool → PairBounds → Setting =
+    λ rules whole entered. record { rules = rules; is_whole = whole; is_main = procedure == 0; base = base_in (slice_get cert.procedures procedure); entered = entered } in
+    ap (λ rules. with rules (version == 4) (entered_of (other cert version) procedure)) e.rules
+    ∙ ap (λ whole. with (rules_of cert.version) whole (entered_of (other cert version) procedure)) e.fourth
+    ∙ ap (with (rules_of cert.version) (cert.version == 4)) (same_entered cert version procedure e)
 
 same_covered :
     (program : Program) (cert : Certificate) (version : ℕ) (rules : Rules) (procedure a : ℕ) (t : AbsState) → AreRuledAlike cert version
     → covered_at program rules (other cert version) procedure a t ≡ covered_at program rules cert procedure a t
 unfolding covered_at
 same_covered program cert version rules procedure a t e =
-    ap (λ b.
+    let apart : PairBounds → Bool → Bool =
+    λ entered b.
     is_covered_by_one program cert.nodes procedure a t
-    || list_any (is_covered_by_register program rules cert.nodes procedure a t) registers
-    || b && is_covered_by_bytes program rules cert.nodes procedure a t) e.fourth
+    || (list_any (is_covered_by_register program rules entered cert.nodes procedure a t) registers
+    || b && is_covered_by_bytes program rules entered cert.nodes procedure a t) in
+    ap (λ entered. apart entered (version == 4)) (same_entered cert version procedure e) ∙ ap (apart (entered_of cert procedure)) e.fourth
 
 same_after :
     (program : Program) (cert : Certificate) (version : ℕ) (rules : Rules) (procedure a : ℕ) (o : Option AbsState) → AreRuledAlike cert version
@@ -324,8 +335,10 @@ same_lacking program cert version n e =
     ap (is_unhandled program z (other cert version) n i) (same_handler program cert version z i n.address n.state)
     ∙ same_unhandled program cert version z n i (handler_of program cert z i n.address n.state) e)
 
-same_possible : (cert : Certificate) (version : ℕ) (n : Node) → rules_of version ≡ rules_of cert.version → is_possible (other cert version) n ≡ is_possible cert n
-same_possible cert version n e = ap (λ rules. is_some (product_before rules n.state)) e
+same_possible : (cert : Certificate) (version : ℕ) (n : Node) → AreRuledAlike cert version → is_possible (other cert version) n ≡ is_possible cert n
+same_possible cert version n e =
+    ap (λ rules. is_some (product_before rules (entered_of (other cert version) n.procedure) n.state)) e.rules
+    ∙ ap (λ entered. is_some (product_before (rules_of cert.version) entered n.state)) (same_entered cert version n.procedure e)
 
 same_growth : (rom : List ℕ) (cert : Certificate) (version : ℕ) (n : Node) (row : Row) → AreAlike rom cert version → grows_too_deep rom (other cert version) n row ≡ grows_too_deep rom cert n row
 unfolding grows_too_deep need_of
@@ -344,7 +357,7 @@ same_growth rom cert version n row e =
     ∙ same_depth (program_of rom cert) cert version z need t)) in
     let handles : handles_too_deep (program_of rom (other cert version)) (other cert version) n ≡ handles_too_deep (program_of rom cert) cert n =
     ap (λ p. handles_too_deep p (other cert version) n) e.program ∙ same_handled_depth (program_of rom cert) cert version n e.ruled in
-    rw (moves, calls, same_possible cert version n e.ruled.rules, handles) refl
+    rw (moves, calls, same_possible cert version n e.ruled, handles) refl
 
 same_row : (rom : List ℕ) (cert : Certificate) (version : ℕ) (n : Node) (row : Row) (r : Reason) → AreAlike rom cert version
     → applies_to_row rom (other cert version) n row r ≡ applies_to_row rom cert n row r
@@ -357,7 +370,7 @@ same_row rom cert version n row reason.Store e =
 same_row rom cert version n row reason.CartridgeRam e = same_any _ _ rom cert version n row e (λ t. refl)
 same_row rom cert version n row reason.OamTransfer e =
     let limited : Successor → Bool = λ t. is_code_limited n.state.core n.address row.length || meets_oam_transfer cert.region n.state.core t in
-    rw (same_any limited limited rom cert version n row e (λ t. refl), same_possible cert version n e.ruled.rules) refl
+    rw (same_any limited limited rom cert version n row e (λ t. refl), same_possible cert version n e.ruled) refl
 same_row rom cert version n row reason.JumpHl e = same_any _ _ rom cert version n row e (λ t. refl)
 same_row rom cert version n row reason.Uncovered e = same_any _ _ rom cert version n row e (λ t.
     ap (λ p. is_uncovered p (setting_of (other cert version) n.procedure) (other cert version) n.procedure t) e.program

@@ -10,9 +10,9 @@ pub returns-then-not-is_hl-clause-sound : goal.returns-then-not-is_hl-clause-sou
 unfolding added
 returns-then-not-is_hl-clause-sound c =
     let sum : HlSum = record { pairs = c.stepped-pairs.result; carry = c.carry_of-carry.result } in
-    let is : sum ≡ added c.args.addend c.args.is_hl c.args.values.now = search rules in
+    let is : sum ≡ added c.args.addend c.args.is_hl c.args.from c.args.values.now = search rules in
     let below : c.bounds_of-hl.result.last < 65536 = search rules in
-    added_sound c.args.addend c.args.is_hl c.args.values.now sum is
+    added_sound c.args.addend c.args.is_hl c.args.from c.args.values.now sum is
     (subst (λ (b : Bounds). b.last < 65536) c.bounds_of-hl.ensures.exact below)
     (search rules)
 
@@ -20,22 +20,22 @@ pub returns-then-not-is_hl-clause-kept : goal.returns-then-not-is_hl-clause-kept
 unfolding added
 returns-then-not-is_hl-clause-kept c =
     let sum : HlSum = record { pairs = c.stepped-pairs.result; carry = c.carry_of-carry.result } in
-    let is : sum ≡ added c.args.addend c.args.is_hl c.args.values.now = search rules in
-    added_kept c.args.addend c.args.is_hl c.args.values.now sum is
+    let is : sum ≡ added c.args.addend c.args.is_hl c.args.from c.args.values.now = search rules in
+    added_kept c.args.addend c.args.is_hl c.args.from c.args.values.now sum is
 
 pub returns-else-is_one-clause-sound : goal.returns-else-is_one-clause-sound
 unfolding added
 returns-else-is_one-clause-sound c =
-    let sum : HlSum = record { pairs = c.without_hl-pairs.result; carry = c.carry_of-carry.result } in
-    let is : sum ≡ added c.args.addend c.args.is_hl c.args.values.now = search rules in
+    let sum : HlSum = record { pairs = c.with_hl-pairs.result; carry = c.carry_of-carry.result } in
+    let is : sum ≡ added c.args.addend c.args.is_hl c.args.from c.args.values.now = search rules in
     let below : c.bounds_of-hl.result.last < 65536 = search rules in
-    added_sound c.args.addend c.args.is_hl c.args.values.now sum is
+    added_sound c.args.addend c.args.is_hl c.args.from c.args.values.now sum is
     (subst (λ (b : Bounds). b.last < 65536) c.bounds_of-hl.ensures.exact below)
     (search rules)
 
 pub returns-else-is_one-clause-kept : goal.returns-else-is_one-clause-kept
 unfolding added
 returns-else-is_one-clause-kept c =
-    let sum : HlSum = record { pairs = c.without_hl-pairs.result; carry = c.carry_of-carry.result } in
-    let is : sum ≡ added c.args.addend c.args.is_hl c.args.values.now = search rules in
-    added_kept c.args.addend c.args.is_hl c.args.values.now sum is
+    let sum : HlSum = record { pairs = c.with_hl-pairs.result; carry = c.carry_of-carry.result } in
+    let is : sum ≡ added c.args.addend c.args.is_hl c.args.from c.args.values.now = search rules in
+    added_kept c.args.addend c.args.is_hl c.args.from c.args.values.now sum is

@@ -10,6 +10,6 @@ invariant-loop-at l = record {
   most : l.least ≤ 65536;
   failed :
       (at : ℕ) → at < l.least → has_cell_there l.fn.nodes.cert.now.nodes l.fn.nodes.procedure l.fn.nodes.address at ≡ true
-      → is_covered_by_byte l.fn.nodes.program.now l.fn.nodes.rules l.fn.nodes.cert.now.nodes l.fn.nodes.procedure l.fn.nodes.address (with_parts l.fn.states.core.now l.fn.states.relations.now l.fn.states.summary.now l.fn.states.lists.now) at
+      → is_covered_by_byte l.fn.nodes.program.now l.fn.nodes.rules l.fn.nodes.entered l.fn.nodes.cert.now.nodes l.fn.nodes.procedure l.fn.nodes.address (with_parts l.fn.states.core.now l.fn.states.relations.now l.fn.states.summary.now l.fn.states.lists.now) at
       ≡ false;
 }

@@ -8,7 +8,7 @@ pub returns-in-None : goal.returns-in-None
 unfolding is_covered_by_values
 returns-in-None c =
     let val = known_of c.args.parted (with_parts c.args.states.now.core.now c.args.states.now.relations.now c.args.states.now.summary.now c.args.states.now.lists.now) in
-    let test : ℕ → Bool = is_value_covered c.args.nodes.now.program.now c.args.nodes.now.rules c.args.nodes.now.cert.now.nodes c.args.nodes.now.procedure c.args.nodes.now.address (with_parts c.args.states.now.core.now c.args.states.now.relations.now c.args.states.now.summary.now c.args.states.now.lists.now) c.args.parted in
+    let test : ℕ → Bool = is_value_covered c.args.nodes.now.program.now c.args.nodes.now.rules c.args.nodes.now.entered c.args.nodes.now.cert.now.nodes c.args.nodes.now.procedure c.args.nodes.now.address (with_parts c.args.states.now.core.now c.args.states.now.relations.now c.args.states.now.summary.now c.args.states.now.lists.now) c.args.parted in
     let is : val ≡ c.known_of-known.result = sym c.known_of-known.ensures in
     let low : val.lo ≡ c.known_of-known.result.lo = ap (λ (v : Val). v.lo) is in
     let high : val.hi ≡ c.known_of-known.result.hi = ap (λ (v : Val). v.hi) is in
@@ -17,7 +17,7 @@ returns-in-None c =
 pub loop-value-preserved : goal.loop-value-preserved
 loop-value-preserved c =
     let val = known_of c.args.parted (with_parts c.args.states.now.core.now c.args.states.now.relations.now c.args.states.now.summary.now c.args.states.now.lists.now) in
-    let test : ℕ → Bool = is_value_covered c.args.nodes.now.program.now c.args.nodes.now.rules c.args.nodes.now.cert.now.nodes c.args.nodes.now.procedure c.args.nodes.now.address (with_parts c.args.states.now.core.now c.args.states.now.relations.now c.args.states.now.summary.now c.args.states.now.lists.now) c.args.parted in
+    let test : ℕ → Bool = is_value_covered c.args.nodes.now.program.now c.args.nodes.now.rules c.args.nodes.now.entered c.args.nodes.now.cert.now.nodes c.args.nodes.now.procedure c.args.nodes.now.address (with_parts c.args.states.now.core.now c.args.states.now.relations.now c.args.states.now.summary.now c.args.states.now.lists.now) c.args.parted in
     let is : val ≡ c.known_of-known.result = sym c.known_of-known.ensures in
     let low : val.lo ≡ c.known_of-known.result.lo = ap (λ (v : Val). v.lo) is in
     record {

@@ -7,7 +7,7 @@ invariant-loop-value l = record {
   least : l.nodes.found.now.first ≤ l.near;
   most : l.near ≤ l.nodes.found.now.after;
   passed :
-      all_from (is_value_covered l.nodes.program.now l.nodes.rules l.nodes.cert.now.nodes l.nodes.procedure l.nodes.address (with_parts l.states.core.now l.states.relations.now l.states.summary.now l.states.lists.now) l.fn.parted)
+      all_from (is_value_covered l.nodes.program.now l.nodes.rules l.nodes.entered l.nodes.cert.now.nodes l.nodes.procedure l.nodes.address (with_parts l.states.core.now l.states.relations.now l.states.summary.now l.states.lists.now) l.fn.parted)
       (known_of l.fn.parted (with_parts l.states.core.now l.states.relations.now l.states.summary.now l.states.lists.now)).lo (l.value - (known_of l.fn.parted (with_parts l.states.core.now l.states.relations.now l.states.summary.now l.states.lists.now)).lo)
       ≡ true;
 }

@@ -1,4 +1,4 @@
-use Rattle.std.proofs.Common.{◌≡◌, ◌*◌, ℕ, ◌/◌, [], ◌∙◌, refl, sym, ap, drop, length, arith}
+use Rattle.std.proofs.Common.{◌*◌, ℕ, ◌/◌, ◌∙◌, sym, ap, drop, length}
 use Rattle.gb_domain.specs.Relations.{no_relations}
 use Rattle.gb_domain.specs.Silent.{level_alone}
 use Rattle.gb_cert.specs.Borrowed.{state_in, item_width}
