@@ -24,10 +24,11 @@ pub use gb_fixpoint::fact_table::FactTable;
 pub use gb_fixpoint::register_set::{REGISTERS, RegisterSet};
 pub use gb_fixpoint::types::{Run, Spot};
 pub use gb_fixpoint::{
-    Abs, AbsRead, AbsWrite, Cell, Cert, Core, Ctl, Fact, Flg, INTERRUPT_COUNT, KnownRegisters, May,
-    NOTHING_KNOWN, OneByte, Origin, PADDING, PairFacts, Pairs, Program, Range, Relations, Resumed,
-    Rom, Rules, Span, Stack, Successor, Successors, Target, Val, Verdict, any, callee_at, check,
-    check_irqs, check_node, covers, covers_core, enter, exit_of, gb_ops, handler, is_ram, kept_of,
-    known_bytes, left_by_dispatch, limits, may_come, program_of, ranges_of, resume, stack_of,
+    ANY_PAIRS, Abs, AbsRead, AbsWrite, Bounds, Cell, Cert, Core, Ctl, Fact, Flg, INTERRUPT_COUNT,
+    KnownRegisters, May, NOTHING_KNOWN, OneByte, Origin, PADDING, PairBounds, PairFacts, Pairs,
+    Program, Range, Relations, Resumed, Rom, Rules, Setting, Span, Stack, Successor, Successors,
+    Target, Val, Verdict, WORD_PAIRS, WordPair, any, callee_at, check, check_irqs, check_node,
+    covers, covers_core, enter, exit_of, gb_ops, handler, is_ram, kept_of, known_bytes,
+    left_by_dispatch, limits, may_come, pair_bounds, program_of, ranges_of, resume, stack_of,
     successors_of, taken_by, vector_of,
 };

@@ -107,8 +107,12 @@ impl<'a> Run<'a> {
         ];
         for (lo, hi) in sides {
             let part = match comparison.compared {
-                Compared::Register(register) => self.with_bounds(register, lo, hi, state),
-                Compared::Byte(address) => self.with_byte(address, comparison.val, lo, hi, state),
+                Compared::Register(register) => self.with_bounds(
+                    procedure, register, lo, hi, state,
+                ),
+                Compared::Byte(address) => {
+                    self.with_byte(procedure, address, comparison.val, lo, hi, state)
+                }
             };
             if let Some(part) = part {
                 self.arrive_at(from, procedure, place, &part)?;
@@ -118,10 +122,19 @@ impl<'a> Run<'a> {
     }
 
     /// A state in which a byte's values are cut to bounds; none where nothing is meant then.
-    fn with_byte(&self, address: u16, val: Val, lo: u8, hi: u8, state: &Abs) -> Option<Abs> {
+    fn with_byte(
+        &self,
+        procedure: usize,
+        address: u16,
+        val: Val,
+        lo: u8,
+        hi: u8,
+        state: &Abs,
+    ) -> Option<Abs> {
         let interval = cut(interval_of(val), bounds(lo, hi))?;
         let mut part = with_cell(self.rules(), state, address, val_of(interval, val.origin));
-        let product = reduced(self.rules(), part.core(), part.relations())?;
+        let entered = self.pairs_at_entry(procedure);
+        let product = reduced(self.rules(), &entered, part.core(), part.relations())?;
         part.set_core(product.core);
         part.set_relations(product.relations);
         Some(part)

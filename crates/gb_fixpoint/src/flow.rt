@@ -44,6 +44,7 @@ impl<'a> Run<'a> {
     ) -> Result<(), RunStop> {
         self.settle(state);
         self.offer_fills(state, point.address);
+        self.offer_bases(procedure, state, point.address);
         let place = TargetPlace {
             target: self.target(procedure),
             point,
@@ -66,7 +67,8 @@ impl<'a> Run<'a> {
     ) -> Result<(), RunStop> {
         let val = state.core().registers.get(register);
         for value in val.lo..=val.hi {
-            if let Some(single) = self.with_bounds(register, value, value, state) {
+            let single = self.with_bounds(procedure, register, value, value, state);
+            if let Some(single) = single {
                 self.arrive_at(from, procedure, place, &single)?;
             }
         }
@@ -99,7 +101,7 @@ impl<'a> Run<'a> {
     ) -> Result<(), RunStop> {
         let last = state.core().registers.get(register).hi;
         for (lo, hi) in [(0, 0), (1, last)] {
-            if let Some(part) = self.with_bounds(register, lo, hi, state) {
+            if let Some(part) = self.with_bounds(procedure, register, lo, hi, state) {
                 self.arrive_at(from, procedure, place, &part)?;
             }
         }
@@ -118,9 +120,10 @@ impl<'a> Run<'a> {
         None
     }
 
-    /// A state in which a register's values are cut to bounds; none where nothing is meant then.
+    /// A state of a procedure in which a register's values are cut to bounds; none where nothing is meant then.
     pub(crate) fn with_bounds(
         &self,
+        procedure: usize,
         register: Register,
         lo: u8,
         hi: u8,
@@ -130,7 +133,8 @@ impl<'a> Run<'a> {
         let val = core.registers.get(register);
         let interval = cut(interval_of(val), bounds(lo, hi))?;
         core.registers.set(register, val_of(interval, val.origin));
-        let product = reduced(self.rules(), &core, state.relations())?;
+        let entered = self.pairs_at_entry(procedure);
+        let product = reduced(self.rules(), &entered, &core, state.relations())?;
         let mut single = state.with_core(product.core);
         single.set_relations(product.relations);
         Some(single)
@@ -360,6 +364,7 @@ impl<'a> Run<'a> {
         }
         if self.is_fourth() {
             self.record_shadows(state)?;
+            self.record_bases(key.procedure, state);
         }
         match self.node_index.get(&key) {
             Some(number) => {
@@ -387,10 +392,11 @@ impl<'a> Run<'a> {
             via,
             is_queued: false,
         })?;
-        if key.is_entry
-            && let Some(procedure) = self.procedures.get_mut(key.procedure)
-        {
-            procedure.entry = Some(number);
+        if let Some(procedure) = self.procedures.get_mut(key.procedure) {
+            procedure.nodes.push(number)?;
+            if key.is_entry {
+                procedure.entry = Some(number);
+            }
         }
         self.enqueue(number)
     }
@@ -415,7 +421,9 @@ impl<'a> Run<'a> {
         let Some(node) = self.nodes.get(number) else {
             return Ok(());
         };
+        let (procedure, is_entry) = (node.key.procedure, node.key.is_entry);
         let growth = self.growth_of(node);
+        let before = self.pairs_at_entry(procedure);
         if growth == Growth::Linked {
             self.link_to(number, state);
         } else {
@@ -423,6 +431,9 @@ impl<'a> Run<'a> {
         }
         if let Some(node) = self.nodes.get_mut(number) {
             node.growths = node.growths.saturating_add(1);
+        }
+        if is_entry {
+            self.enqueue_based(procedure, before)?;
         }
         self.enqueue(number)
     }

@@ -153,7 +153,9 @@ impl<'a> Run<'a> {
             return Ok(());
         };
         let state = &node.state;
-        let Some(product) = reduced(self.rules(), state.core(), state.relations()) else {
+        let entered = self.pairs_at_entry(procedure);
+        let product = reduced(self.rules(), &entered, state.core(), state.relations());
+        let Some(product) = product else {
             return Ok(());
         };
         let mut meant = state.with_core(product.core);

@@ -31,6 +31,8 @@ impl RunProcedure {
         RunProcedure {
             key,
             entry: None,
+            nodes: Vec::new(alloc),
+            has_bases: false,
             exit: None,
             exact: None,
             growths: 0,

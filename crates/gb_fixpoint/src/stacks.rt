@@ -103,6 +103,7 @@ impl<'a> Run<'a> {
             is_whole: self.is_fourth(),
             is_main: procedure == 0,
             base: self.base_of(procedure),
+            entered: self.pairs_at_entry(procedure),
         };
         Stack {
             setting,

@@ -117,6 +117,7 @@ impl<'a> Run<'a> {
         }
         self.settle(state);
         self.fix_fills(state);
+        self.leave_bases(state);
         if self.leaves_others(procedure, state) {
             self.want_inline(procedure)?;
             let cause = Cause::ReturnWithOthers;

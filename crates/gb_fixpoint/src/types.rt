@@ -137,6 +137,10 @@ pub struct RunProcedure {
     pub key: ProcedureKey,
     /// The number of its first node, once it was entered.
     pub entry: Option<usize>,
+    /// The numbers of its nodes.
+    pub nodes: Vec<usize>,
+    /// Whether states of it have links with a base.
+    pub has_bases: bool,
     /// What it is said to return with, if it has returned yet.
     pub exit: Option<Abs>,
     /// What it returns with, where more is known than it is said to: by the rules of version 4.

@@ -3,11 +3,12 @@
 //!
 //! Code is named by its `code_point`, bank and address. `configuration`, `keys` and `register_set` say how finely states are told
 //! apart; `joining`, `linking`, `relating`, `steps` and `ranges` join and widen them, `covering` compares them, by a `basis`: the rules of
-//! versions 1 and 2, of version 3 or of version 4. `claims`, `filling` and `shadowing` are what states of version 4 say of the whole
+//! versions 1 and 2, of version 3 or of version 4. `bases` are links that speak of a procedure's entry. `claims`, `filling` and `shadowing` are what states of version 4 say of the whole
 //! program. `instruction` and `refusals` say what is against an instruction in a state, by the checker's own tests, `seen` what callers
 //! see of an exit, `handlers` what is known behind a handler, and `cause` and `stop` why a run goes no further.
 #![tactic(auto)]
 
+pub mod bases;
 pub mod basis;
 pub mod bounds;
 pub mod cause;

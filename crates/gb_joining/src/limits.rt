@@ -83,6 +83,9 @@ pub const FACTOR: u16 = 127;
 /// How wide the sums of a link may be: wider ones say little.
 pub const LINK_WIDTH: u16 = 3_000;
 
+/// How wide the sums of a link with a base become where they grow again and again.
+pub const BASE_WIDTHS: [u16; 3] = [15, 255, LINK_WIDTH];
+
 /// The most values of H or D that a page is taken by.
 pub const PAGES: u8 = 8;
 

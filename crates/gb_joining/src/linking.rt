@@ -2,6 +2,7 @@
 //! Where a pair steps by a constant as a counter does, the loop's pointer is known by its counter, and needs no node for
 //! each of its values.
 
+use crate::bases::{grown_sums, is_based_in_one, place_from, places_from, unmoved, with_bases};
 use crate::bounds::{WORD_PAIRS, facts_of, halves_of, set_facts};
 use crate::configuration::Edition;
 use crate::limits::{FACTOR, LINK_WIDTH};
@@ -18,13 +19,23 @@ fn are_same_others(a: Other, b: Other) -> bool {
     match (a, b) {
         (Other::Register(x), Other::Register(y)) => x == y,
         (Other::Pair(x), Other::Pair(y)) => are_same_pairs(x, y),
+        (Other::Nothing, Other::Nothing) => true,
+        _ => false,
+    }
+}
+
+/// Whether two links of a pair have the same base, or none.
+fn are_same_bases(a: Option<WordPair>, b: Option<WordPair>) -> bool {
+    match (a, b) {
+        (Some(x), Some(y)) => are_same_pairs(x, y),
+        (None, None) => true,
         _ => false,
     }
 }
 
 /// Whether two links of a pair speak of the same sum.
 fn are_same_terms(a: &Link, b: &Link) -> bool {
-    are_same_others(a.other, b.other) && a.factor == b.factor
+    are_same_others(a.other, b.other) && a.factor == b.factor && are_same_bases(a.base, b.base)
 }
 
 pub fn are_same_links(a: &Link, b: &Link) -> bool {
@@ -80,67 +91,61 @@ fn factor_of(pair_step: u16, other_step: u16) -> Option<u16> {
     }
 }
 
-/// How far an interval moved from one state to the next, where it stayed as long.
-fn moved_by(before: Bounds, behind: Bounds) -> Option<u16> {
-    let length = before.last.checked_sub(before.first)?;
-    if behind.last.checked_sub(behind.first) == Some(length) {
+/// A pair in two states of a loop's head, less a base, if links with one are sought.
+#[derive(Clone, Copy)]
+struct Round<'a> {
+    edition: Edition,
+    pair: WordPair,
+    base: Option<WordPair>,
+    before: KnownRelations<'a>,
+    behind: KnownRelations<'a>,
+}
+
+/// How far what is read moved, where it had one value.
+fn stepped_by(before: Bounds, behind: Bounds) -> Option<u16> {
+    if before.first == before.last && behind.first == behind.last {
         Some(behind.first.wrapping_sub(before.first))
     } else {
         None
     }
 }
 
-/// How far a single value moved.
-fn stepped_by(before: Bounds, behind: Bounds) -> Option<u16> {
-    if before.first == before.last {
-        moved_by(before, behind)
+/// How far a pair moved: by the rules of version 4 it may lie anywhere in an interval that stays as long.
+fn pair_moved_by(round: Round<'_>) -> Option<u16> {
+    let before = place_from(round.base, round.pair, round.before)?;
+    let behind = place_from(round.base, round.pair, round.behind)?;
+    let is_alike = before.width == behind.width;
+    if is_alike && (before.width == 0 || round.edition.is_fourth()) {
+        Some(behind.first.wrapping_sub(before.first))
     } else {
         None
     }
 }
 
-/// How far a pair moved: by the rules of version 4 it may lie anywhere in an interval.
-fn pair_moved_by(
-    edition: Edition,
-    pair: WordPair,
-    before: KnownRelations<'_>,
-    behind: KnownRelations<'_>,
-) -> Option<u16> {
-    let (before, behind) = (before.bounds(pair), behind.bounds(pair));
-    if edition.is_fourth() {
-        moved_by(before, behind)
-    } else {
-        stepped_by(before, behind)
-    }
-}
-
 /// A link of a pair that holds in both states, where the pair steps by a constant as the other by one.
-fn link_by(
-    edition: Edition,
-    pair: WordPair,
-    other: Other,
-    before: KnownRelations<'_>,
-    behind: KnownRelations<'_>,
-) -> Option<Link> {
+fn link_by(round: Round<'_>, other: Other) -> Option<Link> {
+    let before = round.before.other_bounds(other);
     let factor = factor_of(
-        pair_moved_by(edition, pair, before, behind)?,
-        stepped_by(before.other_bounds(other), behind.other_bounds(other))?,
+        pair_moved_by(round)?,
+        stepped_by(before, round.behind.other_bounds(other))?,
     )?;
-    let Sums { first, width } = sums_in(before.bounds(pair), factor, before.other_bounds(other))?;
+    let place = place_from(round.base, round.pair, round.before)?;
+    let Sums { first, width } = sums_in(place, factor, before)?;
     if width > LINK_WIDTH {
         return None;
     }
     Some(Link {
         other,
         factor,
+        base: round.base,
         sum: first,
         width,
     })
 }
 
 /// Whether what a link reads gets smaller from one state to the other.
-fn is_counted_down(other: Other, before: KnownRelations<'_>, behind: KnownRelations<'_>) -> bool {
-    behind.other_bounds(other).first < before.other_bounds(other).first
+fn is_counted_down(other: Other, round: Round<'_>) -> bool {
+    round.behind.other_bounds(other).first < round.before.other_bounds(other).first
 }
 
 /// Whether a register is one of a pair's.
@@ -158,19 +163,12 @@ fn reads(pair: WordPair, read: WordPair, pairs: &Pairs) -> bool {
 }
 
 /// A link of a pair with another pair that isn't linked with it.
-fn link_to_pair(
-    edition: Edition,
-    pair: WordPair,
-    linked: &Pairs,
-    before: KnownRelations<'_>,
-    behind: KnownRelations<'_>,
-    is_down: bool,
-) -> Option<Link> {
+fn link_to_pair(round: Round<'_>, linked: &Pairs, is_down: bool) -> Option<Link> {
     for other in WORD_PAIRS {
-        if !are_same_pairs(other, pair)
-            && !reads(other, pair, linked)
-            && is_counted_down(Other::Pair(other), before, behind) == is_down
-            && let Some(link) = link_by(edition, pair, Other::Pair(other), before, behind)
+        if !are_same_pairs(other, round.pair)
+            && !reads(other, round.pair, linked)
+            && is_counted_down(Other::Pair(other), round) == is_down
+            && let Some(link) = link_by(round, Other::Pair(other))
         {
             return Some(link);
         }
@@ -179,18 +177,12 @@ fn link_to_pair(
 }
 
 /// A link of a pair with a register that isn't one of its own.
-fn link_to_register(
-    edition: Edition,
-    pair: WordPair,
-    before: KnownRelations<'_>,
-    behind: KnownRelations<'_>,
-    is_down: bool,
-) -> Option<Link> {
+fn link_to_register(round: Round<'_>, is_down: bool) -> Option<Link> {
     for register in REGISTERS {
         let other = Other::Register(register);
-        if !is_half(register, pair)
-            && is_counted_down(other, before, behind) == is_down
-            && let Some(link) = link_by(edition, pair, other, before, behind)
+        if !is_half(register, round.pair)
+            && is_counted_down(other, round) == is_down
+            && let Some(link) = link_by(round, other)
         {
             return Some(link);
         }
@@ -198,36 +190,58 @@ fn link_to_register(
     None
 }
 
-/// Whether a pair moved from one state to the other: else no link is sought.
-fn has_moved(
-    edition: Edition,
-    pair: WordPair,
-    before: KnownRelations<'_>,
-    behind: KnownRelations<'_>,
-) -> bool {
-    pair_moved_by(edition, pair, before, behind).is_some_and(|step| step != 0)
-}
-
 /// A link of a pair that holds in both states: with what is counted down first, and with another pair before its bytes,
 /// since a byte goes round where its pair goes on: a copy may end by either pointer, and the other one is known by it.
-fn inferred(
-    edition: Edition,
-    pair: WordPair,
-    linked: &Pairs,
-    before: KnownRelations<'_>,
-    behind: KnownRelations<'_>,
-) -> Option<Link> {
-    if !has_moved(edition, pair, before, behind) {
+fn inferred(round: Round<'_>, linked: &Pairs) -> Option<Link> {
+    if !pair_moved_by(round).is_some_and(|step| step != 0) {
         return None;
     }
-    link_to_pair(edition, pair, linked, before, behind, true)
-        .or(link_to_register(edition, pair, before, behind, true))
-        .or(link_to_pair(edition, pair, linked, before, behind, false))
-        .or(link_to_register(edition, pair, before, behind, false))
+    link_to_pair(round, linked, true)
+        .or(link_to_register(round, true))
+        .or(link_to_pair(round, linked, false))
+        .or(link_to_register(round, false))
 }
 
-/// The link of the first state with the sums of both, by the rules of version 4. Where the second one has it with other sums, the way
-/// there changed them: then no link is left.
+/// A link of a pair that holds in both states, with a base of which one of them has a link.
+fn inferred_from_bases(round: Round<'_>, linked: &Pairs) -> Option<Link> {
+    if !is_based_in_one(round.pair, round.before, round.behind) {
+        return None;
+    }
+    if let Some(link) = unmoved(round.pair, round.before, round.behind) {
+        return Some(link);
+    }
+    for held in WORD_PAIRS {
+        let from = Round {
+            base: Some(held),
+            ..round
+        };
+        if places_from(held, round.pair, round.before, round.behind).is_some()
+            && let Some(link) = inferred(from, linked)
+        {
+            return Some(link);
+        }
+    }
+    None
+}
+
+/// Sums that hold those of both states. Where the second one has the same link with other sums, the way there changed them: then no
+/// link is left that has no base.
+fn sums_of_both(link: &Link, there: Sums, is_changed: bool) -> Option<Sums> {
+    let here = Sums {
+        first: link.sum,
+        width: link.width,
+    };
+    if link.base.is_some() {
+        return grown_sums(here, there);
+    }
+    if is_changed {
+        None
+    } else {
+        hull_of(here, there)
+    }
+}
+
+/// The link of the first state with the sums of both, by the rules of version 4.
 fn widened(
     edition: Edition,
     pair: WordPair,
@@ -238,22 +252,15 @@ fn widened(
         return None;
     }
     let link = before.link(pair)?;
-    let here = Sums {
-        first: link.sum,
-        width: link.width,
-    };
-    if behind
+    let is_changed = behind
         .link(pair)
-        .is_some_and(|other| are_same_terms(&other, &link))
-    {
-        return None;
-    }
+        .is_some_and(|other| are_same_terms(&other, &link));
     let there = sums_in(
-        behind.bounds(pair),
+        place_from(link.base, pair, behind)?,
         link.factor,
         behind.other_bounds(link.other),
     )?;
-    let Sums { first, width } = hull_of(here, there)?;
+    let Sums { first, width } = sums_of_both(&link, there, is_changed)?;
     if width > LINK_WIDTH {
         return None;
     }
@@ -279,7 +286,7 @@ pub fn with_wider_links(
             set_facts(pair, PairFacts { link, ..facts }, &mut linked);
         }
     }
-    linked
+    with_bases(&linked, before, behind)
 }
 
 /// What is known of pairs in both states, with links that hold in both where none is known yet.
@@ -292,12 +299,19 @@ pub fn with_links(
     let mut linked = *pairs;
     for pair in WORD_PAIRS {
         let facts = facts_of(pair, pairs);
+        let round = Round {
+            edition,
+            pair,
+            base: None,
+            before,
+            behind,
+        };
         if facts.link.is_none() {
-            let link = inferred(edition, pair, &linked, before, behind).or_else(|| widened(
-                edition, pair, before, behind,
-            ));
+            let link = inferred_from_bases(round, &linked)
+                .or_else(|| inferred(round, &linked))
+                .or_else(|| widened(edition, pair, before, behind));
             set_facts(pair, PairFacts { link, ..facts }, &mut linked);
         }
     }
-    linked
+    with_bases(&linked, before, behind)
 }

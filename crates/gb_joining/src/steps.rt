@@ -1,5 +1,6 @@
 //! Widening: bounds that grew go on to the next of some steps, so that they grow a few times only.
 
+use crate::bases::with_bases;
 use crate::basis::Basis;
 use crate::bounds::{WORD_PAIRS, facts_of, set_facts};
 use crate::configuration::Edition;
@@ -12,6 +13,7 @@ use crate::relating::without_boxes;
 use crate::shadowing::join_summaries;
 use arrayvec::ArrayVec;
 use gb_verify::gb_domain::interval::{low_bits_of, with_low_bits};
+use gb_verify::gb_domain::pairs::ANY_PAIRS;
 use gb_verify::gb_domain::values::interval_of;
 use gb_verify::gb_ops::registers::Registers;
 use gb_verify::{
@@ -263,7 +265,7 @@ impl Steps {
 
     fn above(&self, basis: &Basis<'_>, growth: Growth, old: &Abs, added: &Abs) -> Abs {
         match growth {
-            Growth::Joined => join(basis, old, added),
+            Growth::Joined => joined(basis, old, added),
             Growth::Linked => {
                 let mut joined = old.copied();
                 link_in(basis, &mut joined, added);
@@ -277,7 +279,13 @@ impl Steps {
 
 /// A widened state, reduced, where that still covers what it was widened from.
 fn cut(program: &Program<'_>, widened: Abs, new: &Abs) -> Abs {
-    let Some(product) = reduced(Rules::Extended, widened.core(), widened.relations()) else {
+    let product = reduced(
+        Rules::Extended,
+        &ANY_PAIRS,
+        widened.core(),
+        widened.relations(),
+    );
+    let Some(product) = product else {
         return widened;
     };
     let mut less = widened.with_core(product.core);
@@ -287,6 +295,17 @@ fn cut(program: &Program<'_>, widened: Abs, new: &Abs) -> Abs {
     } else {
         widened
     }
+}
+
+/// The join of two states, with links that have a base.
+fn joined(basis: &Basis<'_>, old: &Abs, added: &Abs) -> Abs {
+    let mut joined = join(basis, old, added);
+    let relations = Relations {
+        pairs: with_bases(&joined.relations().pairs, known_of(old), known_of(added)),
+        ..*joined.relations()
+    };
+    joined.set_relations(relations);
+    joined
 }
 
 /// The state, in which nothing more is known of pairs than their bytes.

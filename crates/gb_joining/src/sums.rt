@@ -10,19 +10,28 @@ pub struct Sums {
     pub width: u16,
 }
 
-/// Sums where the pair and what is read lie in bounds.
-pub fn sums_in(pair: Bounds, factor: u16, other: Bounds) -> Option<Sums> {
+impl Sums {
+    /// The words of an interval.
+    pub fn of(bounds: Bounds) -> Option<Sums> {
+        Some(Sums {
+            first: bounds.first,
+            width: bounds.last.checked_sub(bounds.first)?,
+        })
+    }
+}
+
+/// Sums where the pair is one of some words, and what is read lies in bounds.
+pub fn sums_in(pair: Sums, factor: u16, other: Bounds) -> Option<Sums> {
     let is_rising = factor < 0x8000;
     let (size, end) = if is_rising {
         (factor, other.first)
     } else {
         (factor.wrapping_neg(), other.last)
     };
-    let length = pair.last.checked_sub(pair.first)?;
     let spread = size.checked_mul(other.last.checked_sub(other.first)?)?;
     Some(Sums {
         first: pair.first.wrapping_add(factor.wrapping_mul(end)),
-        width: length.checked_add(spread)?,
+        width: pair.width.checked_add(spread)?,
     })
 }
 
@@ -56,6 +65,7 @@ impl KnownRelations<'_> {
                     last: u16::from(val.hi),
                 }
             }
+            Other::Nothing => Bounds { first: 0, last: 0 },
         }
     }
 }

@@ -3,12 +3,12 @@
 
 use crate::onward::NodeSite;
 use crate::parts::{
-    BOUNDS, EACH, ORIGINS, TOGETHER, Wanted, bounds_of, cell_bit, cell_number, origin_of, told_in,
-    weakened,
+    BOUNDS, EACH, ORIGINS, TOGETHER, Wanted, bounds_of, cell_bit, cell_number, origin_of,
+    parts_of_pair, told_in, weakened,
 };
 use gb_draft::{
-    Abs, AbsRead, AbsWrite, Cell, REGISTERS, Resumed, Rules, Span, Successor, Successors, covers,
-    enter, kept_of, taken_by,
+    Abs, AbsRead, AbsWrite, Bounds, Cell, PairBounds, REGISTERS, Resumed, Rules, Span, Successor,
+    Successors, WORD_PAIRS, WordPair, covers, enter, kept_of, taken_by,
 };
 
 /// What has to stand for what comes out on a way.
@@ -200,6 +200,32 @@ impl Asked<'_> {
         wanted
     }
 
+    /// Whether so much of the state is enough where pairs lay within these bounds as its procedure was entered.
+    pub(crate) fn is_enough_within(&self, entered: PairBounds, wanted: Wanted) -> bool {
+        let site = self.site.entered_within(entered);
+        let asked = Asked {
+            site: &site,
+            ..*self
+        };
+        asked.is_enough(wanted)
+    }
+
+    /// Bounds at entry that are enough, which are as these where that is enough, and the parts of the entry that say the others.
+    pub(crate) fn least_within(&self, left: PairBounds, wanted: Wanted) -> (PairBounds, u32) {
+        let full = self.site.stack.setting.entered;
+        let (mut entered, mut parts) = (full, 0);
+        for pair in WORD_PAIRS {
+            let mut less = entered;
+            set_bounds_in(pair, bounds_in(pair, &left), &mut less);
+            if self.is_enough_within(less, wanted) {
+                entered = less;
+            } else {
+                parts |= parts_of_pair(pair);
+            }
+        }
+        (entered, parts)
+    }
+
     /// Leaves this out if it is wanted and what is left is enough.
     fn drop_one(&self, one: Wanted, wanted: &mut Wanted) {
         let less = wanted.without(one);
@@ -249,6 +275,24 @@ impl ReturnAsked<'_> {
         if less != *wanted && self.is_enough(less) {
             *wanted = less;
         }
+    }
+}
+
+/// The bounds of one of the pairs.
+fn bounds_in(pair: WordPair, bounds: &PairBounds) -> Bounds {
+    match pair {
+        WordPair::Bc => bounds.bc,
+        WordPair::De => bounds.de,
+        WordPair::Hl => bounds.hl,
+    }
+}
+
+/// Sets the bounds of one of the pairs.
+fn set_bounds_in(pair: WordPair, within: Bounds, bounds: &mut PairBounds) {
+    match pair {
+        WordPair::Bc => bounds.bc = within,
+        WordPair::De => bounds.de = within,
+        WordPair::Hl => bounds.hl = within,
     }
 }
 

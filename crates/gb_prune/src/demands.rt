@@ -4,9 +4,12 @@
 use crate::aims::{Aim, Asked, ReturnAsked, WayAim};
 use crate::asking::{Asking, Passage};
 use crate::onward::{LeadsTo, NodeSite, Onward, state_of, weakened_node};
-use crate::parts::{ORIGINS, Wanted, weakened};
+use crate::parts::{ORIGINS, Wanted, parts_of_pair, weakened};
 use crate::standing::{Standby, Standing};
-use gb_draft::{Abs, AbsWrite, Cert, Rom, Successors, exit_of, ranges_of, taken_by};
+use gb_draft::{
+    ANY_PAIRS, Abs, AbsWrite, Cert, PairBounds, Rom, Successors, WORD_PAIRS, exit_of, pair_bounds,
+    ranges_of, stack_of, taken_by,
+};
 use std::alloc::{AllocError, Global};
 use std::collections::BTreeSet;
 
@@ -209,6 +212,7 @@ impl<'c, 'a> Demands<'c, 'a> {
     pub(crate) fn insist(&mut self, number: u32) -> Result<bool, AllocError> {
         let is_new = self.wanted_of(number) != Wanted::all();
         self.want(number, Wanted::all())?;
+        let is_entry_new = self.want_entered(procedure_of(self.cert, number))?;
         let onward = self.onward_of(number)?;
         for leads in &onward {
             if let Onward::Enters { callee, .. } = leads.onward {
@@ -216,7 +220,22 @@ impl<'c, 'a> Demands<'c, 'a> {
                 self.want_entries_like(callee)?;
             }
         }
-        Ok(is_new)
+        Ok(is_new || is_entry_new)
+    }
+
+    /// Within which bounds pairs lie as a procedure is entered is wanted. False where that was wanted already.
+    fn want_entered(&mut self, procedure: u16) -> Result<bool, AllocError> {
+        let full = stack_of(self.cert, procedure).setting.entered;
+        let entry = entry_of(self.cert, procedure);
+        match weakened_node(self.cert, entry, self.wanted_of(entry)) {
+            Some(weaker) if procedure != 0 && pair_bounds(&weaker) != full && full != ANY_PAIRS => {
+                for pair in WORD_PAIRS {
+                    self.want(entry, Wanted::of_parts(parts_of_pair(pair)))?;
+                }
+                Ok(true)
+            }
+            _ => Ok(false),
+        }
     }
 
     /// All is wanted of the entries at the address of a procedure's.
@@ -257,7 +276,34 @@ impl<'c, 'a> Demands<'c, 'a> {
             asked.least(asking.wanted)
         };
         self.want(number, wanted)?;
+        let entered = self.entered_for(&asked, wanted)?;
+        let within = site.entered_within(entered);
+        let asked = Asked {
+            site: &within,
+            ..asked
+        };
         self.want_exits(&asked, wanted)
+    }
+
+    /// Within which bounds pairs have to lie as a node's procedure is entered, where so much of the node is wanted: links with a base go
+    /// by them. What of its entry is asked for by that is wanted.
+    fn entered_for(&mut self, asked: &Asked<'_>, wanted: Wanted) -> Result<PairBounds, AllocError> {
+        let full = asked.site.stack.setting.entered;
+        let entry = entry_of(self.cert, asked.site.procedure);
+        let Some(weaker) = weakened_node(self.cert, entry, self.wanted_of(entry)) else {
+            return Ok(full);
+        };
+        let left = if asked.site.procedure == 0 {
+            full
+        } else {
+            pair_bounds(&weaker)
+        };
+        if left == full || asked.is_enough_within(left, wanted) {
+            return Ok(left);
+        }
+        let (entered, parts) = asked.least_within(left, wanted);
+        self.want(entry, Wanted::of_parts(parts))?;
+        Ok(entered)
     }
 
     /// What a node's ways ask of it.

@@ -5,9 +5,10 @@ use crate::standing::{Standby, Standing};
 use gb_draft::gb_ops::decode::decode;
 use gb_draft::gb_ops::op::Row;
 use gb_draft::{
-    Abs, Cert, INTERRUPT_COUNT, Program, Resumed, Rom, Rules, Stack, Successor, Successors, Target,
-    callee_at, exit_of, handler, kept_of, known_bytes, left_by_dispatch, may_come, program_of,
-    ranges_of, resume, stack_of, successors_of, taken_by, vector_of,
+    Abs, Cert, INTERRUPT_COUNT, PairBounds, Program, Resumed, Rom, Rules, Setting, Stack,
+    Successor, Successors, Target, callee_at, exit_of, handler, kept_of, known_bytes,
+    left_by_dispatch, may_come, program_of, ranges_of, resume, stack_of, successors_of, taken_by,
+    vector_of,
 };
 use std::alloc::{AllocError, Global};
 
@@ -73,6 +74,19 @@ impl<'c, 'a> NodeSite<'c, 'a> {
             stack: stack_of(cert, node.procedure()),
             row,
         })
+    }
+
+    /// The same node, where pairs lay within these bounds as its procedure was entered.
+    pub(crate) fn entered_within(&self, entered: PairBounds) -> NodeSite<'c, 'a> {
+        let setting = Setting {
+            entered,
+            ..self.stack.setting
+        };
+        let stack = Stack {
+            setting,
+            ..self.stack
+        };
+        NodeSite { stack, ..*self }
     }
 
     /// Where the instruction leads from a state.

@@ -4,7 +4,7 @@ use arrayvec::ArrayVec;
 use gb_draft::gb_ops::op::Register;
 use gb_draft::{
     Abs, Cell, Core, Ctl, Flg, May, NOTHING_KNOWN, OneByte, Origin, PairFacts, Pairs, REGISTERS,
-    Relations, Val, any,
+    Relations, Val, WordPair, any,
 };
 
 /// The flags may be known.
@@ -46,6 +46,15 @@ pub(crate) const EACH: [u32; 23] = [
     BYTE, ZERO, BC, DE, HL, 0x0100, 0x0200, 0x0400, 0x0800, 0x1000, 0x2000, 0x4000, OWN_FLAGS,
     KEPT, 0x01, 0x02, 0x04, 0x08, 0x10, 0x20, 0x40, FLAGS, BANK,
 ];
+
+/// The bounds of a pair: its own, and those of its bytes.
+pub(crate) fn parts_of_pair(pair: WordPair) -> u32 {
+    match pair {
+        WordPair::Bc => BC | bounds_of(Register::B) | bounds_of(Register::C),
+        WordPair::De => DE | bounds_of(Register::D) | bounds_of(Register::E),
+        WordPair::Hl => HL | bounds_of(Register::H) | bounds_of(Register::L),
+    }
+}
 
 /// The bounds of a register.
 pub(crate) fn bounds_of(register: Register) -> u32 {
