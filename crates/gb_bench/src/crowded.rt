@@ -25,6 +25,7 @@ const TIMES: u32 = 1_000;
 const POINTER: Link = Link {
     other: Other::Register(Register::E),
     factor: 0xFFFF,
+    base: None,
     sum: 0xC000,
     width: 0,
 };

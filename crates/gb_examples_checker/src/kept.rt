@@ -5,6 +5,7 @@ use gb_abs::cells::with_cell;
 use gb_abs::covering::cell_at;
 use gb_abs::stack::push;
 use gb_domain::StridedInterval;
+use gb_domain::pairs::ANY_PAIRS;
 use gb_domain::places::OneByte;
 use gb_domain::relations::Relations;
 use gb_domain::summary::{Fact, Summary};
@@ -43,6 +44,7 @@ fn setting(is_whole: bool) -> Setting {
         is_whole,
         is_main: false,
         base: 0,
+        entered: ANY_PAIRS,
     }
 }
 

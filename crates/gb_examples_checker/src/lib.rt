@@ -2,7 +2,7 @@
 //! implementation's verdicts), what no contract says (text, want of memory, failing sinks), and each public call once.
 //! The functions here promise nothing but to be safe.
 //!
-//! Read controllers.rt, memory.rt and loads.rt first (loads and stores), then kept.rt (calls), certificates.rt, written.rt, verdicts.rt and copies.rt. Whole
+//! Read controllers.rt, memory.rt and loads.rt first (loads and stores), then kept.rt (calls), certificates.rt, written.rt, links.rt, verdicts.rt and copies.rt. Whole
 //! programs with their certificates stand in `gb_worked_examples`.
 #![tactic(auto)]
 
@@ -14,6 +14,8 @@ mod controllers;
 mod copies;
 #[cfg(test)]
 mod kept;
+#[cfg(test)]
+mod links;
 #[cfg(test)]
 mod loads;
 #[cfg(test)]

@@ -3,6 +3,7 @@
 use arrayvec::ArrayVec;
 use gb_abs::cells::with_cell;
 use gb_domain::interval::StridedInterval;
+use gb_domain::pairs::ANY_PAIRS;
 use gb_domain::summary::{BankShadows, Fact, Fill, Summary};
 use gb_domain::types::{Core, Rules, Setting};
 use gb_ops::decode::decode;
@@ -48,6 +49,7 @@ const WHOLE: Setting = Setting {
     is_whole: true,
     is_main: false,
     base: 0xDFF0,
+    entered: ANY_PAIRS,
 };
 
 /// The bytes of C080 to C08F are 5 to 20; so many facts hold, and C020 is 77.

@@ -11,6 +11,7 @@ use gb_abs_memory::refusals::{
 };
 use gb_abs_memory::store::{Area, area_of, is_storable, store, stored_state};
 use gb_abs_memory::windows::ControllerRegister;
+use gb_domain::pairs::ANY_PAIRS;
 use gb_domain::types::{Halves, KeptBanks, Rules, Setting};
 use gb_ops::machine::{Kind, Region};
 use gb_ops::op::Register;
@@ -25,6 +26,7 @@ const MAIN: Setting = Setting {
     is_whole: false,
     is_main: true,
     base: 0,
+    entered: ANY_PAIRS,
 };
 
 /// A procedure above DFF0, by the rules of version 3.
@@ -33,6 +35,7 @@ const ABOVE: Setting = Setting {
     is_whole: false,
     is_main: false,
     base: 0xDFF0,
+    entered: ANY_PAIRS,
 };
 
 /// A procedure whose base isn't known, by the rules of version 3.
@@ -44,6 +47,7 @@ const FREE: Setting = Setting {
     is_whole: false,
     is_main: true,
     base: 0xE000,
+    entered: ANY_PAIRS,
 };
 
 /// MBC3 with 8 KiB of RAM.

@@ -39,7 +39,7 @@ const LEAST: [u8; 168] = [
 /// where the bytes are a certificate.
 type Change = (usize, usize, &'static [u8], u8);
 
-const CHANGES: [Change; 28] = [
+const CHANGES: [Change; 29] = [
     // The version: 5, and those that another letter goes with.
     (4, 1, &[0x05], 3),
     (4, 1, &[0x01], 3),
@@ -71,14 +71,15 @@ const CHANGES: [Change; 28] = [
     (166, 1, &[0x03, 0x00, 0x00, 0xE0], 5),
     // A fourth pair that is 0.
     (166, 1, &[0x08, 0x03], 5),
-    // BC: its first word over its last, any word with no link, any with one, a link of an eleventh other, one by 0, and one with a
-    // width, which only version 4 has.
+    // BC: its first word over its last, any word with no link, any with one, a link of an eleventh other, one by 0, one with a
+    // width, and one with a base; only version 4 has those.
     (166, 0, &[0x10, 0x02, 0x00, 0x01, 0x00], 5),
     (166, 0, &[0x10, 0x00, 0x00, 0xFF, 0xFF], 5),
     (166, 0, &[0x10, 0x00, 0x00, 0xFF, 0xFF, 0x0A, 0x01, 0x00], 0),
     (166, 0, &[0x10, 0x00, 0x00, 0x01, 0x00, 0x0B, 0x01, 0x00], 5),
     (166, 0, &[0x10, 0x00, 0x00, 0x01, 0x00, 0x01, 0x00, 0x00], 5),
     (166, 0, &[0x10, 0x00, 0x00, 0x01, 0x00, 0x81, 0x01, 0x00], 5),
+    (166, 0, &[0x10, 0x00, 0x00, 0x01, 0x00, 0x41, 0x01, 0x00], 5),
 ];
 
 /// A node's state from its test on, 05, up to what is there: A, whose test has bits too.
@@ -265,6 +266,7 @@ fn known_first() -> Relations {
                 link: Some(Link {
                     other: Other::Register(Register::C),
                     factor: 0xFFFE,
+                    base: None,
                     sum: 0x1234,
                     width: 0,
                 }),
@@ -292,6 +294,7 @@ fn known_second() -> Relations {
                 link: Some(Link {
                     other: Other::Pair(WordPair::Hl),
                     factor: 1,
+                    base: None,
                     sum: 0xFFFF,
                     width: 0,
                 }),

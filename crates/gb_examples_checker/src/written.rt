@@ -8,7 +8,7 @@ use gb_cert::{
     write_certificate,
 };
 use gb_domain::interval::StridedInterval;
-use gb_domain::pairs::{Link, Other, Pairs, WordPair};
+use gb_domain::pairs::WordPair;
 use gb_domain::relations::Relations;
 use gb_domain::summary::Fact;
 use gb_domain::types::{
@@ -361,7 +361,7 @@ fn what_is_written_is_read(rt: HostRuntime) -> Result<(), Fail> {
 }
 
 /// Of each thing that has a limit how much there is: all procedures are equal but for main's base, and all states have items of
-/// any value, cells, A's origin, the pair that is 0 where Z is set, and a link of HL with this width.
+/// any value, cells, A's origin, and the pair that is 0 where Z is set.
 #[derive(Clone, Copy)]
 struct Amounts {
     version: Version,
@@ -377,7 +377,6 @@ struct Amounts {
     /// A is even.
     is_even: bool,
     zero: Option<WordPair>,
-    width: u16,
     facts: usize,
     kept: usize,
     mark: u8,
@@ -398,7 +397,6 @@ const LEAST: Amounts = Amounts {
     origin: None,
     is_even: false,
     zero: None,
-    width: 0,
     facts: 0,
     kept: 0,
     mark: 0,
@@ -515,20 +513,6 @@ const LIMITS: &[(Amounts, Option<WriteFault>)] = &[
             ..LEAST
         },
         Some(WriteFault::Relations),
-    ),
-    (
-        Amounts {
-            width: 1,
-            ..LEAST_IN_VERSION_3
-        },
-        Some(WriteFault::Relations),
-    ),
-    (
-        Amounts {
-            width: 0xFFFF,
-            ..LEAST_IN_VERSION_4
-        },
-        None,
     ),
     (
         Amounts {
@@ -652,20 +636,6 @@ fn main_node(state: &Abs) -> NodePlan<'_> {
     }
 }
 
-/// A link of HL with A that has this width; none where that is 0.
-fn linked(width: u16) -> Pairs {
-    let mut pairs = Pairs::default();
-    if width != 0 {
-        pairs.hl.link = Some(Link {
-            other: Other::Register(Register::A),
-            factor: 1,
-            sum: 0xC000,
-            width,
-        });
-    }
-    pairs
-}
-
 /// A state of these amounts.
 fn state_of(amounts: &Amounts) -> Abs {
     let mut core = entered();
@@ -684,7 +654,6 @@ fn state_of(amounts: &Amounts) -> Abs {
     }
     state.set_relations(Relations {
         zero: amounts.zero,
-        pairs: linked(amounts.width),
         ..Relations::default()
     });
     state
@@ -739,47 +708,6 @@ fn fault_of(alloc: Global, amounts: &Amounts) -> Result<Option<WriteFault>, Allo
         Ok(_) => Ok(None),
         Err(fault) => Ok(Some(fault)),
     }
-}
-
-/// A certificate of version 4 whose one node has this state.
-fn with_state(alloc: Global, state: &Abs) -> Result<Vec<u8>, WriteFault> {
-    let procedures = [ProcedurePlan {
-        entry: 0,
-        base: 0xE000,
-        need: 0,
-        ranges: &[],
-        kept: &[],
-        mark: 0,
-        exit: None,
-    }];
-    let nodes = [main_node(state)];
-    let plan = CertificatePlan {
-        version: Version::Four,
-        region: REGION,
-        facts: &[],
-        procedures: &procedures,
-        nodes: &nodes,
-    };
-    write_certificate(alloc, &plan)
-}
-
-/// A link's width is read as it was written.
-#[test]
-fn widths_are_read_as_written(rt: HostRuntime) -> Result<(), Fail> {
-    for width in [0x0000, 0x0001, 0x00FF, 0x0100, 0xFFFF] {
-        let state = state_of(&Amounts {
-            width,
-            ..LEAST_IN_VERSION_4
-        });
-        let bytes = with_state(rt.alloc(), &state)?;
-        let cert = Cert::parse(rt.alloc(), &bytes)?;
-        let read = cert.node(0).state();
-        assert!(rt;
-            are_same(read.relations(), state.relations()),
-            "width {width}"
-        );
-    }
-    Ok(())
 }
 
 #[test]

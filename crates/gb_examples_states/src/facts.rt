@@ -8,7 +8,7 @@ use gb_domain::types::{Abs, Core, Rules, Val};
 use gb_ops::op::Register;
 use gb_ops::registers::Registers;
 use gb_pairs::values::Values;
-use gb_samples::states::{ANY, EITHER, entered, from_to, with_carry};
+use gb_samples::states::{ANY, EITHER, entered, from_to, own, with_carry};
 
 /// A fact of a state. Of what no fact speaks nothing is known.
 #[derive(Clone, Copy)]
@@ -17,6 +17,8 @@ pub enum StateFact {
     Byte(Register, u8, u8),
     /// A register is one of each 2^n-th value, n the last number, from the first one to the second.
     Each(Register, u8, u8, u8),
+    /// A register holds what the second one held as the procedure was entered.
+    Held(Register, Register),
     /// These registers hold one byte.
     Same(&'static [Register]),
     /// The byte at this address of memory is the same.
@@ -35,6 +37,8 @@ pub enum StateFact {
     Link(WordPair, u16, Other, u16),
     /// They are one of the words from this one on, as many more as the last number.
     Wide(WordPair, u16, Other, u16, u16),
+    /// They are so once what the second pair held as the procedure was entered is taken off.
+    Based(WordPair, u16, Other, WordPair, u16, u16),
 }
 
 /// What some facts say.
@@ -86,6 +90,7 @@ impl KnownFact {
                 };
                 self.registers.set(register, val);
             }
+            StateFact::Held(register, held) => self.registers.set(register, own(held)),
             StateFact::Same(registers) => {
                 for register in registers {
                     relations.byte.registers.set(*register, true);
@@ -100,23 +105,31 @@ impl KnownFact {
                 facts_of(pair, &mut relations.pairs).bounds = Bounds { first, last };
             }
             StateFact::Link(pair, factor, other, sum) => {
-                let width = 0;
-                let link = Link {
+                facts_of(pair, &mut relations.pairs).link = Some(Link {
                     other,
                     factor,
+                    base: None,
                     sum,
-                    width,
-                };
-                facts_of(pair, &mut relations.pairs).link = Some(link);
+                    width: 0,
+                });
             }
             StateFact::Wide(pair, factor, other, sum, width) => {
-                let link = Link {
+                facts_of(pair, &mut relations.pairs).link = Some(Link {
                     other,
                     factor,
+                    base: None,
                     sum,
                     width,
-                };
-                facts_of(pair, &mut relations.pairs).link = Some(link);
+                });
+            }
+            StateFact::Based(pair, factor, other, base, sum, width) => {
+                facts_of(pair, &mut relations.pairs).link = Some(Link {
+                    other,
+                    factor,
+                    base: Some(base),
+                    sum,
+                    width,
+                });
             }
         }
     }

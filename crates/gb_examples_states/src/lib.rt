@@ -3,11 +3,13 @@
 //! safe.
 //!
 //! Read arithmetic.rt first (intervals and flags), then branches.rt, states.rt, effects.rt and strided.rt (low bits); then, for the rules of version 3,
-//! stacks.rt, facts.rt (states in few words), together.rt and related.rt.
+//! stacks.rt, facts.rt (states in few words), together.rt and related.rt; for links with a base, bases.rt.
 #![tactic(auto)]
 
 #[cfg(test)]
 mod arithmetic;
+#[cfg(test)]
+mod bases;
 #[cfg(test)]
 mod branches;
 #[cfg(test)]

@@ -7,7 +7,7 @@ use crate::facts::StateFact::{
 };
 use gb_copies::sides::{PlaceContents, narrowed};
 use gb_domain::pairs::WordPair::{Bc, De, Hl};
-use gb_domain::pairs::{ANY_BOUNDS, Bounds, Other};
+use gb_domain::pairs::{ANY_BOUNDS, ANY_PAIRS, Bounds, Other, PairBounds};
 use gb_domain::types::{Cell, Rules};
 use gb_ops::op::Register::{A, B, C, D, E, H};
 use gb_ops::op::{Condition, Indirect, Op, Operand, Pair, Register};
@@ -24,7 +24,7 @@ use gb_samples::states::ANY;
 use std::process::Abort;
 
 /// What is known.
-type Facts = &'static [StateFact];
+pub type Facts = &'static [StateFact];
 
 #[derive(Clone, Copy)]
 pub enum RelatedStep {
@@ -104,7 +104,7 @@ fn passed(condition: Condition, before: Facts) -> Option<Product> {
     let state = known.state();
     let jump = Op::JumpRelativeIf(condition, 5);
     let side = not_taken_side(jump, known.memory, state.core(), state.relations())?;
-    reduced(Rules::Extended, &side.core, &side.relations)
+    reduced(Rules::Extended, &ANY_PAIRS, &side.core, &side.relations)
 }
 
 /// Whether a jump that isn't taken leaves this of registers and pairs.
@@ -134,7 +134,7 @@ fn carry_of_de(known: &KnownFact) -> Option<bool> {
 /// Whether a word in these bounds is added to HL with this carry; DE is such a word too.
 fn carries(first: u16, last: u16, before: Facts, carry: Option<bool>) -> bool {
     let mut known = KnownFact::new(before);
-    let sum = added(Bounds { first, last }, false, &known.values());
+    let sum = added(Bounds { first, last }, false, None, &known.values());
     known.relations.pairs.de.bounds = Bounds { first, last };
     sum.carry == carry && carry_of_de(&known) == carry
 }
@@ -148,9 +148,10 @@ fn points(op: Op, before: Facts, within: Option<(u16, u16)>) -> bool {
         && pointer_bounds(Rules::Simple, op, registers, pairs).is_none()
 }
 
-fn reduces(before: Facts, after: Option<Facts>) -> bool {
+/// Whether this is left once it is reduced, where the pairs lay within bounds as the procedure was entered.
+pub fn reduces(entered: &PairBounds, before: Facts, after: Option<Facts>) -> bool {
     let mut known = KnownFact::new(before);
-    let is_left = reduce(&mut known.registers, &mut known.relations.pairs);
+    let is_left = reduce(entered, &mut known.registers, &mut known.relations.pairs);
     match after {
         Some(after) => {
             let wanted = KnownFact::new(after);
@@ -163,7 +164,7 @@ fn reduces(before: Facts, after: Option<Facts>) -> bool {
 }
 
 /// Whether a state stands for all that another one does, by the rules of version 4 or without what these add.
-fn covers_all(is_whole: bool, s: Facts, t: Facts) -> bool {
+pub fn covers_all(is_whole: bool, s: Facts, t: Facts) -> bool {
     let program = Program {
         is_whole,
         ..Program::unknown()
@@ -181,7 +182,7 @@ fn agrees(step: &RelatedStep) -> bool {
         Meets(condition, before, after) => meets(condition, before, after),
         Passes(condition, before, after) => passes(condition, before, after),
         Points(op, before, within) => points(op, before, within),
-        Reduces(before, after) => reduces(before, after),
+        Reduces(before, after) => reduces(&ANY_PAIRS, before, after),
         Carries(first, last, before, carry) => carries(first, last, before, carry),
         Covers(s, t, is_so) => covers_all(false, s, t) == is_so,
         CoversWhole(s, t, is_so) => covers_all(true, s, t) == is_so,

@@ -9,6 +9,7 @@ use gb_abs::stack::{pop, push};
 use gb_abs_effects::transfer::{Inputs, transfer_in};
 use gb_abs_effects::writes::{AbsWrite, quiet};
 use gb_domain::low_bits::{low_bits, none};
+use gb_domain::pairs::ANY_PAIRS;
 use gb_domain::types::{Abs, Core, Halves, Rules, Setting, Val};
 use gb_ops::op::{Op, Register};
 use gb_samples::states::{ANY, copy_of, entered, from_to};
@@ -183,6 +184,7 @@ fn is_placed(place: &Place) -> bool {
         is_whole: false,
         is_main: false,
         base,
+        entered: ANY_PAIRS,
     };
     let Some(state) = stacked(is_set) else {
         return false;

@@ -1,10 +1,10 @@
-//! What instructions leave of what is known of several parts of a state together, by the rules of version 3: an example is a list
-//! of steps, which one function plays.
+//! What instructions leave of what is known of several parts of a state together, by the rules of versions 3 and 4: an example is a
+//! list of steps, which one function plays.
 
 use crate::facts::KnownFact;
-use crate::facts::StateFact::{self, At, Bits, Byte, Compared, Link, Same, Word, Zero};
+use crate::facts::StateFact::{self, At, Based, Bits, Byte, Compared, Link, Same, Word, Zero};
 use gb_domain::pairs::WordPair::{Bc, De, Hl};
-use gb_domain::pairs::{ANY_BOUNDS, Bounds, Other};
+use gb_domain::pairs::{ANY_BOUNDS, ANY_PAIRS, Bounds, Other};
 use gb_domain::places::StackBytes;
 use gb_domain::types::{Rules, Setting, Val};
 use gb_ops::machine::Region;
@@ -60,6 +60,7 @@ fn stack_of(is_whole: bool, count: u8) -> StackBytes {
         is_whole,
         is_main: true,
         base: 0xE000,
+        entered: ANY_PAIRS,
     };
     stack_held(setting, REGION, count)
 }
@@ -141,9 +142,17 @@ const IN_H: Operand = Operand::Register(H);
 
 const IN_L: Operand = Operand::Register(L);
 
+const OF_A: Other = Other::Register(A);
+
 const OF_B: Other = Other::Register(B);
 
 const OF_C: Other = Other::Register(C);
+
+const OF_E: Other = Other::Register(E);
+
+const OF_BC: Other = Other::Pair(Bc);
+
+const OF_DE: Other = Other::Pair(De);
 
 const OF_HL: Other = Other::Pair(Hl);
 
@@ -425,6 +434,129 @@ const ADDED: &[TogetherStep] = &[
         Op::AddHl(Pair::Sp),
         &[Word(Hl, 0x0002, 0x0004), Link(Hl, 1, OF_C, 0x0000)],
         &[],
+    ),
+];
+
+/// HL is C100, and BC is up to 000F.
+const AT_C100: Facts = &[Word(Hl, 0xC100, 0xC100), Word(Bc, 0x0000, 0x000F)];
+
+/// Words that are added to a known HL, by the rules of version 4.
+const ADDED_WHOLE: &[TogetherStep] = &[
+    // The word's link goes to HL, with its base.
+    LeavesWhole(
+        Op::AddHl(Pair::Bc),
+        &[
+            Word(Hl, 0xC100, 0xC100),
+            Word(Bc, 0x0000, 0x000F),
+            Link(Bc, 1, OF_A, 0x0010),
+        ],
+        &[
+            Word(Bc, 0x0000, 0x000F),
+            Link(Bc, 1, OF_A, 0x0010),
+            Word(Hl, 0xC100, 0xC10F),
+            Link(Hl, 1, OF_A, 0xC110),
+        ],
+    ),
+    LeavesWhole(
+        Op::AddHl(Pair::De),
+        &[
+            Word(Hl, 0xFFF0, 0xFFF0),
+            Word(De, 0x0010, 0x001F),
+            Based(De, 1, Other::Nothing, Bc, 0x0018, 7),
+        ],
+        &[
+            Word(De, 0x0010, 0x001F),
+            Based(De, 1, Other::Nothing, Bc, 0x0018, 7),
+            Word(Hl, 0x0000, 0x000F),
+            Based(Hl, 1, Other::Nothing, Bc, 0x0008, 7),
+        ],
+    ),
+    // It has none, or one that reads L or HL: HL - BC is what HL was.
+    LeavesWhole(
+        Op::AddHl(Pair::Bc),
+        AT_C100,
+        &[
+            Word(Bc, 0x0000, 0x000F),
+            Word(Hl, 0xC100, 0xC10F),
+            Link(Hl, LESS_ONE, OF_BC, 0xC100),
+        ],
+    ),
+    LeavesWhole(
+        Op::AddHl(Pair::Bc),
+        &[
+            Word(Hl, 0xC100, 0xC100),
+            Word(Bc, 0x0000, 0x000F),
+            Link(Bc, 1, Other::Register(L), 0x000F),
+        ],
+        &[
+            Word(Bc, 0x0000, 0x000F),
+            Word(Hl, 0xC100, 0xC10F),
+            Link(Hl, LESS_ONE, OF_BC, 0xC100),
+        ],
+    ),
+    LeavesWhole(
+        Op::AddHl(Pair::Bc),
+        &[
+            Word(Hl, 0xC100, 0xC100),
+            Word(Bc, 0x0000, 0x000F),
+            Link(Bc, LESS_ONE, OF_HL, 0x3F00),
+        ],
+        &[
+            Word(Bc, 0x0000, 0x000F),
+            Word(Hl, 0xC100, 0xC10F),
+            Link(Hl, LESS_ONE, OF_BC, 0xC100),
+        ],
+    ),
+    // HL's own link, and others that read it, are forgotten.
+    LeavesWhole(
+        Op::AddHl(Pair::Bc),
+        &[
+            Word(Hl, 0xC100, 0xC100),
+            Link(Hl, 1, OF_E, 0xC200),
+            Link(De, 1, OF_HL, 0x0005),
+        ],
+        &[Link(Hl, LESS_ONE, OF_BC, 0xC100)],
+    ),
+    // A known word is a step, as in version 3.
+    LeavesWhole(
+        Op::AddHl(Pair::Bc),
+        &[
+            Word(Hl, 0xC100, 0xC100),
+            Link(Hl, 1, OF_A, 0xC200),
+            Word(Bc, 0x0100, 0x0100),
+            Link(Bc, 1, OF_E, 0x0200),
+        ],
+        &[
+            Word(Hl, 0xC200, 0xC200),
+            Link(Hl, 1, OF_A, 0xC300),
+            Word(Bc, 0x0100, 0x0100),
+            Link(Bc, 1, OF_E, 0x0200),
+        ],
+    ),
+    // HL isn't known, or is added itself, or SP is; and the rules of version 3.
+    LeavesWhole(
+        Op::AddHl(Pair::Bc),
+        &[
+            Word(Hl, 0xC100, 0xC101),
+            Word(Bc, 0x0000, 0x000F),
+            Link(Bc, 1, OF_A, 0x0010),
+        ],
+        &[
+            Word(Bc, 0x0000, 0x000F),
+            Link(Bc, 1, OF_A, 0x0010),
+            Word(Hl, 0xC100, 0xC110),
+        ],
+    ),
+    LeavesWhole(
+        Op::AddHl(Pair::Hl),
+        &[Word(Hl, 0x1234, 0x1234), Link(Hl, 1, OF_B, 0x3000)],
+        &[Word(Hl, 0x2468, 0x2468)],
+    ),
+    LeavesWhole(Op::AddHl(Pair::Sp), &[Word(Hl, 0x0002, 0x0002)], &[]),
+    Leaves(
+        Op::AddHl(Pair::Bc),
+        AT_C100,
+        &[Word(Bc, 0x0000, 0x000F), Word(Hl, 0xC100, 0xC10F)],
     ),
 ];
 
@@ -725,12 +857,13 @@ const PAIRS_COPIED: &[TogetherStep] = &[
         &[
             Same(&[C, L]),
             Word(Bc, 0x0003, 0x0005),
-            Link(Bc, 1, Other::Register(A), 0x0100),
+            Link(Bc, 1, OF_A, 0x0100),
             Word(Hl, 0xC010, 0xC100),
         ],
         &[
             Same(&[C, L]),
             Word(Bc, 0xC010, 0xC100),
+            Link(Bc, LESS_ONE, OF_HL, 0x0000),
             Word(Hl, 0xC010, 0xC100),
         ],
     ),
@@ -746,6 +879,7 @@ const PAIRS_COPIED: &[TogetherStep] = &[
         &[
             Same(&[C, L]),
             Word(Bc, 0xC020, 0xC100),
+            Link(Bc, LESS_ONE, OF_HL, 0x0000),
             Word(Hl, 0xC010, 0xC100),
         ],
     ),
@@ -757,7 +891,56 @@ const PAIRS_COPIED: &[TogetherStep] = &[
             Same(&[A, B, D]),
             Word(Bc, 0x1234, 0x1300),
             Word(De, 0x1234, 0x1300),
+            Link(De, LESS_ONE, OF_BC, 0x0000),
         ],
+    ),
+    // HL's link is DE's too, with its base.
+    LeavesWhole(
+        Op::Load(IN_D, IN_H),
+        &[Same(&[E, L]), Link(Hl, 1, OF_A, 0xC100)],
+        &[
+            Same(&[E, L]),
+            Link(De, 1, OF_A, 0xC100),
+            Link(Hl, 1, OF_A, 0xC100),
+        ],
+    ),
+    LeavesWhole(
+        Op::Load(IN_D, IN_H),
+        &[Same(&[E, L]), Based(Hl, 1, Other::Nothing, De, 0x0004, 2)],
+        &[
+            Same(&[E, L]),
+            Based(De, 1, Other::Nothing, De, 0x0004, 2),
+            Based(Hl, 1, Other::Nothing, De, 0x0004, 2),
+        ],
+    ),
+    LeavesWhole(
+        Op::Load(IN_E, IN_L),
+        &[Same(&[D, H]), Link(Hl, 1, Other::Register(L), 0xC100)],
+        &[
+            Same(&[D, H]),
+            Link(De, 1, Other::Register(L), 0xC100),
+            Link(Hl, 1, Other::Register(L), 0xC100),
+        ],
+    ),
+    // It reads one of DE's bytes, of which one is written, or DE: then DE - HL = 0000.
+    LeavesWhole(
+        Op::Load(IN_D, IN_H),
+        &[Same(&[E, L]), Link(Hl, 1, OF_E, 0xC100)],
+        &[
+            Same(&[E, L]),
+            Link(De, LESS_ONE, OF_HL, 0x0000),
+            Link(Hl, 1, OF_E, 0xC100),
+        ],
+    ),
+    LeavesWhole(
+        Op::Load(IN_D, IN_H),
+        &[Same(&[E, L]), Link(Hl, 1, Other::Register(D), 0xC100)],
+        &[Same(&[E, L]), Link(De, LESS_ONE, OF_HL, 0x0000)],
+    ),
+    LeavesWhole(
+        Op::Load(IN_D, IN_H),
+        &[Same(&[E, L]), Based(Hl, 1, OF_DE, Bc, 0xC100, 0)],
+        &[Same(&[E, L]), Link(De, LESS_ONE, OF_HL, 0x0000)],
     ),
     // By the rules of version 3 nothing is known of the pair.
     Leaves(
@@ -800,6 +983,7 @@ fn what_is_written_is_forgotten(rt: HostRuntime) {
 fn steps_move_bounds_and_links(rt: HostRuntime) {
     play(&rt, MOVED);
     play(&rt, ADDED);
+    play(&rt, ADDED_WHOLE);
 }
 
 #[test]

@@ -371,8 +371,8 @@ fn an_item_that_holds_the_one_byte_is_found(rt: HostRuntime) {
 }
 
 /// A link of BC with A in the last node of version 4, behind BC's bounds at 186, which are 0 to 1: its form is at 190, its factor at
-/// 191, its sum at 192 and its width at 194. The width is 0; no link has one; a form has bit 6, or bit 5, or reads an eleventh other, with
-/// a width or without; and the factor is 0. With a right width what is left over begins behind the number of cells, and so it does
+/// 191, its sum at 192 and its width at 194. The width is 0; no link has one; a form has bit 5, or reads an eleventh other, with a width or
+/// without; and the factor is 0. With a right width what is left over begins behind the number of cells, and so it does
 /// without one.
 const WIDE_LINKS: &[Step] = &[
     (
@@ -380,7 +380,6 @@ const WIDE_LINKS: &[Step] = &[
         (FIELD, NODE, Field::ToldWhole, 184, 196),
     ),
     (&[(190, 0x80)], (FIELD, NODE, Field::ToldWhole, 184, 191)),
-    (&[(190, 0x41)], (FIELD, NODE, Field::ToldWhole, 184, 191)),
     (&[(190, 0x21)], (FIELD, NODE, Field::ToldWhole, 184, 191)),
     (&[(190, 0x8B)], (FIELD, NODE, Field::ToldWhole, 184, 191)),
     (&[(190, 0x0B)], (FIELD, NODE, Field::ToldWhole, 184, 191)),
@@ -405,12 +404,56 @@ fn widths_of_links_are_found(rt: HostRuntime) {
     play(&rt, rt.alloc(), &mut bytes, WIDE_LINKS);
 }
 
-/// The same link in the last node of version 3, behind BC's bounds at 167: the form of one with a width isn't one there.
+/// The same link with a base, which is at 192, after its factor, and before its sum. The base is a fourth pair; no link has one; a form
+/// reads nothing else and has no base, without a width and with one; or an eleventh other; or has bit 5. With a right base what is left
+/// over begins after the number of cells. Where nothing else is read the base is at 191: it is one, with a width or without, and is a
+/// fourth pair.
+const BASED_LINKS: &[Step] = &[
+    (
+        &[
+            (184, 0x10),
+            (188, 0x01),
+            (190, 0x41),
+            (191, 0x01),
+            (192, 0x03),
+        ],
+        (FIELD, NODE, Field::ToldWhole, 184, 193),
+    ),
+    (&[(190, 0x40)], (FIELD, NODE, Field::ToldWhole, 184, 191)),
+    (&[(190, 0x0D)], (FIELD, NODE, Field::ToldWhole, 184, 191)),
+    (&[(190, 0x8D)], (FIELD, NODE, Field::ToldWhole, 184, 191)),
+    (&[(190, 0x4B)], (FIELD, NODE, Field::ToldWhole, 184, 191)),
+    (&[(190, 0x61)], (FIELD, NODE, Field::ToldWhole, 184, 191)),
+    (
+        &[(190, 0x41), (192, 0x02)],
+        (LEFT_OVER, Part::End, Field::LeftOver, 196, 196),
+    ),
+    (
+        &[(190, 0x4D), (192, 0x00)],
+        (LEFT_OVER, Part::End, Field::LeftOver, 195, 195),
+    ),
+    (
+        &[(190, 0xCD), (194, 0x01)],
+        (LEFT_OVER, Part::End, Field::LeftOver, 197, 197),
+    ),
+    (&[(191, 0x03)], (FIELD, NODE, Field::ToldWhole, 184, 192)),
+];
+
+#[test]
+fn bases_of_links_are_found(rt: HostRuntime) {
+    let mut bytes = [0; 200];
+    put(&mut bytes, 0, &least_in_version_4());
+    play(&rt, rt.alloc(), &mut bytes, BASED_LINKS);
+}
+
+/// The same link in the last node of version 3, behind BC's bounds at 167: the form of one with a width isn't one there, and that of one
+/// with a base isn't either.
 const THIRD_LINKS: &[Step] = &[
     (
         &[(166, 0x10), (169, 0x01), (171, 0x81), (172, 0x01)],
         (FIELD, NODE, Field::Told, 166, 172),
     ),
+    (&[(171, 0x41)], (FIELD, NODE, Field::Told, 166, 172)),
     (
         &[(171, 0x01)],
         (LEFT_OVER, Part::End, Field::LeftOver, 176, 176),
@@ -418,7 +461,7 @@ const THIRD_LINKS: &[Step] = &[
 ];
 
 #[test]
-fn version_3_has_no_widths(rt: HostRuntime) {
+fn version_3_has_no_widths_and_no_bases(rt: HostRuntime) {
     let mut bytes = [0; 200];
     put(&mut bytes, 0, &least_in_version_3());
     play(&rt, rt.alloc(), &mut bytes, THIRD_LINKS);

@@ -8,6 +8,7 @@ use crate::claims::Claims;
 use crate::reached::ReachedState;
 use crate::values::{Entered, are_in, is_in, is_value, may_flags_be};
 use gb_cpu::{Bus, Cpu};
+use gb_domain::pairs::ANY_PAIRS;
 use gb_domain::types::{Abs, Rules, Setting};
 use gb_domain::{Cell, Core, Fact, Fill, FillEnd, ImeSet, Reach};
 use gb_ops::op::Pointer;
@@ -64,6 +65,7 @@ fn setting_of(cert: &Cert<'_>, procedure: u16) -> Setting {
         is_whole: cert.version() == 4,
         is_main: procedure == 0,
         base,
+        entered: ANY_PAIRS,
     }
 }
 
@@ -153,7 +155,7 @@ impl ReachedState<'_> {
         let entered = self.entered_by(setting, state, mark);
         self.keeps_core(setting, state.core(), entered)
             && self.keeps_stack(setting, state, entered)
-            && self.keeps_relations(state.relations())
+            && self.keeps_relations(state.relations(), entered)
             && self.keeps_shadows(&state.summary().shadows())
             && self.keeps_ram(facts, state, entered)
     }

@@ -1,7 +1,7 @@
 //! What a state says of several registers and bytes together.
 
 use crate::reached::ReachedState;
-use crate::values::REGISTERS;
+use crate::values::{Entered, REGISTERS};
 use gb_cpu::Bus;
 use gb_domain::{Link, OneByte, Other, PairFacts, Relations, Test, WordPair};
 use gb_ops::registers::{Flags, Registers};
@@ -15,20 +15,38 @@ fn word_of(pair: WordPair, registers: &Registers<u8>) -> u16 {
     })
 }
 
-/// Whether a pair with this word and what its link reads have one of the link's sums.
-fn is_linked(word: u16, link: &Link, registers: &Registers<u8>) -> bool {
+/// What a link takes off: what its base held as the procedure was entered, if that is known.
+fn base_of(link: &Link, entered: Entered) -> Option<u16> {
+    match (link.base, entered.processor) {
+        (None, _) => Some(0),
+        (Some(pair), Some(start)) => Some(word_of(pair, &start.registers)),
+        (Some(_), None) => None,
+    }
+}
+
+/// Whether a pair with this word, what its link reads and its base have one of the link's sums.
+fn is_linked(word: u16, link: &Link, registers: &Registers<u8>, entered: Entered) -> bool {
+    let Some(base) = base_of(link, entered) else {
+        return true;
+    };
     let other = match link.other {
         Other::Register(register) => u16::from(registers.get(register)),
         Other::Pair(pair) => word_of(pair, registers),
+        Other::Nothing => 0,
     };
     let sum = word.wrapping_add(link.factor.wrapping_mul(other));
-    sum.wrapping_sub(link.sum) <= link.width
+    sum.wrapping_sub(base).wrapping_sub(link.sum) <= link.width
 }
 
-fn keeps_pair(pair: WordPair, facts: &PairFacts, registers: &Registers<u8>) -> bool {
+fn keeps_pair(
+    pair: WordPair,
+    facts: &PairFacts,
+    registers: &Registers<u8>,
+    entered: Entered,
+) -> bool {
     let word = word_of(pair, registers);
     let has_sum = match &facts.link {
-        Some(link) => is_linked(word, link, registers),
+        Some(link) => is_linked(word, link, registers, entered),
         None => true,
     };
     facts.bounds.first <= word && word <= facts.bounds.last && has_sum
@@ -75,13 +93,13 @@ impl ReachedState<'_> {
     }
 
     /// Whether what is said of several parts together is so.
-    pub fn keeps_relations(&mut self, relations: &Relations) -> bool {
+    pub fn keeps_relations(&mut self, relations: &Relations, entered: Entered) -> bool {
         let (registers, flags) = (self.processor.registers, self.processor.flags);
         let pairs = &relations.pairs;
         self.keeps_one_byte(&relations.byte)
             && tells_zero(relations.zero, &registers, &flags)
-            && keeps_pair(WordPair::Bc, &pairs.bc, &registers)
-            && keeps_pair(WordPair::De, &pairs.de, &registers)
-            && keeps_pair(WordPair::Hl, &pairs.hl, &registers)
+            && keeps_pair(WordPair::Bc, &pairs.bc, &registers, entered)
+            && keeps_pair(WordPair::De, &pairs.de, &registers, entered)
+            && keeps_pair(WordPair::Hl, &pairs.hl, &registers, entered)
     }
 }

@@ -31,7 +31,7 @@ fn pair_number(pair: WordPair) -> u8 {
     }
 }
 
-fn is_zero_same(one: Option<WordPair>, other: Option<WordPair>) -> bool {
+fn is_named_same(one: Option<WordPair>, other: Option<WordPair>) -> bool {
     one.map(pair_number) == other.map(pair_number)
 }
 
@@ -54,6 +54,7 @@ fn is_read_same(one: Other, other: Other) -> bool {
     match (one, other) {
         (Other::Register(r), Other::Register(s)) => r == s,
         (Other::Pair(p), Other::Pair(q)) => pair_number(p) == pair_number(q),
+        (Other::Nothing, Other::Nothing) => true,
         _ => false,
     }
 }
@@ -63,6 +64,7 @@ fn is_link_same(one: Option<Link>, other: Option<Link>) -> bool {
         (Some(l), Some(m)) => {
             is_read_same(l.other, m.other)
                 && l.factor == m.factor
+                && is_named_same(l.base, m.base)
                 && l.sum == m.sum
                 && l.width == m.width
         }
@@ -87,6 +89,6 @@ pub fn are_pairs_same(one: &Pairs, other: &Pairs) -> bool {
 /// Whether the same is known of several parts together.
 pub fn are_same(one: &Relations, other: &Relations) -> bool {
     is_byte_same(&one.byte, &other.byte)
-        && is_zero_same(one.zero, other.zero)
+        && is_named_same(one.zero, other.zero)
         && are_pairs_same(&one.pairs, &other.pairs)
 }
