@@ -8,6 +8,7 @@ pub mod RangeLaws
 pub mod CellLaws
 pub mod CellsBackLaws
 pub mod SummaryBackLaws
+pub mod CoreBackLaws
 pub mod ResumingLaws
 pub mod ReturnedLaws
 pub mod TakenOverLaws

@@ -1,5 +1,5 @@
 -- What a caller goes on with holds of the machine, whatever its callee did.
-use Rattle.std.proofs.Common.{◌≡◌, ℕ, ◌+◌, ◌-◌, ◌/◌, ◌%◌, ◌≤◌, ◌<◌, Bool, true, false, nat_le, ◌&&◌, ◌||◌, not, cond, List, [], ◌∷◌, length, map, Option, Some, None, inl, inr, refl, sym, ◌∙◌, ap, subst, arith}
+use Rattle.std.proofs.Common.{◌≡◌, ℕ, ◌+◌, ◌-◌, ◌≤◌, ◌<◌, Bool, true, false, nat_le, ◌&&◌, ◌||◌, not, cond, List, [], ◌∷◌, length, map, Option, Some, None, inl, inr, refl, sym, ◌∙◌, ap, subst, arith}
 use Rattle.std.proofs.lemmas.Bool.{and_parts, or_cases, or_from}
 use Rattle.std.proofs.lemmas.List.{length-map}
 use Rattle.std.proofs.lemmas.Option.{same_Some}
@@ -7,39 +7,39 @@ use Rattle.std.specs.Prelude.{IfSome, option_map, option_and_then}
 use Rattle.std.proofs.lemmas.Bool.Decides.{nat_tests}
 use Rattle.std.specs.List.{AllByRecursion, filter, list_all, list_any}
 use Rattle.gb_ops.specs.declared.machine.Region.{Region}
-use Rattle.gb_ops.specs.declared.machine.Banks.{Banks}
 use Rattle.gb_ops.specs.declared.op.Register.{Register}
 use Rattle.gb_ops.specs.declared.op.Register.TheVariants.{A, B, C, D, E, H, L}
 use Rattle.gb_ops.specs.declared.registers.Registers.{Registers}
-use Rattle.gb_ops.specs.declared.registers.Flags.{Flags}
 use Rattle.gb_ops.specs.Registers.{get}
 use Rattle.gb_ops.specs.Memory.{Storage}
 use Rattle.gb_ops.specs.Play.{MState}
 use Rattle.gb_domain.specs.declared.types.Origin.TheVariants as origin
 use Rattle.gb_domain.specs.declared.types.Val.{Val}
-use Rattle.gb_domain.specs.declared.types.Flg.{Flg}
 use Rattle.gb_domain.specs.declared.types.Ctl.{Ctl}
-use Rattle.gb_domain.specs.declared.types.KeptBanks.{KeptBanks}
 use Rattle.gb_domain.specs.declared.types.Cell.{Cell}
 use Rattle.gb_domain.specs.declared.types.Core.{Core}
 use Rattle.gb_domain.specs.declared.setting.Setting.{Setting}
 use Rattle.gb_domain.specs.declared.places.StackBytes.{StackBytes}
 use Rattle.gb_domain.specs.Settings.{IsBase}
 use Rattle.gb_product.specs.Held.{stack_held, held_relations}
-use Rattle.gb_product.proofs.HeldLaws.{item_among, related_held, held_placed}
+use Rattle.gb_product.proofs.HeldLaws.{item_among, free_byte_at, related_held, held_placed}
 use Rattle.gb_product.proofs.Below.gb_relations_laws.AddressLaws.{placed-ram}
 use Rattle.gb_domain.specs.declared.types.Range.{Range}
 use Rattle.gb_domain.specs.declared.rules.Rules.{Rules}
 use Rattle.gb_domain.specs.declared.rules.Rules.TheVariants.{Simple, Extended}
 use Rattle.gb_domain.specs.declared.relations.Relations.{Relations}
-use Rattle.gb_domain.specs.Pairs.{ArePairs}
+use Rattle.gb_domain.specs.declared.pairs.Link.{Link}
+use Rattle.gb_domain.specs.declared.pairs.Other.{Other}
+use Rattle.gb_domain.specs.declared.pairs.Other.TheVariants as other
+use Rattle.gb_domain.specs.declared.pairs.WordPair.{WordPair}
+use Rattle.gb_domain.specs.declared.pairs.WordPair.TheVariants as pair
+use Rattle.gb_domain.specs.Pairs.{facts_of, IsReadAt, IsLink, ArePairs}
 use Rattle.gb_domain.specs.Types.{AbsState, origin_of_register}
 use Rattle.gb_domain.specs.Limits.{cell_room, item_room}
 use Rattle.gb_domain.specs.Places.{no_byte}
 use Rattle.gb_domain.specs.Rules.{IsCore}
 use Rattle.gb_domain.specs.Summaries.{Program, SummaryParts}
 use Rattle.gb_ops.specs.declared.machine.Kind.{Kind}
-use Rattle.gb_ops.specs.declared.machine.Kind.TheVariants as kind
 use Rattle.gb_product.specs.Below.gb_pairs.declared.values.Values.{Values}
 use Rattle.gb_product.specs.Below.gb_pairs.Meaning.{AreBytes, Holds as HoldsValues}
 use Rattle.gb_product.specs.Below.gb_pairs.Reduced.{reduced}
@@ -54,7 +54,7 @@ use Rattle.gb_calls.proofs.CellsBackLaws.{same_ranges}
 use Rattle.gb_calls.proofs.SummaryBackLaws.{same_window, HoldSummary-back}
 use Rattle.gb_product.specs.Below.gb_relations.declared.returned.Kept.{Kept}
 use Rattle.gb_product.specs.Below.gb_relations.Returned as Returned
-use Rattle.gb_product.specs.Below.gb_relations.Returned.{is_pair_kept, is_other_kept, link_if_kept, link_returned, facts_returned, returned}
+use Rattle.gb_product.specs.Below.gb_relations.Returned.{returned}
 use Rattle.gb_product.specs.Below.gb_relations.Sound.{IsBytePlaced}
 use Rattle.gb_product.specs.Below.gb_relations.Transfer.{values_of}
 use Rattle.gb_product.proofs.Below.gb_relations_laws.ReturnLaws.{returned_sound}
@@ -62,236 +62,40 @@ use Rattle.gb_product.specs.Below.gb_copies.Meaning.{HoldOneByte}
 use Rattle.gb_product.specs.Below.gb_relations.Compared.{only_of_a}
 use Rattle.gb_product.proofs.Below.gb_relations_laws.ComparedLaws.{HoldOneByte-nothing, HoldOneByte-only_of_a}
 use Rattle.gb_product.proofs.Below.gb_relations_laws.TransferLaws.{HoldPairs-nothing}
-use Rattle.gb_domain.specs.Areas.{IsRegion, meets, is_item, is_place_at, are_in_ram}
+use Rattle.gb_domain.specs.Areas.{IsRegion, is_free_byte, meets, is_item, is_place_at, are_in_ram}
 use Rattle.gb_product.specs.Below.gb_abs.Span.{one}
 use Rattle.gb_product.specs.Below.gb_abs.Cells.{IsPlaced, ArePlaced}
-use Rattle.gb_product.specs.Below.gb_abs.Meaning.{Activation, origin_value, Holds, HoldsFlags, IsBankKept, IsHighBankKept, KeepsBanks, HoldsLowBank, HoldsController, MeansCore, AreItems, IsMemory}
-use Rattle.gb_product.specs.Below.gb_vals.Meaning.{may_be}
+use Rattle.gb_product.specs.Below.gb_abs.Meaning.{Activation, Holds, KeepsBanks, HoldsController, MeansCore, AreItems, IsMemory}
 use Rattle.gb_product.proofs.Below.gb_summaries_laws.MeaningLaws.{nothing_holds}
 use Rattle.gb_domain.specs.declared.pairs.PairBounds.{PairBounds}
-use Rattle.gb_product.specs.Meaning.{entered_with, Means}
+use Rattle.gb_product.specs.Covering.{read_in, read_by}
+use Rattle.gb_product.specs.Meaning.{entered_with, beside, Means}
 use Rattle.gb_product.specs.Below.gb_abs.Storage.{peek, is_ram}
 use Rattle.gb_product.proofs.Below.gb_abs_laws.CellLaws.{AllByRecursion-where}
 use Rattle.gb_product.proofs.Below.gb_abs_laws.CoveringLaws.{AreCells}
 use Rattle.gb_product.proofs.Below.gb_abs_effects_laws.CoreLaws.{byte-of, In-from}
 use Rattle.gb_product.proofs.Below.gb_abs_laws.StorageLaws.{region_in_ram, placed_in_ram, AreItems-same}
 use Rattle.gb_abs_memory.specs.Access.{is_range}
-use Rattle.gb_abs_memory.specs.Windows.{low_bank_least, low_bank_most}
-use Rattle.gb_abs_memory.proofs.WindowLaws.{low_ends_small}
 use Rattle.gb_abs_memory.specs.Kept.{keeps, IsKept}
 use Rattle.gb_product.specs.Below.gb_abs.Origins.{is_own}
 use Rattle.gb_product.proofs.Below.gb_abs_laws.OriginLaws.{origin_value-of_register}
 use Rattle.gb_calls.specs.declared.resuming.Resumed.{Resumed}
 use Rattle.gb_calls.specs.declared.resuming.Resumed.TheVariants.{Nothing, States, TooDeep}
-use Rattle.gb_calls.specs.Resuming.{kept_back, whole_bank, joined_halves, bank_back, controller_back, registers_back, core_back, is_address_in, is_in_ranges, is_out_of_ranges, merged, given_addresses, byte_back, cells_back, unknown_program, resumed_alone, own_by_register, kept_by, rejoined, with_values, with_values_if, reduced_state, are_registers_left, is_cell_left, are_all_left, is_something, waiting_stack, resumed_by, IsTooDeep, IsResumed}
-use Rattle.gb_calls.specs.Told.{named, is_left, place_back, val_back, cell_back}
+use Rattle.gb_calls.specs.Resuming.{cell_of, is_read_kept, core_back, is_address_in, is_in_ranges, is_out_of_ranges, merged, given_addresses, byte_back, cells_back, unknown_program, resumed_alone, own_by_register, kept_by, rejoined, with_values, with_values_if, reduced_state, are_registers_left, is_cell_left, are_all_left, is_something, waiting_stack, resumed_by, IsTooDeep, IsResumed}
+use Rattle.gb_calls.specs.Told.{is_left, val_back, cell_back}
 use Rattle.gb_calls.specs.Sound.{ComesBack, HandsBack, ComesBackBy, MeansIf, MeansResumed, ReducesSoundly, IsSoundResuming}
 use Rattle.gb_calls.specs.TakenOver.{base_below, given_back_items}
 use Rattle.gb_calls.proofs.ReturnedLaws.{ArePairs-returned}
 use Rattle.gb_calls.proofs.EnteringLaws.{MeansCore-with_word}
 use Rattle.gb_calls.proofs.TakenOverLaws.{given_back-items, given_back-pointer, given_back-count}
-use Rattle.gb_calls.proofs.ToldLaws.{IsCaller, IsTold-exit, Tells, own-value, Holds-place_back, AreItems-back, AreCells-back, IsGiven-back}
+use Rattle.gb_calls.proofs.ToldLaws.{IsCaller, IsTold-exit, Tells, own-value, AreItems-back, AreCells-back, IsGiven-back}
 use Rattle.gb_calls.proofs.CellLaws.{AllByRecursion-merged, AllByRecursion-take}
 use Rattle.gb_product.specs.Covering.{values_in}
 use Rattle.gb_product.specs.Reduced.{reduced_controller}
 use Rattle.gb_product.specs.Sound.{HoldsControllerIf}
 use Rattle.gb_product.proofs.ControllerLaws.{reduced_controller_sound}
-use Rattle.gb_product.proofs.CoveringLaws.{HoldsKnown-means, AreCopies-core}
-
--- ---- what is given back
-
-both : (a b : Bool) → a ≡ true → b ≡ true → (a && b) ≡ true
-both true true h i = refl
-both true false h i = cc
-both false b h i = cc
-
-named_register : (program : Program) (kept : List ℕ) (s : AbsState) (r : Register) → named program kept s (origin_of_register r) ≡ get r s.core.registers
-named_register program kept s A = refl
-named_register program kept s B = refl
-named_register program kept s C = refl
-named_register program kept s D = refl
-named_register program kept s E = refl
-named_register program kept s H = refl
-named_register program kept s L = refl
-
-register_back :
-    (program : Program) (whole : Bool) (kept : List ℕ) (s : AbsState) (x : Registers Val) (r : Register)
-    → get r (registers_back program whole kept s x) ≡ place_back program whole kept s (origin_of_register r) (get r x)
-register_back program whole kept s x A = refl
-register_back program whole kept s x B = refl
-register_back program whole kept s x C = refl
-register_back program whole kept s x D = refl
-register_back program whole kept s x E = refl
-register_back program whole kept s x H = refl
-register_back program whole kept s x L = refl
-
-HoldsFlags-back :
-    (s x : Flg) (entry called : Activation) (f : Flags)
-    → HoldsFlags s entry called.entered.processor.flags → HoldsFlags x called f → HoldsFlags (cond x.is_own s x) entry f
-HoldsFlags-back s x entry called f m h = choose x.is_own refl
-  where
-    choose : (b : Bool) → x.is_own ≡ b → HoldsFlags (cond b s x) entry f
-    choose true is = subst (λ g. HoldsFlags s entry g) (sym (h.own is)) m
-    choose false is =
-        record { zero = h.zero; subtract = h.subtract; half_carry = h.half_carry; carry = h.carry; own = λ e. absurd (cc) }
-
--- a bank whose low eight bits and ninth are what they were is what it was
-same_bank : (a b : ℕ) → a % 256 ≡ b % 256 → a / 256 ≡ b / 256 → a ≡ b
-same_bank a b low high = omega arith
-
-bank_kept_twice : (k : Kind) (a b c : ℕ) → IsBankKept k a b → IsBankKept k b c → IsBankKept k a c
-bank_kept_twice kind.Rom a b c h i = i ∙ h
-bank_kept_twice kind.Mbc1 a b c h i = i ∙ h
-bank_kept_twice kind.Mbc3 a b c h i = i ∙ h
-bank_kept_twice kind.Mbc5 a b c h i = i ∙ h
-
-high_kept_twice : (k : Kind) (a b c : ℕ) → IsHighBankKept k a b → IsHighBankKept k b c → IsHighBankKept k a c
-high_kept_twice kind.Rom a b c h i = i ∙ h
-high_kept_twice kind.Mbc1 a b c h i = tt
-high_kept_twice kind.Mbc3 a b c h i = tt
-high_kept_twice kind.Mbc5 a b c h i = i ∙ h
-
-KeepsBanks-back :
-    (k : Kind) (s x : KeptBanks) (before called b : Banks) → KeepsBanks k s before called → KeepsBanks k x called b → KeepsBanks k (kept_back s x) before b
-KeepsBanks-back k s x before called b m h =
-    record {
-      bank = λ e. let p = and_parts _ _ e in bank_kept_twice k _ _ _ (m.bank p.1) (h.bank p.0);
-      second = λ e. let p = and_parts _ _ e in h.second p.0 ∙ m.second p.1;
-      gate = λ e. let p = and_parts _ _ e in h.gate p.0 ∙ m.gate p.1;
-      mode = λ e. let p = and_parts _ _ e in h.mode p.0 ∙ m.mode p.1;
-      high_bank = λ e. let p = and_parts _ _ e in high_kept_twice k _ _ _ (m.high_bank p.1) (h.high_bank p.0);
-    }
-
--- a bank lies between these bounds, and its low eight bits between theirs
-record IsBack (k : Kind) (bounds : ℕ × ℕ) (bank : ℕ) : Type 0 where
-  least : bounds.0 ≤ bank
-  most : bank ≤ bounds.1
-  low : (c : Ctl) → c.bank_lo ≡ bounds.0 → c.bank_hi ≡ bounds.1 → HoldsLowBank k c bank
-
-low_in : (c : Ctl) (n : ℕ) → c.bank_lo % 256 ≤ n → n ≤ c.bank_hi % 256 → (low_bank_least c ≤ n) × (n ≤ low_bank_most c)
-unfolding low_bank_least low_bank_most
-low_in c n h i = (grind (arith, nat_tests), grind (arith, nat_tests))
-
--- the low eight bits, and what is above them, by which of two says what they are
-IsBack-halves :
-    (high low : Ctl) (bank : ℕ) → high.bank_lo / 256 ≤ bank / 256 → bank / 256 ≤ high.bank_hi / 256 → low.bank_lo % 256 ≤ bank % 256 → bank % 256 ≤ low.bank_hi % 256
-    → IsBack kind.Mbc5 (joined_halves high low) bank
-IsBack-halves high low bank least most low_least low_most =
-    let i = low_in low (bank % 256) low_least low_most in
-    let first = i.0 in
-    let last = i.1 in
-    let small = (low_ends_small low).1 in
-    let ordered = (low_ends_small low).0 in
-    record {
-      least = omega arith;
-      most = omega arith;
-      low = λ c lo hi. (
-        subst (λ n. n % 256 ≤ bank % 256) (sym lo) (omega arith),
-        subst (λ n. bank % 256 ≤ n % 256) (sym hi) (omega arith),
-      );
-    }
-
-IsBack-bank :
-    (k : Kind) (s x : Ctl) (called b : Banks) → s.bank_lo ≤ called.bank → called.bank ≤ s.bank_hi → HoldsLowBank k s called.bank
-    → x.bank_lo ≤ b.bank → b.bank ≤ x.bank_hi → HoldsLowBank k x b.bank → KeepsBanks k x.kept called b → IsBack k (bank_back k s x) b.bank
-unfolding bank_back
-IsBack-bank kind.Rom s x called b least most low x_least x_most x_low kept = choose (x.kept.bank && x.kept.high_bank) refl
-  where
-    choose : (o : Bool) → (x.kept.bank && x.kept.high_bank) ≡ o → IsBack kind.Rom (whole_bank (cond o s x)) b.bank
-    choose true e =
-        let p = and_parts _ _ e in
-        let same = same_bank b.bank called.bank (kept.bank p.0) (kept.high_bank p.1) in
-        record { least = omega arith; most = omega arith; low = λ c lo hi. tt }
-    choose false e = record { least = x_least; most = x_most; low = λ c lo hi. tt }
-IsBack-bank kind.Mbc1 s x called b least most low x_least x_most x_low kept = choose x.kept.bank refl
-  where
-    choose : (o : Bool) → x.kept.bank ≡ o → IsBack kind.Mbc1 (whole_bank (cond o s x)) b.bank
-    choose true e = let same = kept.bank e in record { least = omega arith; most = omega arith; low = λ c lo hi. tt }
-    choose false e = record { least = x_least; most = x_most; low = λ c lo hi. tt }
-IsBack-bank kind.Mbc3 s x called b least most low x_least x_most x_low kept = choose x.kept.bank refl
-  where
-    choose : (o : Bool) → x.kept.bank ≡ o → IsBack kind.Mbc3 (whole_bank (cond o s x)) b.bank
-    choose true e = let same = kept.bank e in record { least = omega arith; most = omega arith; low = λ c lo hi. tt }
-    choose false e = record { least = x_least; most = x_most; low = λ c lo hi. tt }
-IsBack-bank kind.Mbc5 s x called b least most low x_least x_most x_low kept =
-    IsBack-halves (cond x.kept.high_bank s x) (cond x.kept.bank s x) b.bank (high x.kept.high_bank refl).0 (high x.kept.high_bank refl).1 (below x.kept.bank refl).0 (below x.kept.bank refl).1
-  where
-    high : (o : Bool) → x.kept.high_bank ≡ o → ((cond o s x).bank_lo / 256 ≤ b.bank / 256) × (b.bank / 256 ≤ (cond o s x).bank_hi / 256)
-    high true e = let same = kept.high_bank e in (omega arith, omega arith)
-    high false e = (omega arith, omega arith)
-
-    below : (o : Bool) → x.kept.bank ≡ o → ((cond o s x).bank_lo % 256 ≤ b.bank % 256) × (b.bank % 256 ≤ (cond o s x).bank_hi % 256)
-    below true e =
-        let same = kept.bank e in
-        let lo = low.0 in
-        let hi = low.1 in
-        (omega arith, omega arith)
-    below false e = x_low
-
-HoldsController-back :
-    (k : Kind) (s x : Ctl) (entry called : Activation) (b : Banks) → entry.program.kind ≡ k → called.program.kind ≡ k
-    → HoldsController s entry called.entered.storage.banks → HoldsController x called b → HoldsController (controller_back k s x) entry b
-HoldsController-back k s x entry called b e f m h =
-    let kept = subst (λ q. KeepsBanks q x.kept called.entered.storage.banks b) f h.kept in
-    let back =
-    IsBack-bank k s x called.entered.storage.banks b m.bank_least m.bank_most (subst (λ q. HoldsLowBank q s called.entered.storage.banks.bank) e m.low_bank)
-    h.bank_least h.bank_most (subst (λ q. HoldsLowBank q x b.bank) f h.low_bank) kept in
-    record {
-      bank_least = back.least;
-      bank_most = back.most;
-      low_bank = subst (λ q. HoldsLowBank q (controller_back k s x) b.bank) (sym e) (back.low (controller_back k s x) refl refl);
-      second_least = second_least x.kept.second refl;
-      second_most = second_most x.kept.second refl;
-      gate = gate x.kept.gate refl;
-      mode = mode x.kept.mode refl;
-      kept = subst (λ q. KeepsBanks q (kept_back s.kept x.kept) entry.entered.storage.banks b) (sym e)
-          (KeepsBanks-back k s.kept x.kept entry.entered.storage.banks called.entered.storage.banks b
-          (subst (λ q. KeepsBanks q s.kept entry.entered.storage.banks called.entered.storage.banks) e m.kept) kept);
-    }
-  where
-    second_least : (k : Bool) → x.kept.second ≡ k → cond k s.second_lo x.second_lo ≤ b.second
-    second_least true e = subst (λ n. s.second_lo ≤ n) (sym (h.kept.second e)) m.second_least
-    second_least false e = h.second_least
-
-    second_most : (k : Bool) → x.kept.second ≡ k → b.second ≤ cond k s.second_hi x.second_hi
-    second_most true e = subst (λ n. n ≤ s.second_hi) (sym (h.kept.second e)) m.second_most
-    second_most false e = h.second_most
-
-    gate : (k : Bool) → x.kept.gate ≡ k → may_be (cond k s.gate x.gate) b.gate ≡ true
-    gate true e = subst (λ g. may_be s.gate g ≡ true) (sym (h.kept.gate e)) m.gate
-    gate false e = h.gate
-
-    mode : (k : Bool) → x.kept.mode ≡ k → may_be (cond k s.mode x.mode) b.mode ≡ true
-    mode true e = subst (λ g. may_be s.mode g ≡ true) (sym (h.kept.mode e)) m.mode
-    mode false e = h.mode
-
-Holds-register_back :
-    (program : Program) (whole : Bool) (kept : List ℕ) (s : AbsState) (x : Core) (entry called : Activation) (y : MState) (r : Register)
-    → IsCore x → Tells program whole kept s entry called → MeansCore s.core entry called.entered → MeansCore x called y
-    → Holds (get r (registers_back program whole kept s x.registers)) entry (get r y.processor.registers)
-Holds-register_back program whole kept s x entry called y r is t m h =
-    let before : Holds (named program kept s (origin_of_register r)) entry (origin_value (origin_of_register r) called) =
-    subst (λ v. Holds v entry (origin_value (origin_of_register r) called)) (sym (named_register program kept s r))
-    (subst (λ n. Holds (get r s.core.registers) entry n) (sym (origin_value-of_register r called)) (m.registers r)) in
-    subst (λ v. Holds v entry (get r y.processor.registers)) (sym (register_back program whole kept s x.registers r))
-    (Holds-place_back program whole kept s (origin_of_register r) (get r x.registers) entry called (get r y.processor.registers) t before
-    (byte-of (get r x.registers) called (get r y.processor.registers) (is.registers r) (h.registers r)) (h.registers r))
-
-MeansCore-resumed :
-    (program : Program) (whole : Bool) (kept : List ℕ) (s : AbsState) (x : Core) (entry called : Activation) (y : MState)
-    → entry.program.kind ≡ program.kind → called.program.kind ≡ program.kind → IsCore x → Tells program whole kept s entry called
-    → MeansCore s.core entry called.entered → MeansCore x called y → MeansCore (core_back program whole kept s x) entry y
-MeansCore-resumed program whole kept s x entry called y e f is t m h =
-    record {
-      registers = λ r. Holds-register_back program whole kept s x entry called y r is t m h;
-      flags = HoldsFlags-back s.core.flags x.flags entry called y.processor.flags m.flags h.flags;
-      ie = Holds-place_back program whole kept s origin.Ie x.ie entry called y.storage.ie t m.ie (byte-of x.ie called y.storage.ie is.ie h.ie) h.ie;
-      ime = h.ime;
-      controller = HoldsController-back program.kind s.core.ctl x.ctl entry called y.storage.banks e f m.controller h.controller;
-      count = h.count;
-      locked = h.locked;
-      stopped = h.stopped;
-    }
+use Rattle.gb_product.proofs.CoveringLaws.{HoldsKnown-means, AreReadIn-means, AreCopies-core}
+use Rattle.gb_calls.proofs.CoreBackLaws.{both, MeansCore-resumed}
 
 -- ---- what is kept
 
@@ -450,21 +254,43 @@ address_kept z callee region ranges base w under addresses (Some b) m t k kept g
       | inr back ↦ given b back
     ])
 
+-- a byte that a link reads is as it was, where it is kept
+read_kept :
+    (z callee : Setting) (region : Region) (ranges : List Range) (base w under : ℕ) (addresses : List ℕ) (l : Option Link) (m t : Storage)
+    → IsKeptBy z callee region base w under → ((b : ℕ) → IsKept callee region ranges under b → peek t b ≡ peek m b) → ((b : ℕ) → is_given addresses b ≡ true → peek t b ≡ peek m b)
+    → IfSome l (IsLink (is_free_byte region)) → is_read_kept ranges addresses l ≡ true → Returned.IsReadSame l (peek m) (peek t)
+read_kept z callee region ranges base w under addresses None m t k kept given link e = tt
+read_kept z callee region ranges base w under addresses (Some l) m t k kept given link e = by l.other link.other e
+  where
+    by : (o : Other) → IsReadAt (is_free_byte region) o → is_byte_kept ranges addresses (cell_of o) ≡ true → Returned.IsOtherSame o (peek m) (peek t)
+    by (other.Register r) free is = tt
+    by (other.Pair p) free is = tt
+    by (other.Cell a) free is =
+        address_kept z callee region ranges base w under addresses (Some a) m t k kept given (free_byte_at z region w a free) is a refl
+    by other.Nothing free is = tt
+
 Returned-kept :
     (z callee : Setting) (region : Region) (ranges : List Range) (base w under : ℕ) (addresses : List ℕ) (known : Relations) (exit : AbsState) (called : Activation) (x : MState)
     → IsKeptBy z callee region base w under → ((b : ℕ) → IsKept callee region ranges under b → peek x.storage b ≡ peek called.entered.storage b)
-    → ((b : ℕ) → is_given addresses b ≡ true → peek x.storage b ≡ peek called.entered.storage b) → IsBytePlaced (stack_held z region w) known.byte.address
+    → ((b : ℕ) → is_given addresses b ≡ true → peek x.storage b ≡ peek called.entered.storage b) → IsBytePlaced (stack_held z region w) known.byte.address → ArePairs (is_free_byte region) known.pairs
     → MeansCore exit.core called x
-    → Returned.IsKept (kept_by ranges addresses known.byte exit.core) known.byte.address called.entered.processor.registers x.processor.registers
+    → Returned.IsKept (kept_by ranges addresses known exit.core) known called.entered.processor.registers x.processor.registers
     (peek called.entered.storage) (peek x.storage) called.entered.processor.flags x.processor.flags
-Returned-kept z callee region ranges base w under addresses known exit called x k kept given place h =
+Returned-kept z callee region ranges base w under addresses known exit called x k kept given place pairs h =
     record {
       registers = λ r is. own-value (origin_of_register r) (get r exit.core.registers) called (get r x.processor.registers)
           (sym (register_own exit.core.registers r) ∙ is) (h.registers r)
           ∙ origin_value-of_register r called;
       memory = λ out a is. address_kept z callee region ranges base w under addresses known.byte.address called.entered.storage x.storage k kept given place out a is;
+      read = λ p is. read_kept z callee region ranges base w under addresses (facts_of p known.pairs).link called.entered.storage x.storage k kept given (pairs.each p).link
+          (is_kept_of p is);
       flags = λ is. h.flags.own is;
     }
+  where
+    is_kept_of : (p : WordPair) → Returned.is_read_kept p (kept_by ranges addresses known exit.core) ≡ true → is_read_kept ranges addresses (facts_of p known.pairs).link ≡ true
+    is_kept_of pair.Bc is = is
+    is_kept_of pair.De is = is
+    is_kept_of pair.Hl is = is
 
 -- ---- by the rules of versions 1 and 2
 
@@ -495,14 +321,14 @@ Means-resumed_alone region ranges s exit entry base called x h =
       related = record {
         byte = HoldOneByte-back s exit called x h.caller.related.byte h.exits.parts.core;
         zero = tt;
-        pairs = HoldPairs-nothing (entered_with entry) x.processor.registers (registers_are_bytes exit.core called x h.exit_core h.exits.parts.core);
+        pairs = HoldPairs-nothing (beside entry x) x.processor.registers (registers_are_bytes exit.core called x h.exit_core h.exits.parts.core);
       };
       summary = nothing_holds entry.program _ x.processor (peek x.storage) x.storage.banks;
     }
 
 -- ---- by the rules of version 3
 
-HoldsValues-caller : (s : AbsState) (entry : Activation) (base : ℕ) (x : MState) → Means s entry base x → HoldsValues (values_of s.core.registers s.relations.pairs) (entered_with entry) x.processor.registers
+HoldsValues-caller : (s : AbsState) (entry : Activation) (base : ℕ) (x : MState) → Means s entry base x → HoldsValues (values_of s.core.registers s.relations.pairs) (beside entry x) x.processor.registers
 HoldsValues-caller s entry base x m =
     record {
       registers = λ r. record { least = (m.parts.core.registers r).least; most = (m.parts.core.registers r).most; low = (m.parts.core.registers r).low };
@@ -564,14 +390,14 @@ Means-rejoined program z k region ranges names s exit entry base called x h =
         cells = AreCells-joined (cell_room Extended) program whole names s h.callee region ranges under exit.cells entry called called.entered.storage x.storage
             tells h.exits.parts.memory h.keeps h.kept h.placed.cells caller.parts.cells h.exits.parts.cells;
       };
-      related = (returned_sound (kept_by ranges (given_addresses names exit.cells) known.byte exit.core) s.core.registers known exit.relations _ refl).gives
+      related = (returned_sound (kept_by ranges (given_addresses names exit.cells) known exit.core) s.core.registers known exit.relations _ refl).gives
           (entered_with entry) called.entered.processor.registers x.processor.registers (peek called.entered.storage) (peek x.storage) called.entered.processor.flags x.processor.flags
           (Returned-kept z h.callee region ranges base waits under (given_addresses names exit.cells) known exit called x
-          (record { based = h.based; under_is = refl; does = h.keeps }) h.kept given (held_placed z region (length s.items) waits s.relations.byte h.placed.byte) h.exits.parts.core)
+          (record { based = h.based; under_is = refl; does = h.keeps }) h.kept given (held_placed z region (length s.items) waits s.relations.byte h.placed.byte) h.placed.links h.exits.parts.core)
           (registers_are_bytes exit.core called x h.exit_core h.exits.parts.core)
           (record { within = λ q. In-from (get q s.core.registers) entry (get q called.entered.processor.registers) (caller.parts.core.registers q); copies = AreCopies-core s.core entry called.entered caller.parts.core })
           (related_held waiting s.relations entry called.entered caller.related) h.exits.related;
-      summary = HoldSummary-back program whole region ranges names s exit entry called (entered_with entry) x h.caller_program h.callee_program h.facts h.placed.summary h.exit_free
+      summary = HoldSummary-back program whole region ranges names s exit entry called (beside entry called.entered) x h.caller_program h.callee_program h.facts h.placed.summary h.exit_free
           (HoldsValues-caller s entry base called.entered caller)
           (GivesBack-exit program.kind h.callee region ranges under (given_addresses names exit.cells) exit called x (ap (λ p. p.kind) h.callee_program) h.keeps h.kept given h.exits.parts.core)
           caller.summary h.exits.summary;
@@ -629,7 +455,7 @@ something_left program true z k region ranges names s exit entry base called x h
 -- what registers and pairs leave each other
 pub Means-with_values :
     (s : AbsState) (v : Values) (entry : Activation) (base : ℕ) (x : MState)
-    → IsCut (values_of s.core.registers s.relations.pairs) v → HoldsValues v (entered_with entry) x.processor.registers → Means s entry base x → Means (with_values s v) entry base x
+    → IsCut (values_of s.core.registers s.relations.pairs) v → HoldsValues v (beside entry x) x.processor.registers → Means s entry base x → Means (with_values s v) entry base x
 Means-with_values s v entry base x cuts holds m =
     record {
       parts = record {
@@ -692,40 +518,44 @@ Means-with_banks_cut s entry base x bytes m =
 -- cut, they mean the same; where nothing is left, none is meant
 pub Means-reduced :
     (entered : PairBounds) (s : AbsState) (entry : Activation) (base : ℕ) (x : MState)
-    → ReducesSoundly entered s → AreWithin entered (entered_with entry) → AreBytes x.processor.registers → Means s entry base x
+    → ReducesSoundly entry.program entered s → AreWithin entered (entered_with entry) → AreBytes x.processor.registers → Means s entry base x
     → MeansIf (reduced_state entry.program entered s) entry base x
 unfolding reduced_state
 Means-reduced entered s entry base x sound within bytes m =
-    choose (reduced entered v) (reduced_cuts entered v (reduced entered v) refl) (sound.gives (entered_with entry) x.processor.registers within bytes holds)
+    choose (reduced entered read v) (reduced_cuts entered read v (reduced entered read v) refl)
+    (sound.gives (beside entry x) x.processor.registers within (AreReadIn-means s entry base x m) bytes holds)
   where
+    read : PairBounds
+    read = read_in entry.program s
+
     v : Values
     v = values_of s.core.registers s.relations.pairs
 
-    holds : HoldsValues v (entered_with entry) x.processor.registers
+    holds : HoldsValues v (beside entry x) x.processor.registers
     holds = record {
       registers = λ r. record { least = (m.parts.core.registers r).least; most = (m.parts.core.registers r).most; low = (m.parts.core.registers r).low };
       pairs = m.related.pairs;
     }
 
-    choose : (o : Option Values) → IfSome o (IsCut v) → HoldsIn o (entered_with entry) x.processor.registers → MeansIf (option_and_then (with_banks_cut entry.program) (with_values_if s o)) entry base x
+    choose : (o : Option Values) → IfSome o (IsCut v) → HoldsIn o (beside entry x) x.processor.registers → MeansIf (option_and_then (with_banks_cut entry.program) (with_values_if s o)) entry base x
     choose None cuts h = h
     choose (Some w) cuts h = Means-with_banks_cut (with_values s w) entry base x bytes (Means-with_values s w entry base x cuts h m)
 
 Means-rejoined_reduced :
     (program : Program) (z : Setting) (k : ℕ) (region : Region) (ranges : List Range) (names : List ℕ) (s exit : AbsState) (entry : Activation) (base : ℕ) (called : Activation) (x : MState)
-    → ReducesSoundly z.entered (rejoined program z.is_whole (waiting_stack z region k s) k ranges names s exit) → HandsBack program z k region ranges names s exit entry base called x
+    → ReducesSoundly program z.entered (rejoined program z.is_whole (waiting_stack z region k s) k ranges names s exit) → HandsBack program z k region ranges names s exit entry base called x
     → MeansIf (reduced_state program z.entered (rejoined program z.is_whole (waiting_stack z region k s) k ranges names s exit)) entry base x
 Means-rejoined_reduced program z k region ranges names s exit entry base called x sound h =
     let back = rejoined program z.is_whole (waiting_stack z region k s) k ranges names s exit in
     subst (λ q. MeansIf (reduced_state q z.entered back) entry base x) h.caller_program
-    (Means-reduced z.entered back entry base x sound h.within
+    (Means-reduced z.entered back entry base x (subst (λ q. ReducesSoundly q z.entered back) (sym h.caller_program) sound) h.within
     (registers_are_bytes exit.core called x h.exit_core h.exits.parts.core)
     (Means-rejoined program z k region ranges names s exit entry base called x h))
 
 -- where the callee comes back something is meant, and that holds
 Means-something :
     (program : Program) (z : Setting) (k : ℕ) (region : Region) (ranges : List Range) (names : List ℕ) (s exit : AbsState) (entry : Activation) (base : ℕ) (called : Activation) (x : MState)
-    → (is_something program z.is_whole names ranges s exit ≡ true → ReducesSoundly z.entered (rejoined program z.is_whole (waiting_stack z region k s) k ranges names s exit))
+    → (is_something program z.is_whole names ranges s exit ≡ true → ReducesSoundly program z.entered (rejoined program z.is_whole (waiting_stack z region k s) k ranges names s exit))
     → HandsBack program z k region ranges names s exit entry base called x
     → MeansIf (resumed_by Extended program z region k ranges names s exit) entry base x
 unfolding resumed_by
@@ -738,21 +568,31 @@ Means-something program z k region ranges names s exit entry base called x sound
 
 -- with more items than a state holds
 pub too_deep :
-    (program : Program) (entered : PairBounds) (whole : Bool) (waiting : StackBytes) (k : ℕ) (ranges : List Range) (names addresses : List ℕ) (s exit : AbsState) (kept : Kept) (core : Core) (relations : Relations) (v : Values) (cells : List Cell) (said : SummaryParts) (c : Ctl)
-    → addresses ≡ given_addresses names exit.cells → kept ≡ kept_by ranges addresses (held_relations waiting s.relations).byte exit.core → core ≡ core_back program whole names s exit.core
-    → relations ≡ returned kept s.core.registers (held_relations waiting s.relations) exit.relations → Some v ≡ reduced entered (values_of core.registers relations.pairs)
+    (program : Program) (entered read : PairBounds) (whole : Bool) (waiting : StackBytes) (k : ℕ) (ranges : List Range) (names addresses : List ℕ) (s exit : AbsState) (kept : Kept) (core : Core) (relations : Relations) (v : Values) (cells : List Cell) (said : SummaryParts) (c : Ctl)
+    → addresses ≡ given_addresses names exit.cells → kept ≡ kept_by ranges addresses (held_relations waiting s.relations) exit.core → core ≡ core_back program whole names s exit.core
+    → relations ≡ returned kept s.core.registers (held_relations waiting s.relations) exit.relations
     → cells ≡ cells_back (cell_room Extended) (cell_back program whole names s) ranges s.cells exit.cells → said ≡ summary_back program whole ranges names s exit
+    → read ≡ read_by program (values_of core.registers relations.pairs) cells said relations.pairs
+    → Some v ≡ reduced entered read (values_of core.registers relations.pairs)
     → Some c ≡ reduced_controller program v cells said core.ctl
     → 255 < length (given_back_items k s.items exit.items) → IsTooDeep (reduced_state program entered (rejoined program whole waiting k ranges names s exit))
 unfolding rejoined reduced_state with_banks_cut item_room
-too_deep program entered whole waiting k ranges names addresses s exit kept core relations v cells said c given is is_core are e is_cells is_said cuts many =
+too_deep program entered read whole waiting k ranges names addresses s exit kept core relations v cells said c given is is_core are is_cells is_said reads e cuts many =
     let known = held_relations waiting s.relations in
-    let by = kept_by ranges (given_addresses names exit.cells) known.byte exit.core in
+    let by = kept_by ranges (given_addresses names exit.cells) known exit.core in
     let same : relations ≡ returned by s.core.registers known exit.relations =
-    are ∙ ap (λ (o : Kept). returned o s.core.registers known exit.relations) (is ∙ ap (λ (xs : List ℕ). kept_by ranges xs known.byte exit.core) given) in
-    let cut : Some v ≡ reduced entered (values_of (core_back program whole names s exit.core).registers (returned by s.core.registers known exit.relations).pairs) =
-    e ∙ (ap (λ (d : Core). reduced entered (values_of d.registers relations.pairs)) is_core
-    ∙ ap (λ (r : Relations). reduced entered (values_of (core_back program whole names s exit.core).registers r.pairs)) same) in
+    are ∙ ap (λ (o : Kept). returned o s.core.registers known exit.relations) (is ∙ ap (λ (xs : List ℕ). kept_by ranges xs known exit.core) given) in
+    let back : AbsState = rejoined program whole waiting k ranges names s exit in
+    let all : read ≡ read_in program back =
+    reads
+    ∙ (ap (λ (d : Core). read_by program (values_of d.registers relations.pairs) cells said relations.pairs) is_core
+    ∙ (ap (λ (r : Relations). read_by program (values_of (core_back program whole names s exit.core).registers r.pairs) cells said r.pairs) same
+    ∙ (ap (λ (xs : List Cell). read_by program (values_in back) xs said back.relations.pairs) is_cells
+    ∙ ap (λ (m : SummaryParts). read_by program (values_in back) back.cells m back.relations.pairs) is_said))) in
+    let cut : Some v ≡ reduced entered (read_in program back) (values_of (core_back program whole names s exit.core).registers (returned by s.core.registers known exit.relations).pairs) =
+    e ∙ (ap (λ (d : Core). reduced entered read (values_of d.registers relations.pairs)) is_core
+    ∙ (ap (λ (r : Relations). reduced entered read (values_of (core_back program whole names s exit.core).registers r.pairs)) same
+    ∙ ap (λ (b : PairBounds). reduced entered b (values_of back.core.registers back.relations.pairs)) all)) in
     let t : AbsState = with_values (rejoined program whole waiting k ranges names s exit) v in
     let banks : Some c ≡ reduced_controller program v t.cells t.summary t.core.ctl =
     cuts ∙ (ap (λ (xs : List Cell). reduced_controller program v xs said core.ctl) is_cells
@@ -783,7 +623,7 @@ resumed_alone_sound program z region k ranges names s exit o simple e =
 pub rejoined_sound :
     (program : Program) (z : Setting) (region : Region) (k : ℕ) (ranges : List Range) (names : List ℕ) (s exit : AbsState) (r : Resumed) → z.rules ≡ Extended
     → IsResumed r (resumed_by Extended program z region k ranges names s exit)
-    → (is_something program z.is_whole names ranges s exit ≡ true → ReducesSoundly z.entered (rejoined program z.is_whole (waiting_stack z region k s) k ranges names s exit))
+    → (is_something program z.is_whole names ranges s exit ≡ true → ReducesSoundly program z.entered (rejoined program z.is_whole (waiting_stack z region k s) k ranges names s exit))
     → IsSoundResuming program z region k ranges names s exit r
 rejoined_sound program z region k ranges names s exit r extended e sound =
     record {
@@ -795,22 +635,23 @@ rejoined_sound program z region k ranges names s exit r extended e sound =
 -- ---- by either rules, of states that a certificate may have
 
 ReducesSoundly-rejoined :
-    (program : Program) (entered : PairBounds) (whole : Bool) (waiting : StackBytes) (k : ℕ) (ranges : List Range) (names : List ℕ) (s exit : AbsState) → ArePairs s.relations.pairs → ArePairs exit.relations.pairs
-    → ReducesSoundly entered (rejoined program whole waiting k ranges names s exit)
+    (may_be : ℕ → Bool) (program : Program) (entered : PairBounds) (whole : Bool) (waiting : StackBytes) (k : ℕ) (ranges : List Range) (names : List ℕ) (s exit : AbsState)
+    → ArePairs may_be s.relations.pairs → ArePairs may_be exit.relations.pairs
+    → ReducesSoundly program entered (rejoined program whole waiting k ranges names s exit)
 unfolding rejoined
-ReducesSoundly-rejoined program entered whole waiting k ranges names s exit h i =
+ReducesSoundly-rejoined may_be program entered whole waiting k ranges names s exit h i =
     let known = held_relations waiting s.relations in
     let back = rejoined program whole waiting k ranges names s exit in
-    reduced_sound entered (values_of back.core.registers back.relations.pairs) _ refl
-    (ArePairs-returned (kept_by ranges (given_addresses names exit.cells) known.byte exit.core) s.core.registers known exit.relations h i)
+    reduced_sound may_be entered (read_in program back) (values_of back.core.registers back.relations.pairs) _ refl
+    (ArePairs-returned may_be (kept_by ranges (given_addresses names exit.cells) known exit.core) s.core.registers known exit.relations h i)
 
 -- the callee has come back: there is something that its caller goes on with, and it holds
 pub Means-resumed :
-    (program : Program) (rules : Rules) (z : Setting) (k : ℕ) (region : Region) (ranges : List Range) (names : List ℕ) (s exit : AbsState) (entry : Activation) (base : ℕ) (called : Activation) (x : MState)
-    → ArePairs s.relations.pairs → ArePairs exit.relations.pairs → ComesBackBy program rules z k region ranges names s exit entry base called x
+    (program : Program) (rules : Rules) (z : Setting) (k : ℕ) (region : Region) (ranges : List Range) (names : List ℕ) (s exit : AbsState) (entry : Activation) (base : ℕ) (called : Activation) (x : MState) (may_be : ℕ → Bool)
+    → ArePairs may_be s.relations.pairs → ArePairs may_be exit.relations.pairs → ComesBackBy program rules z k region ranges names s exit entry base called x
     → MeansIf (resumed_by rules program z region k ranges names s exit) entry base x
 unfolding resumed_by
-Means-resumed program Simple z k region ranges names s exit entry base called x p q h = Means-resumed_alone region ranges s exit entry base called x h
-Means-resumed program Extended z k region ranges names s exit entry base called x p q h =
+Means-resumed program Simple z k region ranges names s exit entry base called x may_be p q h = Means-resumed_alone region ranges s exit entry base called x h
+Means-resumed program Extended z k region ranges names s exit entry base called x may_be p q h =
     Means-something program z k region ranges names s exit entry base called x
-    (λ e. ReducesSoundly-rejoined program z.entered z.is_whole (waiting_stack z region k s) k ranges names s exit p q) h
+    (λ e. ReducesSoundly-rejoined may_be program z.entered z.is_whole (waiting_stack z region k s) k ranges names s exit p q) h

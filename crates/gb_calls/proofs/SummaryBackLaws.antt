@@ -1,7 +1,6 @@
 -- What is said of the whole program where a callee returns holds; where nothing is said on either side, nothing is.
 use Rattle.std.proofs.Common.{◌≡◌, ℕ, ◌/◌, ◌%◌, Bool, true, List, refl, sym, ◌∙◌, ap, subst, arith}
 use Rattle.std.proofs.lemmas.Bool.{and_parts}
-use Rattle.gb_ops.specs.declared.registers.Registers.{Registers}
 use Rattle.gb_ops.specs.declared.machine.Banks.{Banks}
 use Rattle.gb_ops.specs.declared.machine.Kind.{Kind}
 use Rattle.gb_ops.specs.declared.machine.Kind.TheVariants as kind
@@ -19,7 +18,7 @@ use Rattle.gb_product.specs.Below.gb_abs.Storage.{peek}
 use Rattle.gb_product.specs.Below.gb_copies.declared.windows.BankWindow.{BankWindow}
 use Rattle.gb_product.specs.Below.gb_copies.declared.windows.BankWindow.TheVariants.{First, Second}
 use Rattle.gb_product.specs.Below.gb_copies.Windows.{register_of}
-use Rattle.gb_product.specs.Below.gb_pairs.Meaning.{Holds}
+use Rattle.gb_product.specs.Below.gb_pairs.Meaning.{Beside, Holds}
 use Rattle.gb_product.specs.Below.gb_relations.Transfer.{values_of}
 use Rattle.gb_product.specs.Below.gb_summaries.Elsewhere.{AreFreeFacts, IsFree}
 use Rattle.gb_product.specs.Below.gb_summaries.Meaning.{HoldSummary}
@@ -73,7 +72,7 @@ in_program : (program : Program) (s : AbsState) (entry : Activation) (x : MState
 in_program program s entry x e h = subst (λ p. HoldSummary p s.cells s.summary x.processor (peek x.storage) x.storage.banks) e h
 
 pub HoldSummary-back :
-    (program : Program) (whole : Bool) (region : Region) (ranges : List Range) (kept : List ℕ) (s exit : AbsState) (entry called : Activation) (was : Registers ℕ) (x : MState)
+    (program : Program) (whole : Bool) (region : Region) (ranges : List Range) (kept : List ℕ) (s exit : AbsState) (entry called : Activation) (was : Beside) (x : MState)
     → entry.program ≡ program → called.program ≡ program → AreFreeFacts region program.facts → IsFree region s.summary → IsFree region exit.summary
     → Holds (values_of s.core.registers s.relations.pairs) was called.entered.processor.registers
     → GivesBack program.kind region ranges (given_by exit.core) (given_addresses kept exit.cells) called.entered.processor x.processor (peek called.entered.storage) (peek x.storage) called.entered.storage.banks x.storage.banks

@@ -12,7 +12,11 @@ use Rattle.gb_domain.specs.declared.types.Ctl.{Ctl}
 use Rattle.gb_domain.specs.declared.types.KeptBanks.{KeptBanks}
 use Rattle.gb_domain.specs.declared.types.Core.{Core}
 use Rattle.gb_domain.specs.declared.types.Range.{Range}
+use Rattle.gb_domain.specs.declared.pairs.Link.{Link}
+use Rattle.gb_domain.specs.declared.pairs.Other.{Other}
+use Rattle.gb_domain.specs.declared.pairs.Other.TheVariants as other
 use Rattle.gb_domain.specs.declared.places.OneByte.{OneByte}
+use Rattle.gb_domain.specs.declared.relations.Relations.{Relations}
 use Rattle.gb_domain.specs.declared.places.StackBytes.{StackBytes}
 use Rattle.gb_domain.specs.declared.rules.Rules.{Rules}
 use Rattle.gb_domain.specs.declared.rules.Rules.TheVariants.{Simple, Extended}
@@ -32,7 +36,7 @@ use Rattle.gb_product.specs.Below.gb_relations.Transfer.{values_of}
 use Rattle.gb_product.specs.Below.gb_abs.Covering.{cell_at}
 use Rattle.gb_product.specs.Below.gb_abs.Origins.{is_own}
 use Rattle.gb_product.specs.Below.gb_abs.Span.{one}
-use Rattle.gb_product.specs.Covering.{values_in}
+use Rattle.gb_product.specs.Covering.{values_in, read_in}
 use Rattle.gb_product.specs.Held.{stack_held, held_relations}
 use Rattle.gb_product.specs.Reduced.{reduced_controller}
 use Rattle.gb_product.specs.Below.gb_summaries.declared.returning.GivenBack.{GivenBack}
@@ -190,13 +194,27 @@ own_by_register r = record {
   l = is_own origin.L r.l;
 }
 
--- what a callee with these ranges and this exit gives back as it was, and the bytes at these addresses, of what the caller's byte b
--- and its pairs read
-abbrev pub kept_by : List Range → List ℕ → OneByte → Core → Kept
-kept_by ranges addresses b exit = record {
+abbrev pub cell_of : Other → Option ℕ
+cell_of (other.Cell a) = Some a
+cell_of _ = None
+
+-- the byte of memory that a link reads, if it reads one, is given back as it was
+abbrev pub is_read_kept : List Range → List ℕ → Option Link → Bool
+is_read_kept ranges addresses None = true
+is_read_kept ranges addresses (Some l) = is_byte_kept ranges addresses (cell_of l.other)
+
+-- what a callee with these ranges and this exit gives back as it was, and the bytes at these addresses, of what the caller knows
+-- together
+abbrev pub kept_by : List Range → List ℕ → Relations → Core → Kept
+kept_by ranges addresses known exit = record {
   registers = own_by_register exit.registers;
   flags = exit.flags.is_own;
-  address = is_byte_kept ranges addresses b.address;
+  address = is_byte_kept ranges addresses known.byte.address;
+  read = record {
+    bc = is_read_kept ranges addresses known.pairs.bc.link;
+    de = is_read_kept ranges addresses known.pairs.de.link;
+    hl = is_read_kept ranges addresses known.pairs.hl.link;
+  };
 }
 
 -- what a callee with this exit gives back as it was, of what is said of the whole program
@@ -222,7 +240,7 @@ rejoined program whole waiting k ranges kept s x =
       core = core_back program whole kept s x.core;
       items = given_back_items k s.items (map (val_back program whole kept s) x.items);
       cells = cells_back (cell_room Extended) (cell_back program whole kept s) ranges s.cells x.cells;
-      relations = returned (kept_by ranges (given_addresses kept x.cells) known.byte x.core) s.core.registers known x.relations;
+      relations = returned (kept_by ranges (given_addresses kept x.cells) known x.core) s.core.registers known x.relations;
       summary = summary_back program whole ranges kept s x;
     }
 
@@ -243,7 +261,8 @@ with_banks_cut program s = option_map (with_controller s) (reduced_controller pr
 -- registers and pairs are cut to what they leave each other, where the pairs lay in these bounds as the procedure was entered, and then
 -- the banks; none where nothing is meant
 unfoldable pub reduced_state : Program → PairBounds → AbsState → Option AbsState
-reduced_state program entered s = option_and_then (with_banks_cut program) (with_values_if s (reduced entered (values_of s.core.registers s.relations.pairs)))
+reduced_state program entered s =
+    option_and_then (with_banks_cut program) (with_values_if s (reduced entered (read_in program s) (values_of s.core.registers s.relations.pairs)))
 
 -- ---- by those of version 4
 

@@ -19,6 +19,7 @@ use Rattle.gb_product.specs.Below.gb_pairs.Reduced.{reduced}
 use Rattle.gb_product.specs.Below.gb_pairs.Sound.{AreWithin, IsSoundReducing}
 use Rattle.gb_product.specs.Below.gb_relations.Transfer.{values_of}
 use Rattle.gb_product.specs.Below.gb_abs.Cells.{ArePlaced}
+use Rattle.gb_product.specs.Covering.{read_in}
 use Rattle.gb_domain.specs.declared.pairs.PairBounds.{PairBounds}
 use Rattle.gb_product.specs.Meaning.{entered_with, Means, IsApart}
 use Rattle.gb_product.specs.Below.gb_summaries.Elsewhere.{AreFreeFacts, IsFree}
@@ -124,9 +125,10 @@ MeansResumed TooDeep entry base x = Unit {0}
 
 -- cutting to what registers and pairs leave each other, where the pairs lay in these bounds as the procedure was entered, loses none of
 -- these states
-abbrev pub ReducesSoundly : PairBounds → AbsState → Type 0
-ReducesSoundly entered s =
-    IsSoundReducing entered (values_of s.core.registers s.relations.pairs) (reduced entered (values_of s.core.registers s.relations.pairs))
+abbrev pub ReducesSoundly : Program → PairBounds → AbsState → Type 0
+ReducesSoundly program entered s =
+    IsSoundReducing entered (read_in program s) (values_of s.core.registers s.relations.pairs)
+    (reduced entered (read_in program s) (values_of s.core.registers s.relations.pairs))
 
 -- whatever the callee did in the program, what is said of the caller's state holds
 pub record IsSoundResuming (program : Program) (z : Setting) (region : Region) (k : ℕ) (ranges : List Range) (kept : List ℕ) (s exit : AbsState) (after : Resumed) : Type 0 where

@@ -31,19 +31,14 @@ fn covers_celled(
     requires summary { told.now.summary ≡ claimed.now.summary }
     requires listed { listed_cells told.now.cells.now ≡ claimed.now.cells }
     requires few { length told.now.cells.now ≤ 320 }
-    ensures { result ≡ (((covers_items states.now.lists.now.items claimed.now.items && covers_cells program.now (values_of states.now.core.now.registers states.now.relations.now.pairs) states.now.lists.now.cells states.now.summary.now claimed.now.cells) && covers_relations program.now.is_whole states.now.core.now.registers states.now.relations.now claimed.now.relations) && covers_summary program.now (values_of states.now.core.now.registers states.now.relations.now.pairs) states.now.core.now.ctl states.now.lists.now.cells states.now.summary.now claimed.now.cells claimed.now.summary) }
+    ensures { result ≡ (((covers_items states.now.lists.now.items claimed.now.items && covers_cells program.now (values_of states.now.core.now.registers states.now.relations.now.pairs) states.now.lists.now.cells states.now.summary.now claimed.now.cells) && covers_relations program.now states.now.core.now.registers states.now.lists.now.cells states.now.summary.now states.now.relations.now claimed.now.relations) && covers_summary program.now (values_of states.now.core.now.registers states.now.relations.now.pairs) states.now.core.now.ctl states.now.lists.now.cells states.now.summary.now claimed.now.cells claimed.now.summary) }
 {
     let mut cells = ArrayVec::new();
     append_cells(&mut cells, told.cells);
     let kept = cells.as_slice();
     covers_items_in(states.lists.items(), claimed.items())
         && covers_cells(program, states, kept)
-        && covers_relations(
-            program.is_whole,
-            &states.core.registers,
-            states.relations,
-            &told.relations,
-        )
+        && covers_relations(program, states, &told.relations)
         && covers_said(program, states, kept, &told.summary)
 }
 
@@ -57,15 +52,10 @@ fn covers_uncelled(
 ) -> bool
     requires relations { relations.now ≡ claimed.now.relations }
     requires summary { summary.now ≡ claimed.now.summary }
-    ensures { result ≡ ((covers_items states.now.lists.now.items claimed.now.items && covers_relations program.now.is_whole states.now.core.now.registers states.now.relations.now claimed.now.relations) && covers_summary program.now (values_of states.now.core.now.registers states.now.relations.now.pairs) states.now.core.now.ctl states.now.lists.now.cells states.now.summary.now [] claimed.now.summary) }
+    ensures { result ≡ ((covers_items states.now.lists.now.items claimed.now.items && covers_relations program.now states.now.core.now.registers states.now.lists.now.cells states.now.summary.now states.now.relations.now claimed.now.relations) && covers_summary program.now (values_of states.now.core.now.registers states.now.relations.now.pairs) states.now.core.now.ctl states.now.lists.now.cells states.now.summary.now [] claimed.now.summary) }
 {
     covers_items_in(states.lists.items(), claimed.items())
-        && covers_relations(
-            program.is_whole,
-            &states.core.registers,
-            states.relations,
-            relations,
-        )
+        && covers_relations(program, states, relations)
         && covers_said(program, states, &[], summary)
 }
 
@@ -79,7 +69,7 @@ fn covers_nothing(states: &States<'_>) -> bool
 /// Whether all of a state but the core stands for that of others, where it may hold some.
 #[tactic(auto, using(crate::proofs::CoveringLaws::covers_uncelled))]
 fn covers_read(program: &Program<'_>, states: &States<'_>, claimed: &StateRef<'_>) -> bool
-    ensures { result ≡ (((covers_items states.now.lists.now.items claimed.now.items && covers_cells program.now (values_of states.now.core.now.registers states.now.relations.now.pairs) states.now.lists.now.cells states.now.summary.now claimed.now.cells) && covers_relations program.now.is_whole states.now.core.now.registers states.now.relations.now claimed.now.relations) && covers_summary program.now (values_of states.now.core.now.registers states.now.relations.now.pairs) states.now.core.now.ctl states.now.lists.now.cells states.now.summary.now claimed.now.cells claimed.now.summary) }
+    ensures { result ≡ (((covers_items states.now.lists.now.items claimed.now.items && covers_cells program.now (values_of states.now.core.now.registers states.now.relations.now.pairs) states.now.lists.now.cells states.now.summary.now claimed.now.cells) && covers_relations program.now states.now.core.now.registers states.now.lists.now.cells states.now.summary.now states.now.relations.now claimed.now.relations) && covers_summary program.now (values_of states.now.core.now.registers states.now.relations.now.pairs) states.now.core.now.ctl states.now.lists.now.cells states.now.summary.now claimed.now.cells claimed.now.summary) }
 {
     let told = claimed.told();
     if told.cells.is_empty() {
@@ -100,24 +90,19 @@ fn holds_words(pairs: Pairs)
 /// nothing is asked of them.
 #[inline(always)]
 fn covers_test(program: &Program<'_>, states: &States<'_>, test: Option<u8>) -> bool
-    ensures { result ≡ covers_relations program.now.is_whole states.now.core.now.registers states.now.relations.now (test_alone test) }
+    ensures { result ≡ covers_relations program.now states.now.core.now.registers states.now.lists.now.cells states.now.summary.now states.now.relations.now (test_alone test) }
 {
     holds_words(states.relations.pairs);
     match test {
         None => true,
-        Some(_) => covers_relations(
-            program.is_whole,
-            &states.core.registers,
-            states.relations,
-            &test_alone(test),
-        ),
+        Some(_) => covers_relations(program, states, &test_alone(test)),
     }
 }
 
 /// Whether a state without items, cells and what is said of the whole program stands for others, their cores apart.
 #[inline(always)]
 fn covers_bare(program: &Program<'_>, states: &States<'_>, test: Option<u8>) -> bool
-    ensures { result ≡ ((covers_items states.now.lists.now.items [] && covers_relations program.now.is_whole states.now.core.now.registers states.now.relations.now (test_alone test)) && is_none states.now.summary.now.aside) }
+    ensures { result ≡ ((covers_items states.now.lists.now.items [] && covers_relations program.now states.now.core.now.registers states.now.lists.now.cells states.now.summary.now states.now.relations.now (test_alone test)) && is_none states.now.summary.now.aside) }
 {
     are_none(states.lists.items()) && covers_test(program, states, test) && covers_nothing(states)
 }
@@ -126,7 +111,7 @@ fn covers_bare(program: &Program<'_>, states: &States<'_>, test: Option<u8>) -> 
 /// which hold already.
 #[inline(always)]
 fn covers_listed(program: &Program<'_>, states: &States<'_>, claimed: &StateRef<'_>) -> bool
-    ensures { result ≡ (((covers_items states.now.lists.now.items claimed.now.items && covers_cells program.now (values_of states.now.core.now.registers states.now.relations.now.pairs) states.now.lists.now.cells states.now.summary.now claimed.now.cells) && covers_relations program.now.is_whole states.now.core.now.registers states.now.relations.now claimed.now.relations) && covers_summary program.now (values_of states.now.core.now.registers states.now.relations.now.pairs) states.now.core.now.ctl states.now.lists.now.cells states.now.summary.now claimed.now.cells claimed.now.summary) }
+    ensures { result ≡ (((covers_items states.now.lists.now.items claimed.now.items && covers_cells program.now (values_of states.now.core.now.registers states.now.relations.now.pairs) states.now.lists.now.cells states.now.summary.now claimed.now.cells) && covers_relations program.now states.now.core.now.registers states.now.lists.now.cells states.now.summary.now states.now.relations.now claimed.now.relations) && covers_summary program.now (values_of states.now.core.now.registers states.now.relations.now.pairs) states.now.core.now.ctl states.now.lists.now.cells states.now.summary.now claimed.now.cells claimed.now.summary) }
 {
     holds_words(states.relations.pairs);
     if let Some(level) = claimed.level()
@@ -144,7 +129,7 @@ fn covers_listed(program: &Program<'_>, states: &States<'_>, claimed: &StateRef<
 #[inline(always)]
 #[tactic(auto, using(crate::proofs::CoveringLaws::covers_bare))]
 fn covers_rest(program: &Program<'_>, states: &States<'_>, claimed: &StateRef<'_>) -> bool
-    ensures { result ≡ (((covers_items states.now.lists.now.items claimed.now.items && covers_cells program.now (values_of states.now.core.now.registers states.now.relations.now.pairs) states.now.lists.now.cells states.now.summary.now claimed.now.cells) && covers_relations program.now.is_whole states.now.core.now.registers states.now.relations.now claimed.now.relations) && covers_summary program.now (values_of states.now.core.now.registers states.now.relations.now.pairs) states.now.core.now.ctl states.now.lists.now.cells states.now.summary.now claimed.now.cells claimed.now.summary) }
+    ensures { result ≡ (((covers_items states.now.lists.now.items claimed.now.items && covers_cells program.now (values_of states.now.core.now.registers states.now.relations.now.pairs) states.now.lists.now.cells states.now.summary.now claimed.now.cells) && covers_relations program.now states.now.core.now.registers states.now.lists.now.cells states.now.summary.now states.now.relations.now claimed.now.relations) && covers_summary program.now (values_of states.now.core.now.registers states.now.relations.now.pairs) states.now.core.now.ctl states.now.lists.now.cells states.now.summary.now claimed.now.cells claimed.now.summary) }
 {
     if claimed.has_lists() {
         covers_listed(program, states, claimed)

@@ -13,7 +13,7 @@ use crate::cells::{cells_back, given_addresses, has_room, is_in_ranges};
 use crate::told::{Caller, is_left, place_back, val_back};
 use arrayvec::ArrayVec;
 use gb_abs_memory::windows::low_ends;
-use gb_domain::pairs::PairBounds;
+use gb_domain::pairs::{Link, Other, PairBounds};
 use gb_domain::places::{OneByte, StackBytes};
 use gb_domain::relations::Relations;
 use gb_domain::summary::Summary;
@@ -22,8 +22,8 @@ use gb_ops::machine::{Kind, Region};
 use gb_ops::registers::Registers;
 use gb_product::reduced::reduced_controller;
 use gb_product::{
-    GivenBack, Kept, KnownRam, Program, Values, held_relations, is_byte_kept, is_own, only_of_a,
-    reduce, returned, stack_held, summary_returned,
+    GivenBack, Kept, KnownRam, Program, ReadKept, Values, held_relations, is_byte_kept, is_own,
+    only_of_a, read_by, reduce, returned, stack_held, summary_returned,
 };
 
 /// The most items that a state holds by any rules.
@@ -234,14 +234,39 @@ fn own_by_register(registers: &Registers<Val>) -> Registers<bool>
     }
 }
 
-/// What a callee gives back as it was, and the bytes at these addresses, of what the caller's byte and its pairs read.
-fn kept_by(ranges: &[Range], addresses: &[u16], byte: &OneByte, exit: &Core) -> Kept
-    ensures { result ≡ Resuming.kept_by ranges.now addresses.now byte.now exit.now }
+fn cell_of(other: Other) -> Option<u16>
+    ensures { result ≡ Resuming.cell_of other }
 {
+    match other {
+        Other::Cell(address) => Some(address),
+        Other::Register(_) | Other::Pair(_) | Other::Nothing => None,
+    }
+}
+
+/// Whether the byte of memory that a link reads, if it reads one, is given back as it was.
+fn is_read_kept(ranges: &[Range], addresses: &[u16], link: &Option<Link>) -> bool
+    ensures { result ≡ Resuming.is_read_kept ranges.now addresses.now link.now }
+{
+    match link {
+        None => true,
+        Some(link) => is_byte_kept(ranges, addresses, cell_of(link.other)),
+    }
+}
+
+/// What a callee gives back as it was, and the bytes at these addresses, of what the caller knows together.
+fn kept_by(ranges: &[Range], addresses: &[u16], known: &Relations, exit: &Core) -> Kept
+    ensures { result ≡ Resuming.kept_by ranges.now addresses.now known.now exit.now }
+{
+    let pairs = &known.pairs;
     Kept {
         registers: own_by_register(&exit.registers),
         flags: exit.flags.is_own,
-        address: is_byte_kept(ranges, addresses, byte.address),
+        address: is_byte_kept(ranges, addresses, known.byte.address),
+        read: ReadKept {
+            bc: is_read_kept(ranges, addresses, &pairs.bc.link),
+            de: is_read_kept(ranges, addresses, &pairs.de.link),
+            hl: is_read_kept(ranges, addresses, &pairs.hl.link),
+        },
     }
 }
 
@@ -351,20 +376,30 @@ fn put_rejoined(
     resumed: &mut Abs,
 ) -> Return
     ensures exact { Resuming.IsResumed (Resuming.resumed_to result resumed.new) (Resuming.reduced_state caller.now.program.now entered.now (Resuming.rejoined caller.now.program.now caller.now.is_whole waiting count ranges.now caller.now.kept.now.items caller.now.state.now exit.now)) }
-    ensures reducing { ReducesSoundly entered.now (Resuming.rejoined caller.now.program.now caller.now.is_whole waiting count ranges.now caller.now.kept.now.items caller.now.state.now exit.now) }
+    ensures reducing { ReducesSoundly caller.now.program.now entered.now (Resuming.rejoined caller.now.program.now caller.now.is_whole waiting count ranges.now caller.now.kept.now.items caller.now.state.now exit.now) }
 {
     let state = caller.state;
     let given = given_addresses(caller.kept, exit.cells());
     let addresses = given.as_slice();
     let known = held_relations(waiting, state.relations());
-    let kept = kept_by(ranges, addresses, &known.byte, exit.core());
+    let kept = kept_by(ranges, addresses, &known, exit.core());
     let mut core = core_back(caller, exit.core());
     let mut relations = returned(&kept, &state.core().registers, &known, exit.relations());
-    if !reduce(entered, &mut core.registers, &mut relations.pairs) {
-        return Return::Nothing;
-    }
     let cells = cells_back(Rules::Extended, caller, ranges, exit.cells());
     let summary = summary_back(caller, ranges, addresses, exit, cells.as_slice());
+    let read = read_by(
+        caller.program,
+        &Values {
+            registers: core.registers,
+            pairs: relations.pairs,
+        },
+        cells.as_slice(),
+        &summary,
+        &relations.pairs,
+    );
+    if !reduce(entered, &read, &mut core.registers, &mut relations.pairs) {
+        return Return::Nothing;
+    }
     let values = Values {
         registers: core.registers,
         pairs: relations.pairs,
@@ -453,7 +488,7 @@ fn put_something(
     resumed: &mut Abs,
 ) -> Return
     ensures exact { Resuming.IsResumed (Resuming.resumed_to result resumed.new) (if Resuming.is_something caller.now.program.now caller.now.is_whole caller.now.kept.now.items ranges.now caller.now.state.now exit.now then Resuming.reduced_state caller.now.program.now entered.now (Resuming.rejoined caller.now.program.now caller.now.is_whole waiting count ranges.now caller.now.kept.now.items caller.now.state.now exit.now) else None) }
-    ensures reducing { Resuming.is_something caller.now.program.now caller.now.is_whole caller.now.kept.now.items ranges.now caller.now.state.now exit.now ≡ true → ReducesSoundly entered.now (Resuming.rejoined caller.now.program.now caller.now.is_whole waiting count ranges.now caller.now.kept.now.items caller.now.state.now exit.now) }
+    ensures reducing { Resuming.is_something caller.now.program.now caller.now.is_whole caller.now.kept.now.items ranges.now caller.now.state.now exit.now ≡ true → ReducesSoundly caller.now.program.now entered.now (Resuming.rejoined caller.now.program.now caller.now.is_whole waiting count ranges.now caller.now.kept.now.items caller.now.state.now exit.now) }
 {
     if is_something(caller, ranges, exit) {
         put_rejoined(entered, caller, waiting, count, ranges, exit, resumed)

@@ -384,9 +384,9 @@ pub record IsPlain (s : AbsState) : Type 0 where
   pub relations : s.relations ≡ test_alone (compared s.relations.byte.test)
   pub summary : s.summary ≡ no_summary
 
-alone : (may_be : ℕ → Bool) (address : Bool) (r : Relations) → IsRelations may_be r → told.present_number (told.present_by address r) ≡ 0 → r ≡ test_alone (compared r.byte.test)
-alone may_be address r is none =
-    let nothing = nothing-known may_be address r is none in
+alone : (may_be may_read : ℕ → Bool) (address : Bool) (r : Relations) → IsRelations may_be may_read r → told.present_number (told.present_by address r) ≡ 0 → r ≡ test_alone (compared r.byte.test)
+alone may_be may_read address r is none =
+    let nothing = nothing-known may_be may_read address r is none in
     nothing ∙ sym (ap (λ (s : Relations). test_alone (compared s.byte.test)) nothing)
 
 no-flags : (d a b c : Bool) → 8 * simple.flag d + 4 * simple.flag a + 2 * simple.flag b + simple.flag c ≡ 0 → (a ≡ false) × ((b ≡ false) × (c ≡ false))
@@ -429,9 +429,9 @@ told-none (Older Extended) role region s behind is h =
     let r = s.relations in
     let p = told.present_number (told.present_in r) in
     let k = and_both (p == 0) (begins_with_zero (told.parts r ++ (length s.cells ∷ behind))) h in
-    let none = nothing-told (is_free_byte region) s.relations is.relations (eqb-true p 0 k.0) in
+    let none = nothing-told (is_free_byte region) (is_free_byte region) s.relations is.relations (eqb-true p 0 k.0) in
     let rest : rest_none (Older Extended) ((0 ∷ []) ++ (length s.cells ∷ behind)) ≡ true = ap (λ (b : List ℕ). rest_none (Older Extended) (b ++ (length s.cells ∷ behind))) (sym none.1) ∙ h in
-    (no-cells s.cells (and_both true (length s.cells == 0) rest).1, (alone (is_free_byte region) (is_some r.byte.address) s.relations is.relations (eqb-true p 0 k.0), says-nothing Extended role region s is))
+    (no-cells s.cells (and_both true (length s.cells == 0) rest).1, (alone (is_free_byte region) (is_free_byte region) (is_some r.byte.address) s.relations is.relations (eqb-true p 0 k.0), says-nothing Extended role region s is))
 told-none (Fourth facts form) role region s behind is h =
     let place = spelled.place_in region s.relations.byte.address in
     let may_be = is_place_at (stack_bytes form role region (length s.items)) in
@@ -442,12 +442,12 @@ told-none (Fourth facts form) role region s behind is h =
     let after : List ℕ = (parts ++ spelled.summary s.summary) ++ (length s.cells ∷ behind) in
     let k = and_both (p == 0) (begins_with_zeros (d ∷ after)) h in
     let l = and_both (d == 0) (begins_with_zero after) k.1 in
-    let nothing = nothing-known may_be address s.relations is.relations (eqb-true p 0 k.0) in
+    let nothing = nothing-known may_be (is_free_byte region) address s.relations is.relations (eqb-true p 0 k.0) in
     let silent = undeclared (spelled.is_item place) s.summary (eqb-true d 0 l.0) in
     let none : parts ≡ [] = ap (λ (r : Relations). told.parts_by (spelled.memory region (item_base form.base region) r.byte.address) r) nothing ∙ no-parts region (item_base form.base region) in
     let summary : spelled.summary s.summary ≡ [] = ap spelled.summary silent ∙ nothing-said in
     let rest : begins_with_zero (length s.cells ∷ behind) ≡ true = ap (λ (b : List ℕ). begins_with_zero (b ++ (length s.cells ∷ behind))) (sym (ap (λ (b : List ℕ). b ++ spelled.summary s.summary) none ∙ summary)) ∙ l.1 in
-    (no-cells s.cells rest, (alone may_be address s.relations is.relations (eqb-true p 0 k.0), silent))
+    (no-cells s.cells rest, (alone may_be (is_free_byte region) address s.relations is.relations (eqb-true p 0 k.0), silent))
 
 -- where zeros stand behind the core the state is plain
 pub is-plain : (form : Form) (role : Role) (region : Region) (bytes : List ℕ) (s : AbsState) → StateStands form role region bytes s → are_none form (drop 40 bytes) ≡ true → IsPlain s

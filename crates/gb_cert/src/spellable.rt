@@ -20,7 +20,7 @@ use gb_domain::types::{Abs, Cell, Core, KeptBanks, Origin, Rules, Val};
 use gb_ops::machine::Region;
 use gb_ops::registers::Registers;
 use gb_states::limits::KEPT_LIMIT;
-use gb_states::relations::reads_other;
+use gb_states::relations::{reads_other, reads_register};
 
 // ---- relations
 
@@ -60,11 +60,11 @@ fn is_test_alone(relations: &Relations) -> bool
     is_test_byte(&relations.byte) && relations.zero.is_none() && are_unknown(&relations.pairs)
 }
 
-/// Whether versions 1 to 3 can say a link: it reads something else, has no base, and has one sum.
+/// Whether versions 1 to 3 can say a link: it reads a register or another pair, has no base, and has one sum.
 fn is_plain(link: &Link) -> bool
     ensures { result ≡ is_plain link.now }
 {
-    reads_other(link.other) && link.base.is_none() && link.width == 0
+    reads_register(link.other) && link.base.is_none() && link.width == 0
 }
 
 /// Whether version 4 can: one that reads nothing else has a base, and no field for a factor.

@@ -160,7 +160,18 @@ fn other_number(other: Other) -> u8
         Other::Register(Register::H) => 5,
         Other::Register(Register::L) => 6,
         Other::Pair(pair) => 7 + pair_number(pair),
+        Other::Cell(_) => 10,
         Other::Nothing => 12,
+    }
+}
+
+/// Adds the address of a byte of RAM, where one is read.
+fn put_argument(other: Other, out: &mut Vec<u8>) -> Result<(), AllocError>
+    ensures { OnOk result (out.new.items ≡ out.old.items ++ told.argument other) }
+{
+    match other {
+        Other::Cell(address) => put(&word(address), out),
+        _ => Ok(()),
     }
 }
 
@@ -193,7 +204,7 @@ fn form_number(link: &Link) -> u8
     128 * flag(link.width != 0) + (64 * flag(link.base.is_some()) + (1 + other_number(link.other)))
 }
 
-/// Adds a link's form, its factor, its base, its sum and its width; 0 where there is none.
+/// Adds a link's form, the address of what it reads of RAM, its factor, its base, its sum and its width; 0 where there is none.
 fn put_link(link: Option<Link>, out: &mut Vec<u8>) -> Result<(), AllocError>
     ensures { OnOk result (out.new.items ≡ out.old.items ++ told.link link) }
 {
@@ -201,6 +212,7 @@ fn put_link(link: Option<Link>, out: &mut Vec<u8>) -> Result<(), AllocError>
         None => put(&[0], out),
         Some(link) => {
             put(&[form_number(&link)], out)?;
+            put_argument(link.other, out)?;
             put_factor(link.other, link.factor, out)?;
             put_pair(link.base, out)?;
             put(&word(link.sum), out)?;

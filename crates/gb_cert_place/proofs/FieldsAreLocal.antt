@@ -1,5 +1,5 @@
 -- Each reader of a certificate's parts goes from left to right.
-use Rattle.std.proofs.Common.{◌≡◌, ℕ, Bool, true, false, ◌==◌, List, [], Option, Some, None, Ok, Err, ap}
+use Rattle.std.proofs.Common.{◌≡◌, ◌%◌, ℕ, Bool, true, false, ◌==◌, List, [], Option, Some, None, Ok, Err, ap}
 use Rattle.gb_ops.specs.declared.machine.Region.{Region}
 use Rattle.gb_domain.specs.declared.places.StackBytes.{StackBytes}
 use Rattle.gb_domain.specs.declared.rules.Rules.{Rules}
@@ -21,7 +21,7 @@ use Rattle.gb_fields.specs.Format.{Read, byte}
 use Rattle.gb_states.specs.Rules.{role_of}
 use Rattle.gb_fields.specs.Reading.{word, quad, node_number_by, node_number, byte_between, word_between, count_within, yes_no, returns_at, entry_at, nothing, base_at, times, need_at, key_at, magic_at, region_at, node_count_at}
 use Rattle.gb_states.specs.Links.{reads_other}
-use Rattle.gb_states.specs.RelationReading.{defaulted, present_at, registers_at, address_at, item_at, is_somewhere, place_by, memory_at, no_items, byte_at, pair_at, bounds_at, form_at, factor_at, factor_of, width_at, link_of, link_at, facts_at, pairs_at, relations_at, relations_by}
+use Rattle.gb_states.specs.RelationReading.{defaulted, present_at, registers_at, address_at, item_at, is_somewhere, place_by, memory_at, no_items, byte_at, pair_at, bounds_at, other_of, other_if, other_at, form_at, factor_at, factor_of, width_at, link_of, link_at, facts_at, pairs_at, relations_at, relations_by}
 use Rattle.gb_states.specs.Reading.{origin_at, val_at, may_at, ime_at, test_at, flg_at, ctl_at, vals_at, core_at, item_count_at, items_at, cell_at, cells_at, state_at, range_at, ranges_at, exit_at, needed_at, body_at, procedure_at, node_at}
 use Rattle.gb_states.proofs.Formats.{same_pair}
 use Rattle.gb_cert_place.proofs.Locality.{IsLocal, IsLocal-byte, IsLocal-both, IsLocal-followed, IsLocal-mapped, IsLocal-checked, IsLocal-optional, IsLocal-several, IsLocal-counted}
@@ -144,9 +144,16 @@ pub IsLocal-bounds : IsLocal bounds_at
 unfolding bounds_at
 IsLocal-bounds = IsLocal-mapped _ _ (IsLocal-checked _ _ _ (IsLocal-both _ _ IsLocal-word IsLocal-word))
 
-IsLocal-form : (wide : Bool) → IsLocal (form_at wide)
+IsLocal-other : (region : Region) (n : ℕ) → IsLocal (other_at region n)
+IsLocal-other region n = by (n == 11)
+  where
+    by : (cell : Bool) → IsLocal (other_if region cell n)
+    by true = IsLocal-mapped _ _ (IsLocal-address region)
+    by false = IsLocal-nothing (other_of n)
+
+IsLocal-form : (wide : Bool) (region : Region) → IsLocal (form_at wide region)
 unfolding form_at
-IsLocal-form wide = IsLocal-mapped _ _ (IsLocal-checked _ _ _ IsLocal-byte)
+IsLocal-form wide region = IsLocal-mapped _ _ (IsLocal-followed _ _ (IsLocal-checked _ _ _ IsLocal-byte) (λ n. IsLocal-other region (n % 64)))
 
 IsLocal-width : (there : Bool) → IsLocal (defaulted 0 there width_at)
 unfolding width_at
@@ -160,26 +167,26 @@ IsLocal-link_of : (o : Option Other) (base width : Bool) → IsLocal (link_of o 
 IsLocal-link_of None base width = IsLocal-nothing None
 IsLocal-link_of (Some o) base width = IsLocal-mapped _ _ (IsLocal-both _ _ (IsLocal-factor_of o) (IsLocal-both _ _ (IsLocal-optional base _ IsLocal-pair) (IsLocal-both _ _ IsLocal-word (IsLocal-width width))))
 
-IsLocal-link : (wide : Bool) → IsLocal (link_at wide)
+IsLocal-link : (wide : Bool) (region : Region) → IsLocal (link_at wide region)
 unfolding link_at
-IsLocal-link wide = IsLocal-mapped _ _ (IsLocal-followed _ _ (IsLocal-form wide) (λ f. IsLocal-link_of f.other f.has_base f.has_width))
+IsLocal-link wide region = IsLocal-mapped _ _ (IsLocal-followed _ _ (IsLocal-form wide region) (λ f. IsLocal-link_of f.other f.has_base f.has_width))
 
-IsLocal-facts : (wide : Bool) → IsLocal (facts_at wide)
+IsLocal-facts : (wide : Bool) (region : Region) → IsLocal (facts_at wide region)
 unfolding facts_at
-IsLocal-facts wide = IsLocal-checked _ _ _ (IsLocal-mapped _ _ (IsLocal-both _ _ IsLocal-bounds (IsLocal-link wide)))
+IsLocal-facts wide region = IsLocal-checked _ _ _ (IsLocal-mapped _ _ (IsLocal-both _ _ IsLocal-bounds (IsLocal-link wide region)))
 
-pub IsLocal-known : (wide there : Bool) → IsLocal (defaulted nothing_known there (facts_at wide))
-IsLocal-known wide there = IsLocal-defaulted nothing_known there (facts_at wide) (IsLocal-facts wide)
+pub IsLocal-known : (wide : Bool) (region : Region) (there : Bool) → IsLocal (defaulted nothing_known there (facts_at wide region))
+IsLocal-known wide region there = IsLocal-defaulted nothing_known there (facts_at wide region) (IsLocal-facts wide region)
 
-pub IsLocal-pairs : (wide : Bool) (p : Present) → IsLocal (pairs_at wide p)
+pub IsLocal-pairs : (wide : Bool) (region : Region) (p : Present) → IsLocal (pairs_at wide region p)
 unfolding pairs_at
-IsLocal-pairs wide p = IsLocal-mapped _ _ (IsLocal-both _ _ (IsLocal-known wide p.bc) (IsLocal-both _ _ (IsLocal-known wide p.de) (IsLocal-known wide p.hl)))
+IsLocal-pairs wide region p = IsLocal-mapped _ _ (IsLocal-both _ _ (IsLocal-known wide region p.bc) (IsLocal-both _ _ (IsLocal-known wide region p.de) (IsLocal-known wide region p.hl)))
 
 pub IsLocal-relations : (region : Region) (test : Option ℕ) → IsLocal (relations_at region test)
 unfolding relations_at
 IsLocal-relations region test =
     IsLocal-mapped _ _ (IsLocal-followed _ _ (IsLocal-present test)
-    (λ p. IsLocal-both _ _ (IsLocal-defaulted no_byte p.byte _ (IsLocal-one_byte (no_items region) test (place_by false p.address) p.bits)) (IsLocal-both _ _ (IsLocal-optional p.zero _ IsLocal-pair) (IsLocal-pairs false p))))
+    (λ p. IsLocal-both _ _ (IsLocal-defaulted no_byte p.byte _ (IsLocal-one_byte (no_items region) test (place_by false p.address) p.bits)) (IsLocal-both _ _ (IsLocal-optional p.zero _ IsLocal-pair) (IsLocal-pairs false region p))))
 
 pub IsLocal-relations_by : (rules : Rules) (region : Region) (test : Option ℕ) → IsLocal (relations_by rules region test)
 IsLocal-relations_by Simple region test = IsLocal-nothing (test_alone test)

@@ -170,7 +170,7 @@ unfolding cells_at
 IsLocal-fourth_cells kept region = IsLocal-counted _ _ _ _ (IsLocal-count_within (cell_room Extended)) (IsLocal-fourth_cell kept region)
 
 IsLocal-relation_parts : (k : StackBytes) (test : Option ℕ) (place : InMemory) (p : Present) → IsLocal (parts_at true k test place p)
-IsLocal-relation_parts k test place p = IsLocal-both _ _ (IsLocal-defaulted no_byte p.byte _ (IsLocal-one_byte k test place p.bits)) (IsLocal-both _ _ (IsLocal-optional p.zero _ IsLocal-pair) (IsLocal-pairs true p))
+IsLocal-relation_parts k test place p = IsLocal-both _ _ (IsLocal-defaulted no_byte p.byte _ (IsLocal-one_byte k test place p.bits)) (IsLocal-both _ _ (IsLocal-optional p.zero _ IsLocal-pair) (IsLocal-pairs true k.region p))
 
 pub IsLocal-told : (facts : ℕ) (k : StackBytes) (may_be_aside : Bool) (test : Option ℕ) → IsLocal (told_at facts k may_be_aside test)
 unfolding told_at

@@ -186,11 +186,11 @@ IsWithin-summary facts region d =
     (IsWithin-both _ _ 75 4 (IsWithin-defaulted no_levels d.levels _ 75 (IsWithin-levels facts region))
     (IsWithin-optional d.aside _ 4 (IsWithin-mapped _ _ 4 (IsWithin-checked _ _ _ 4 (λ h. cc) (IsWithin-both _ _ 2 2 IsWithin-word IsWithin-word))))))
 
-pub IsWithin-told : (facts : ℕ) (k : StackBytes) (may_be_aside : Bool) (test : Option ℕ) → IsWithin (told_at facts k may_be_aside test) 125
+pub IsWithin-told : (facts : ℕ) (k : StackBytes) (may_be_aside : Bool) (test : Option ℕ) → IsWithin (told_at facts k may_be_aside test) 131
 unfolding told_at
 IsWithin-told facts k may_be_aside test =
-    IsWithin-mapped _ _ 125 (IsWithin-followed _ _ 2 123 (IsWithin-followed _ _ 1 1 (IsWithin-present test) (λ p. IsWithin-declared may_be_aside (may_be_item k p)))
-    (λ d. IsWithin-both _ _ 38 85 (IsWithin-parts true k test (place_of d) d.0) (IsWithin-summary facts k.region d.1)))
+    IsWithin-mapped _ _ 131 (IsWithin-followed _ _ 2 129 (IsWithin-followed _ _ 1 1 (IsWithin-present test) (λ p. IsWithin-declared may_be_aside (may_be_item k p)))
+    (λ d. IsWithin-both _ _ 44 85 (IsWithin-parts true k test (place_of d) d.0) (IsWithin-summary facts k.region d.1)))
 
 -- ---- blocks
 

@@ -21,7 +21,7 @@ use Rattle.gb_fields.specs.Reading.{word, quad, node_number_by, node_number, byt
 use Rattle.gb_states.specs.Reading.{origin_at, val_at, may_at, ime_at, test_at, flg_at, ctl_at, vals_at, core_at, item_count_at, cell_at, range_at}
 use Rattle.gb_states.specs.declared.relations.LinkForm.{LinkForm}
 use Rattle.gb_states.specs.Links.{reads_other}
-use Rattle.gb_states.specs.RelationReading.{defaulted, present_at, registers_at, address_at, item_at, place_by, memory_at, no_items, byte_at, pair_at, bounds_at, is_form, to_form, form_at, factor_at, factor_of, width_at, link_of, link_at, facts_at, pairs_at, parts_at, relations_at}
+use Rattle.gb_states.specs.RelationReading.{defaulted, present_at, registers_at, address_at, item_at, place_by, memory_at, no_items, byte_at, pair_at, bounds_at, other_of, is_form, other_if, other_at, to_form, form_at, factor_at, factor_of, width_at, link_of, link_at, facts_at, pairs_at, parts_at, relations_at}
 use Rattle.gb_states.proofs.Formats.{went_on, same_pair}
 use Rattle.gb_cert_place.specs.Layout.{number_width, number_width_by, procedure_width, procedure_width_by}
 use Rattle.gb_cert_place.proofs.Locality.{failed, same_fault}
@@ -273,27 +273,62 @@ IsWithin-link_of (Some o) base width =
     IsWithin-mapped _ _ (behind_form base width) (IsWithin-both _ _ 1 (base_room base + (2 + width_room width)) (IsWithin-factor o)
     (IsWithin-both _ _ (base_room base) (2 + width_room width) (IsWithin-link_base base) (IsWithin-both _ _ 2 (width_room width) IsWithin-word (IsWithin-width width))))
 
-IsWithin-form : (wide : Bool) → IsWithin (form_at wide) 1
-unfolding form_at
-IsWithin-form wide = IsWithin-mapped _ _ 1 (IsWithin-checked _ _ byte 1 (λ h. cc) IsWithin-byte)
+-- the most bytes behind a form of what else it reads
+abbrev argument_room : Bool → ℕ
+argument_room true = 2
+argument_room false = 0
 
--- Where links have no base and no width, no form has one.
-abbrev IsOlderForm : LinkForm → Type 0
-IsOlderForm f = (f.has_base ≡ false) × (f.has_width ≡ false)
+IsWithin-other_if : (region : Region) (cell : Bool) (n : ℕ) → IsWithin (other_if region cell n) (argument_room cell)
+unfolding address_at
+IsWithin-other_if region true n = IsWithin-mapped _ _ 2 (IsWithin-checked _ _ _ 2 (λ h. cc) IsWithin-word)
+IsWithin-other_if region false n = IsWithin-nothing (other_of n) 0
 
-older_form : (bytes : List ℕ) (f : LinkForm) (rest : List ℕ) → form_at false bytes ≡ Ok (f, rest) → IsOlderForm f
-unfolding form_at
-older_form bytes f rest e =
-    let c = went_on (checked fault.Field (is_form false) byte bytes) (λ n end. Ok (to_form n, end)) (f, rest) e in
-    let d = went_on (byte bytes) (λ n end. if_passes fault.Field (is_form false n) n end) (c.0, c.1) c.2 in
-    let n : d.0 ≡ c.0 = (passes fault.Field (is_form false d.0) d.0 c.0 d.1 c.1 d.3).0 in
-    let low = subst (λ k. is_form false k ≡ true) n (passed (is_form false d.0) d.0 c.0 d.1 c.1 d.3) in
-    subst IsOlderForm (same_pair (to_form c.0) f c.1 rest c.3).0 (no_base c.0 low, no_width c.0 low)
+-- Where links have no base and no width, and read no memory, no form says such.
+abbrev IsOlderNumber : ℕ → Type 0
+IsOlderNumber n = is_form false n ≡ true
+
+older_number : (bytes : List ℕ) (n : ℕ) (rest : List ℕ) → checked fault.Field (is_form false) byte bytes ≡ Ok (n, rest) → IsOlderNumber n
+older_number bytes n rest e =
+    let d = went_on (byte bytes) (λ n end. if_passes fault.Field (is_form false n) n end) (n, rest) e in
+    let same : d.0 ≡ n = (passes fault.Field (is_form false d.0) d.0 n d.1 rest d.3).0 in
+    subst IsOlderNumber same (passed (is_form false d.0) d.0 n d.1 rest d.3)
   where
     passed : (b : Bool) (x y : ℕ) (rest end : List ℕ) → if_passes fault.Field b x rest ≡ Ok (y, end) → b ≡ true
     passed true x y rest end h = refl
     passed false x y rest end h = cc
 
+-- the most bytes of a form, and of what else it reads
+abbrev form_room : Bool → ℕ
+form_room true = 3
+form_room false = 1
+
+IsWithin-form : (wide : Bool) (region : Region) → IsWithin (form_at wide region) (form_room wide)
+unfolding form_at
+IsWithin-form true region = IsWithin-mapped _ _ 3 (IsWithin-followed _ _ 1 2 (IsWithin-checked _ _ byte 1 (λ h. cc) IsWithin-byte) (λ n. by (n % 64 == 11) (n % 64)))
+  where
+    by : (cell : Bool) (n : ℕ) → IsWithin (other_if region cell n) 2
+    by true n = IsWithin-other_if region true n
+    by false n = IsWithin-nothing (other_of n) 2
+IsWithin-form false region = IsWithin-mapped _ _ 1 (IsWithin-followed_where _ _ 1 0 IsOlderNumber older_number (IsWithin-checked _ _ byte 1 (λ h. cc) IsWithin-byte) (λ n h. subst (λ cell. IsWithin (other_if region cell (n % 64)) 0) (sym (no_cell n h)) (IsWithin-nothing (other_of (n % 64)) 0)))
+  where
+    no_cell : (n : ℕ) → is_form false n ≡ true → (n % 64 == 11) ≡ false
+    no_cell n h = grind (arith, nat_tests)
+
+-- Where links have no base and no width, no form has one.
+abbrev IsOlderForm : LinkForm → Type 0
+IsOlderForm f = (f.has_base ≡ false) × (f.has_width ≡ false)
+
+older_form : (region : Region) (bytes : List ℕ) (f : LinkForm) (rest : List ℕ) → form_at false region bytes ≡ Ok (f, rest) → IsOlderForm f
+unfolding form_at
+older_form region bytes f rest e =
+    let c = went_on (followed (checked fault.Field (is_form false) byte) (λ n. other_at region (n % 64)) bytes) (λ p end. Ok (to_form p, end)) (f, rest) e in
+    let d = went_on (checked fault.Field (is_form false) byte bytes) (λ n first. go_on (other_at region (n % 64) first) (λ o end. Ok ((n, o), end))) (c.0, c.1) c.2 in
+    let g = went_on (other_at region (d.0 % 64) d.1) (λ o end. Ok ((d.0, o), end)) (c.0, c.1) d.3 in
+    let low = older_number bytes d.0 d.1 d.2 in
+    let number : d.0 ≡ c.0.0 = ap (λ (p : ℕ × Option Other). p.0) (same_pair (d.0, g.0) c.0 g.1 c.1 g.3).0 in
+    let older = subst IsOlderNumber number low in
+    subst IsOlderForm (same_pair (to_form c.0) f c.1 rest c.3).0 (no_base c.0.0 older, no_width c.0.0 older)
+  where
     no_base : (n : ℕ) → is_form false n ≡ true → (n / 64 % 2 == 1) ≡ false
     no_base n h = grind (arith, nat_tests)
 
@@ -302,51 +337,51 @@ older_form bytes f rest e =
 
 -- by whether links may have a base and a width: the most bytes of a link, of what is known of a pair, and of all that is known together
 abbrev link_room : Bool → ℕ
-link_room true = 7
+link_room true = 9
 link_room false = 4
 
 abbrev facts_room : Bool → ℕ
-facts_room true = 11
+facts_room true = 13
 facts_room false = 8
 
 abbrev pub parts_room : Bool → ℕ
-parts_room true = 38
+parts_room true = 44
 parts_room false = 29
 
-IsWithin-link : (wide : Bool) → IsWithin (link_at wide) (link_room wide)
+IsWithin-link : (wide : Bool) (region : Region) → IsWithin (link_at wide region) (link_room wide)
 unfolding link_at
-IsWithin-link true = IsWithin-mapped _ _ 7 (IsWithin-followed _ _ 1 6 (IsWithin-form true) (λ f. by f.other f.has_base f.has_width))
+IsWithin-link true region = IsWithin-mapped _ _ 9 (IsWithin-followed _ _ 3 6 (IsWithin-form true region) (λ f. by f.other f.has_base f.has_width))
   where
     by : (o : Option Other) (base width : Bool) → IsWithin (link_of o base width) 6
     by o true true = IsWithin-link_of o true true
     by o true false = IsWithin-more _ 4 6 (omega arith) (IsWithin-link_of o true false)
     by o false true = IsWithin-more _ 5 6 (omega arith) (IsWithin-link_of o false true)
     by o false false = IsWithin-more _ 3 6 (omega arith) (IsWithin-link_of o false false)
-IsWithin-link false = IsWithin-mapped _ _ 4 (IsWithin-followed_where _ _ 1 3 IsOlderForm older_form (IsWithin-form false) older)
+IsWithin-link false region = IsWithin-mapped _ _ 4 (IsWithin-followed_where _ _ 1 3 IsOlderForm (older_form region) (IsWithin-form false region) older)
   where
     older : (f : LinkForm) → IsOlderForm f → IsWithin (link_of f.other f.has_base f.has_width) 3
     older f h = subst (λ base. IsWithin (link_of f.other base f.has_width) 3) (sym h.0) (subst (λ width. IsWithin (link_of f.other false width) 3) (sym h.1) (IsWithin-link_of f.other false false))
 
-facts_by : (wide : Bool) (n : ℕ) → IsWithin (link_at wide) n → IsWithin (facts_at wide) (4 + n)
+facts_by : (wide : Bool) (region : Region) (n : ℕ) → IsWithin (link_at wide region) n → IsWithin (facts_at wide region) (4 + n)
 unfolding facts_at bounds_at
-facts_by wide n a =
+facts_by wide region n a =
     IsWithin-checked _ _ _ (4 + n) (λ h. cc) (IsWithin-mapped _ _ (4 + n) (IsWithin-both _ _ 4 n (IsWithin-mapped _ _ 4 (IsWithin-checked _ _ _ 4 (λ h. cc) (IsWithin-both _ _ 2 2 IsWithin-word IsWithin-word))) a))
 
-pub IsWithin-facts : (wide : Bool) → IsWithin (facts_at wide) (facts_room wide)
-IsWithin-facts true = facts_by true 7 (IsWithin-link true)
-IsWithin-facts false = facts_by false 4 (IsWithin-link false)
+pub IsWithin-facts : (wide : Bool) (region : Region) → IsWithin (facts_at wide region) (facts_room wide)
+IsWithin-facts true region = facts_by true region 9 (IsWithin-link true region)
+IsWithin-facts false region = facts_by false region 4 (IsWithin-link false region)
 
-parts_by : (wide : Bool) (k : StackBytes) (test : Option ℕ) (place : InMemory) (p : Present) (n : ℕ) → IsWithin (facts_at wide) n → IsWithin (parts_at wide k test place p) (4 + (1 + (n + (n + n))))
+parts_by : (wide : Bool) (k : StackBytes) (test : Option ℕ) (place : InMemory) (p : Present) (n : ℕ) → IsWithin (facts_at wide k.region) n → IsWithin (parts_at wide k test place p) (4 + (1 + (n + (n + n))))
 unfolding pairs_at
 parts_by wide k test place p n a =
-    let known : (there : Bool) → IsWithin (defaulted nothing_known there (facts_at wide)) n = λ there. IsWithin-defaulted nothing_known there (facts_at wide) n a in
+    let known : (there : Bool) → IsWithin (defaulted nothing_known there (facts_at wide k.region)) n = λ there. IsWithin-defaulted nothing_known there (facts_at wide k.region) n a in
     IsWithin-both _ _ 4 (1 + (n + (n + n))) (IsWithin-defaulted no_byte p.byte _ 4 (IsWithin-one_byte k test place p.bits))
     (IsWithin-both _ _ 1 (n + (n + n)) (IsWithin-optional p.zero _ 1 IsWithin-pair)
     (IsWithin-mapped _ _ (n + (n + n)) (IsWithin-both _ _ n (n + n) (known p.bc) (IsWithin-both _ _ n n (known p.de) (known p.hl)))))
 
 pub IsWithin-parts : (wide : Bool) (k : StackBytes) (test : Option ℕ) (place : InMemory) (p : Present) → IsWithin (parts_at wide k test place p) (parts_room wide)
-IsWithin-parts true k test place p = parts_by true k test place p 11 (IsWithin-facts true)
-IsWithin-parts false k test place p = parts_by false k test place p 8 (IsWithin-facts false)
+IsWithin-parts true k test place p = parts_by true k test place p 13 (IsWithin-facts true k.region)
+IsWithin-parts false k test place p = parts_by false k test place p 8 (IsWithin-facts false k.region)
 
 pub IsWithin-relations : (region : Region) (test : Option ℕ) → IsWithin (relations_at region test) 30
 unfolding relations_at

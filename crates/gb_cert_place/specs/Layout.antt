@@ -83,9 +83,9 @@ item_layout form index = value_then form (item_owner (rules_in form) index) []
 abbrev pub told_layout : Layout
 told_layout = (field.Told, 30) ∷ []
 
--- the same in version 4 with what is said of the whole program: 125 bytes at most, of which eight fills are 72
+-- the same in version 4 with what is said of the whole program: 131 bytes at most, of which eight fills are 72
 abbrev pub told_whole_layout : Layout
-told_whole_layout = (field.ToldWhole, 125) ∷ []
+told_whole_layout = (field.ToldWhole, 131) ∷ []
 
 abbrev pub cell_layout : Form → ℕ → Layout
 cell_layout form index = (field.CellAddress index, 2) ∷ value_then form (owner.Cell index) []

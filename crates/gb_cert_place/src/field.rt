@@ -277,7 +277,7 @@ pub fn field_at(block: Block, byte: usize) -> (Field, usize)
         Block::ItemCount { .. } => lookup(&[(Field::ItemCount, 1)], byte),
         Block::Item { form, index } => lookup(&item_layout(form, index), byte),
         Block::Told { .. } => lookup(&[(Field::Told, 30)], byte),
-        Block::ToldWhole { .. } => lookup(&[(Field::ToldWhole, 125)], byte),
+        Block::ToldWhole { .. } => lookup(&[(Field::ToldWhole, 131)], byte),
         Block::CellCount { .. } => lookup(&[(Field::CellCount, 1)], byte),
         Block::Cell { form, index, .. } => lookup(&cell_layout(form, index), byte),
         Block::Key { version, .. } => lookup(

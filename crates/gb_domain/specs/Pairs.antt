@@ -4,6 +4,8 @@ use Rattle.gb_domain.specs.declared.pairs.WordPair.{WordPair}
 use Rattle.gb_domain.specs.declared.pairs.WordPair.TheVariants as pair
 use Rattle.gb_domain.specs.declared.pairs.Bounds.{Bounds}
 use Rattle.gb_domain.specs.declared.pairs.PairBounds.{PairBounds}
+use Rattle.gb_domain.specs.declared.pairs.Other.{Other}
+use Rattle.gb_domain.specs.declared.pairs.Other.TheVariants as other
 use Rattle.gb_domain.specs.declared.pairs.Link.{Link}
 use Rattle.gb_domain.specs.declared.pairs.PairFacts.{PairFacts}
 use Rattle.gb_domain.specs.declared.pairs.Pairs.{Pairs}
@@ -37,15 +39,21 @@ bounds_in pair.Hl b = b.hl
 abbrev pub is_factor : ℕ → Bool
 is_factor n = nat_le 1 n && nat_le n 127 || nat_le 65408 n && nat_le n 65535
 
-pub record IsLink (l : Link) : Type 0 where
+-- what is read of memory stands at an address where a link may read
+abbrev pub IsReadAt : (ℕ → Bool) → Other → Type 0
+IsReadAt may_be (other.Cell a) = may_be a ≡ true
+IsReadAt may_be _ = Unit {0}
+
+pub record IsLink (may_be : ℕ → Bool) (l : Link) : Type 0 where
+  pub other : IsReadAt may_be l.other
   pub factor : is_factor l.factor ≡ true
   pub sum : l.sum < 65536
   pub width : l.width < 65536
 
-pub record IsPairFacts (f : PairFacts) : Type 0 where
+pub record IsPairFacts (may_be : ℕ → Bool) (f : PairFacts) : Type 0 where
   pub last : f.bounds.last < 65536
-  pub link : IfSome f.link IsLink
+  pub link : IfSome f.link (IsLink may_be)
 
--- what may be known of pairs
-pub record ArePairs (s : Pairs) : Type 0 where
-  pub each : (p : WordPair) → IsPairFacts (facts_of p s)
+-- what may be known of pairs, where links may read memory at such addresses
+pub record ArePairs (may_be : ℕ → Bool) (s : Pairs) : Type 0 where
+  pub each : (p : WordPair) → IsPairFacts may_be (facts_of p s)

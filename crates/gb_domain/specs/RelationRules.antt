@@ -53,10 +53,11 @@ is_known f = is_some f.link || not (f.bounds.first == 0 && f.bounds.last == 0xFF
 
 -- ---- all of them
 
--- The byte, whose address may be such, and the pairs are such, and each pair's bounds are in order.
-pub record IsRelations (may_be : ℕ → Bool) (r : Relations) : Type 0 where
+-- The byte, whose address may be such, and the pairs, whose links may read memory at such addresses, are such, and each pair's bounds
+-- are in order.
+pub record IsRelations (may_be may_read : ℕ → Bool) (r : Relations) : Type 0 where
   pub byte : IsOneByte may_be r.byte
-  pub pairs : ArePairs r.pairs
+  pub pairs : ArePairs may_read r.pairs
   pub order : (p : WordPair) → (facts_of p r.pairs).bounds.first ≤ (facts_of p r.pairs).bounds.last
 
 -- ---- a test of A alone, as versions 1 and 2 know it

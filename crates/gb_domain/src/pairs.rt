@@ -1,5 +1,5 @@
-//! What is known of register pairs beside their bytes: bounds of 16 bits, and links with what else a register holds (abstract
-//! interpretation: a weakly relational domain; own format).
+//! What is known of register pairs beside their bytes: bounds of 16 bits, and links with what else a register or a byte of RAM holds
+//! (abstract interpretation: a weakly relational domain; own format).
 
 ghost use Rattle.std.specs.Prelude.{◌≡◌};
 ghost use Rattle.gb_domain.specs.Pairs.{no_pairs};
@@ -34,6 +34,8 @@ pub struct PairBounds {
 pub enum Other {
     Register(Register),
     Pair(WordPair),
+    /// The byte at an address of RAM outside the stack region: so by the rules of version 4.
+    Cell(u16),
     /// It counts as 0: so by the rules of version 4, where there is a base.
     Nothing,
 }

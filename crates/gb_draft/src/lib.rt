@@ -25,10 +25,10 @@ pub use gb_fixpoint::register_set::{REGISTERS, RegisterSet};
 pub use gb_fixpoint::types::{Run, Spot};
 pub use gb_fixpoint::{
     ANY_PAIRS, Abs, AbsRead, AbsWrite, Bounds, Cell, Cert, Core, Ctl, Fact, Flg, INTERRUPT_COUNT,
-    KnownRegisters, May, NOTHING_KNOWN, OneByte, Origin, PADDING, PairBounds, PairFacts, Pairs,
-    Program, Range, Relations, Resumed, Rom, Rules, Setting, Span, Stack, Successor, Successors,
-    Target, Val, Verdict, WORD_PAIRS, WordPair, any, callee_at, check, check_irqs, check_node,
-    covers, covers_core, enter, exit_of, gb_ops, handler, is_ram, kept_of, known_bytes,
-    left_by_dispatch, limits, may_come, pair_bounds, program_of, ranges_of, resume, stack_of,
-    successors_of, taken_by, vector_of,
+    KnownRegisters, May, NOTHING_KNOWN, OneByte, Origin, Other, PADDING, PairBounds, PairFacts,
+    Pairs, Program, Range, Relations, Resumed, Rom, Rules, Setting, Span, Stack, Successor,
+    Successors, Target, Val, Verdict, WORD_PAIRS, WordPair, any, callee_at, check, check_irqs,
+    check_node, covers, covers_core, enter, exit_of, facts_of, gb_ops, handler, is_ram, kept_of,
+    known_bytes, left_by_dispatch, limits, may_come, pair_bounds, program_of, ranges_of, resume,
+    stack_of, successors_of, taken_by, vector_of,
 };

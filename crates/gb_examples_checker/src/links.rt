@@ -40,6 +40,12 @@ const ALONE: Link = Link {
     ..PLAIN
 };
 
+/// HL + the byte at C0A0 = C000.
+const READING: Link = Link {
+    other: Other::Cell(0xC0A0),
+    ..PLAIN
+};
+
 /// A state that knows this of HL, and nothing else of several parts together.
 fn state_with(link: Link) -> Abs {
     let mut pairs = Pairs::default();
@@ -80,16 +86,18 @@ fn with_state(alloc: Global, version: Version, state: &Abs) -> Result<Vec<u8>, W
 }
 
 /// Links, and whether a version can say them.
-const SAID: [(Version, Link, bool); 11] = [
+const SAID: [(Version, Link, bool); 13] = [
     (Version::Two, PLAIN, false),
     (Version::Three, PLAIN, true),
     (Version::Three, Link { width: 1, ..PLAIN }, false),
     (Version::Three, BASED, false),
     (Version::Three, ALONE, false),
+    (Version::Three, READING, false),
     (Version::Four, PLAIN, true),
     (Version::Four, Link { width: 1, ..PLAIN }, true),
     (Version::Four, BASED, true),
     (Version::Four, ALONE, true),
+    (Version::Four, READING, true),
     // It says nothing of two parts, and there is no field for a factor.
     (
         Version::Four,
@@ -116,7 +124,7 @@ fn links_are_written_where_a_version_has_them(rt: HostRuntime) {
 }
 
 /// Links of version 4, and the bytes after HL's bounds that say them.
-const SPELLED: [(Link, &[u8]); 6] = [
+const SPELLED: [(Link, &[u8]); 8] = [
     (PLAIN, &[0x01, 0x01, 0x00, 0xC0]),
     (
         Link {
@@ -143,6 +151,17 @@ const SPELLED: [(Link, &[u8]); 6] = [
             ..ALONE
         },
         &[0xCD, 0x02, 0x00, 0xC0, 0x01, 0x00],
+    ),
+    (READING, &[0x0B, 0xA0, 0xC0, 0x01, 0x00, 0xC0]),
+    (
+        Link {
+            other: Other::Cell(0xFF80),
+            factor: 0xFFFE,
+            base: Some(WordPair::De),
+            sum: 0x0004,
+            width: 0x0100,
+        },
+        &[0xCB, 0x80, 0xFF, 0xFE, 0x01, 0x04, 0x00, 0x00, 0x01],
     ),
 ];
 

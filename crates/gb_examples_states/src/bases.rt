@@ -10,12 +10,19 @@ use gb_ops::op::Register;
 use gb_ops::op::Register::{A, B, C, D, E, H, L};
 use gb_ops::registers::Registers;
 use gb_pairs::written::without_bases;
-use gb_relations::returned::{Kept, returned};
+use gb_relations::returned::{Kept, ReadKept, returned};
 use gb_samples::relations::{are_pairs_same, are_same};
 use std::process::Abort;
 
 /// Registers that a callee gives back as they were.
-type Given = &'static [Register];
+pub type Given = &'static [Register];
+
+/// No byte of RAM that a link reads is given back.
+pub const NONE_READ: ReadKept = ReadKept {
+    bc: false,
+    de: false,
+    hl: false,
+};
 
 #[derive(Clone, Copy)]
 pub enum BasedStep {
@@ -40,8 +47,8 @@ fn enters(before: Facts, after: Facts) -> bool {
     )
 }
 
-/// Flags and memory aren't given back.
-fn kept_by(given: Given) -> Kept {
+/// Flags and the place in memory aren't given back.
+fn kept_by(given: Given, read: ReadKept) -> Kept {
     let mut registers = Registers {
         a: false,
         b: false,
@@ -58,13 +65,15 @@ fn kept_by(given: Given) -> Kept {
         registers,
         flags: false,
         address: false,
+        read,
     }
 }
 
-fn returns(given: Given, caller: Facts, exit: Facts, after: Facts) -> bool {
+/// Whether this is known after a call, where the callee gives back registers and bytes that links of its caller read.
+pub fn returns(given: Given, read: ReadKept, caller: Facts, exit: Facts, after: Facts) -> bool {
     let known = KnownFact::new(caller);
     let left = returned(
-        &kept_by(given),
+        &kept_by(given, read),
         &known.registers,
         &known.relations,
         &KnownFact::new(exit).relations,
@@ -84,7 +93,7 @@ fn agrees(step: &BasedStep) -> bool {
         }
         Covers(s, t, is_so) => covers_all(true, s, t) == is_so,
         Enters(before, after) => enters(before, after),
-        Returns(given, caller, exit, after) => returns(given, caller, exit, after),
+        Returns(given, caller, exit, after) => returns(given, NONE_READ, caller, exit, after),
     }
 }
 

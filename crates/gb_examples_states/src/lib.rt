@@ -3,7 +3,8 @@
 //! safe.
 //!
 //! Read arithmetic.rt first (intervals and flags), then branches.rt, states.rt, effects.rt and strided.rt (low bits); then, for the rules of version 3,
-//! stacks.rt, facts.rt (states in few words), together.rt and related.rt; for links with a base, bases.rt.
+//! stacks.rt, facts.rt (states in few words), together.rt and related.rt; for links with a base, bases.rt, and for
+//! those that read a byte of RAM, cells.rt.
 #![tactic(auto)]
 
 #[cfg(test)]
@@ -12,6 +13,8 @@ mod arithmetic;
 mod bases;
 #[cfg(test)]
 mod branches;
+#[cfg(test)]
+mod cells;
 #[cfg(test)]
 mod effects;
 #[cfg(test)]

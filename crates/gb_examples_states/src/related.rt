@@ -13,11 +13,11 @@ use gb_ops::op::Register::{A, B, C, D, E, H};
 use gb_ops::op::{Condition, Indirect, Op, Operand, Pair, Register};
 use gb_pairs::moved::added;
 use gb_pairs::reduced::reduce;
-use gb_product::Program;
 use gb_product::covering::covers;
 use gb_product::parts::{Branch, Product};
 use gb_product::reduced::reduced;
 use gb_product::sides::{not_taken_side, taken_side};
+use gb_product::{Program, States, read_in};
 use gb_relations::pointers::{known_carry, pointer_bounds};
 use gb_samples::relations::are_pairs_same;
 use gb_samples::states::ANY;
@@ -104,7 +104,13 @@ fn passed(condition: Condition, before: Facts) -> Option<Product> {
     let state = known.state();
     let jump = Op::JumpRelativeIf(condition, 5);
     let side = not_taken_side(jump, known.memory, state.core(), state.relations())?;
-    reduced(Rules::Extended, &ANY_PAIRS, &side.core, &side.relations)
+    reduced(
+        Rules::Extended,
+        &ANY_PAIRS,
+        &ANY_PAIRS,
+        &side.core,
+        &side.relations,
+    )
 }
 
 /// Whether a jump that isn't taken leaves this of registers and pairs.
@@ -151,7 +157,14 @@ fn points(op: Op, before: Facts, within: Option<(u16, u16)>) -> bool {
 /// Whether this is left once it is reduced, where the pairs lay within bounds as the procedure was entered.
 pub fn reduces(entered: &PairBounds, before: Facts, after: Option<Facts>) -> bool {
     let mut known = KnownFact::new(before);
-    let is_left = reduce(entered, &mut known.registers, &mut known.relations.pairs);
+    let state = known.state();
+    let read = read_in(
+        &Program::unknown(),
+        &States::of(&state),
+        &known.relations.pairs,
+    );
+    let pairs = &mut known.relations.pairs;
+    let is_left = reduce(entered, &read, &mut known.registers, pairs);
     match after {
         Some(after) => {
             let wanted = KnownFact::new(after);

@@ -47,7 +47,7 @@ const REGION: Region = Region {
 };
 
 /// A stack of which no item may be a place.
-const STACK: StackBytes = StackBytes {
+pub const STACK: StackBytes = StackBytes {
     region: REGION,
     base: 0,
     count: 0,

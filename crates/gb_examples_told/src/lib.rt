@@ -24,6 +24,8 @@ mod findings;
 #[cfg(test)]
 mod lines;
 #[cfg(test)]
+mod linked_places;
+#[cfg(test)]
 mod pages;
 #[cfg(test)]
 mod places;

@@ -12,10 +12,10 @@ use std::process::Abort;
 use std::test::Fail;
 
 /// A fault, its part and its field, the field's first byte, and where reading stops.
-type Place = (CertFault, Part, Field, usize, usize);
+pub type Place = (CertFault, Part, Field, usize, usize);
 
 /// Bytes that are replaced, and where the fault is then.
-type Step = (&'static [(usize, u8)], Place);
+pub type Step = (&'static [(usize, u8)], Place);
 
 /// Whether the fault of these bytes is there.
 fn is_at(alloc: Global, bytes: &[u8], place: &Place) -> bool {
@@ -31,7 +31,7 @@ fn is_at(alloc: Global, bytes: &[u8], place: &Place) -> bool {
 }
 
 /// Plays steps on the same bytes.
-fn play(rt: &impl Abort, alloc: Global, bytes: &mut [u8], steps: &[Step]) {
+pub fn play(rt: &impl Abort, alloc: Global, bytes: &mut [u8], steps: &[Step]) {
     for (i, (changes, place)) in steps.iter().enumerate() {
         replace(bytes, changes);
         assert!(rt; is_at(alloc, bytes, place), "step {i}");
@@ -49,7 +49,7 @@ const HEAD: Part = Part::Head;
 
 const MAIN: Part = Part::Procedure(0);
 
-const NODE: Part = Part::Node(2);
+pub const NODE: Part = Part::Node(2);
 
 const CUT_SHORT: CertFault = CertFault::CutShort;
 
@@ -59,13 +59,13 @@ const VERSION: CertFault = CertFault::Version;
 
 const COUNT: CertFault = CertFault::Count;
 
-const FIELD: CertFault = CertFault::Field;
+pub const FIELD: CertFault = CertFault::Field;
 
 const ORDER: CertFault = CertFault::Order;
 
 const REGION: CertFault = CertFault::Region;
 
-const LEFT_OVER: CertFault = CertFault::LeftOver;
+pub const LEFT_OVER: CertFault = CertFault::LeftOver;
 
 /// The greatest of A.
 const A: Field = Field::ValueGreatest(Owner::Register(Register::A));
@@ -176,7 +176,7 @@ fn changed_bytes_of_version_3_are_found(rt: HostRuntime) {
 /// The least certificate in version 4, which counts procedures in two bytes, with a fact behind the head, at 17: C000 holds
 /// 00 to 03. Main, at 25, keeps no addresses and has no mark, and its nodes, at 37, 87 and 137, take two bytes each for their
 /// procedure and for what is there.
-fn least_in_version_4() -> [u8; 187] {
+pub fn least_in_version_4() -> [u8; 187] {
     let mut bytes = [0; 187];
     let third = least_in_version_3();
     put(&mut bytes, 0, &third[..9]);
@@ -368,103 +368,6 @@ fn an_item_that_holds_the_one_byte_is_found(rt: HostRuntime) {
     let mut bytes = [0; 200];
     put(&mut bytes, 0, &least_in_version_4());
     play(&rt, rt.alloc(), &mut bytes, ITEM_STEPS);
-}
-
-/// A link of BC with A in the last node of version 4, behind BC's bounds at 186, which are 0 to 1: its form is at 190, its factor at
-/// 191, its sum at 192 and its width at 194. The width is 0; no link has one; a form has bit 5, or reads an eleventh other, with a width or
-/// without; and the factor is 0. With a right width what is left over begins behind the number of cells, and so it does
-/// without one.
-const WIDE_LINKS: &[Step] = &[
-    (
-        &[(184, 0x10), (188, 0x01), (190, 0x81), (191, 0x01)],
-        (FIELD, NODE, Field::ToldWhole, 184, 196),
-    ),
-    (&[(190, 0x80)], (FIELD, NODE, Field::ToldWhole, 184, 191)),
-    (&[(190, 0x21)], (FIELD, NODE, Field::ToldWhole, 184, 191)),
-    (&[(190, 0x8B)], (FIELD, NODE, Field::ToldWhole, 184, 191)),
-    (&[(190, 0x0B)], (FIELD, NODE, Field::ToldWhole, 184, 191)),
-    (
-        &[(190, 0x8A), (191, 0x00)],
-        (FIELD, NODE, Field::ToldWhole, 184, 192),
-    ),
-    (
-        &[(191, 0x01), (194, 0x01)],
-        (LEFT_OVER, Part::End, Field::LeftOver, 197, 197),
-    ),
-    (
-        &[(190, 0x01), (194, 0x00)],
-        (LEFT_OVER, Part::End, Field::LeftOver, 195, 195),
-    ),
-];
-
-#[test]
-fn widths_of_links_are_found(rt: HostRuntime) {
-    let mut bytes = [0; 200];
-    put(&mut bytes, 0, &least_in_version_4());
-    play(&rt, rt.alloc(), &mut bytes, WIDE_LINKS);
-}
-
-/// The same link with a base, which is at 192, after its factor, and before its sum. The base is a fourth pair; no link has one; a form
-/// reads nothing else and has no base, without a width and with one; or an eleventh other; or has bit 5. With a right base what is left
-/// over begins after the number of cells. Where nothing else is read the base is at 191: it is one, with a width or without, and is a
-/// fourth pair.
-const BASED_LINKS: &[Step] = &[
-    (
-        &[
-            (184, 0x10),
-            (188, 0x01),
-            (190, 0x41),
-            (191, 0x01),
-            (192, 0x03),
-        ],
-        (FIELD, NODE, Field::ToldWhole, 184, 193),
-    ),
-    (&[(190, 0x40)], (FIELD, NODE, Field::ToldWhole, 184, 191)),
-    (&[(190, 0x0D)], (FIELD, NODE, Field::ToldWhole, 184, 191)),
-    (&[(190, 0x8D)], (FIELD, NODE, Field::ToldWhole, 184, 191)),
-    (&[(190, 0x4B)], (FIELD, NODE, Field::ToldWhole, 184, 191)),
-    (&[(190, 0x61)], (FIELD, NODE, Field::ToldWhole, 184, 191)),
-    (
-        &[(190, 0x41), (192, 0x02)],
-        (LEFT_OVER, Part::End, Field::LeftOver, 196, 196),
-    ),
-    (
-        &[(190, 0x4D), (192, 0x00)],
-        (LEFT_OVER, Part::End, Field::LeftOver, 195, 195),
-    ),
-    (
-        &[(190, 0xCD), (194, 0x01)],
-        (LEFT_OVER, Part::End, Field::LeftOver, 197, 197),
-    ),
-    (&[(191, 0x03)], (FIELD, NODE, Field::ToldWhole, 184, 192)),
-];
-
-#[test]
-fn bases_of_links_are_found(rt: HostRuntime) {
-    let mut bytes = [0; 200];
-    put(&mut bytes, 0, &least_in_version_4());
-    play(&rt, rt.alloc(), &mut bytes, BASED_LINKS);
-}
-
-/// The same link in the last node of version 3, behind BC's bounds at 167: the form of one with a width isn't one there, and that of one
-/// with a base isn't either.
-const THIRD_LINKS: &[Step] = &[
-    (
-        &[(166, 0x10), (169, 0x01), (171, 0x81), (172, 0x01)],
-        (FIELD, NODE, Field::Told, 166, 172),
-    ),
-    (&[(171, 0x41)], (FIELD, NODE, Field::Told, 166, 172)),
-    (
-        &[(171, 0x01)],
-        (LEFT_OVER, Part::End, Field::LeftOver, 176, 176),
-    ),
-];
-
-#[test]
-fn version_3_has_no_widths_and_no_bases(rt: HostRuntime) {
-    let mut bytes = [0; 200];
-    put(&mut bytes, 0, &least_in_version_3());
-    play(&rt, rt.alloc(), &mut bytes, THIRD_LINKS);
 }
 
 /// A second procedure at 37: entry 1, no base, no need, no range; it keeps C010 and C020, at 47, has the mark 2, and an

@@ -293,18 +293,12 @@ impl Differences {
         );
     }
 
-    /// What is known of several parts together; the registers are those of s.
-    fn note_relations(
-        &mut self,
-        is_whole: bool,
-        registers: &Registers<Val>,
-        s: &Relations,
-        t: &Relations,
-    )
-        ensures { IsNoted self.old.count self.new.count (covers_relations is_whole registers.now s.now t.now) }
+    /// What is known of several parts together.
+    fn note_relations(&mut self, program: &Program<'_>, states: &States<'_>, t: &Relations)
+        ensures { IsNoted self.old.count self.new.count (covers_relations program.now states.now.core.now.registers states.now.lists.now.cells states.now.summary.now states.now.relations.now t.now) }
     {
-        let (part, known) = known_together(s, t);
-        self.note(covers_relations(is_whole, registers, s, t), part, known);
+        let (part, known) = known_together(states.relations, t);
+        self.note(covers_relations(program, states, t), part, known);
     }
 
     /// A part is one of them, unless there is none.
@@ -372,12 +366,7 @@ impl Differences {
     {
         let states = States::of(s);
         self.note_core(program.kind, s.core(), t.core());
-        self.note_relations(
-            program.is_whole,
-            &s.core().registers,
-            s.relations(),
-            t.relations(),
-        );
+        self.note_relations(program, &states, t.relations());
         self.note_items(rules, 0, s.items(), t.items());
         self.note_cells(program, &states, t.cells());
         self.note_summary(program, &states, t);

@@ -84,15 +84,6 @@ fn pair_name(pair: WordPair) -> &'static str {
     }
 }
 
-/// What a link reads besides its pair and its base, if it reads something.
-fn other_name(other: Other) -> Option<&'static str> {
-    match other {
-        Other::Register(register) => Some(register.name()),
-        Other::Pair(pair) => Some(pair_name(pair)),
-        Other::Nothing => None,
-    }
-}
-
 /// Prints the places of a byte, and answers what separates them from the next fact.
 fn fmt_places<W: fmt::Write>(
     byte: &OneByte,
@@ -120,6 +111,16 @@ fn fmt_test<W: fmt::Write>(test: Option<Test>, f: &mut fmt::Formatter<W>) -> fmt
     }
 }
 
+/// Prints what a link reads besides its pair and its base, if it reads something.
+fn fmt_other<W: fmt::Write>(other: Other, factor: u16, f: &mut fmt::Formatter<W>) -> fmt::Result {
+    match other {
+        Other::Register(register) => write!(f, " + ${factor:04X} * {}", register.name()),
+        Other::Pair(pair) => write!(f, " + ${factor:04X} * {}", pair_name(pair)),
+        Other::Cell(address) => write!(f, " + ${factor:04X} * the byte at ${address:04X}"),
+        Other::Nothing => Ok(()),
+    }
+}
+
 fn fmt_link<W: fmt::Write>(pair: &str, link: Link, f: &mut fmt::Formatter<W>) -> fmt::Result {
     let Link {
         other,
@@ -129,9 +130,7 @@ fn fmt_link<W: fmt::Write>(pair: &str, link: Link, f: &mut fmt::Formatter<W>) ->
         width,
     } = link;
     write!(f, "{pair}")?;
-    if let Some(other) = other_name(other) {
-        write!(f, " + ${factor:04X} * {other}")?;
-    }
+    fmt_other(other, factor, f)?;
     if let Some(base) = base {
         write!(f, " - {} at entry", pair_name(base))?;
     }

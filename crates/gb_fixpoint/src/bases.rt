@@ -4,8 +4,10 @@
 use crate::types::Run;
 use gb_joining::bases::{has_bases, may_be_offered, offer_bases, pair_bounds};
 use gb_joining::gb_domain::pairs::{ANY_PAIRS, PairBounds};
+use gb_joining::gb_ops::op::Op;
 use gb_joining::gb_verify::Abs;
 use gb_joining::instruction::decoded;
+use gb_joining::naming::{give_way, may_be_named, may_give_way, name_places};
 use gb_joining::stop::RunStop;
 
 impl<'a> Run<'a> {
@@ -31,14 +33,56 @@ impl<'a> Run<'a> {
                 Ok(row) => Some(row.op),
                 Err(_) => None,
             };
-            offer_bases(op, state);
+            offer_bases(&self.program(), op, state);
+        }
+    }
+
+    /// The instruction at an address, if the links of a state could name what they read in two ways before it.
+    fn named_before(&self, state: &Abs, address: u16) -> Option<Op> {
+        if !self.is_fourth() || !may_be_named(self.configuration.region, state) {
+            return None;
+        }
+        match decoded(&self.program(), self.rom, state, address) {
+            Ok(row) => Some(row.op),
+            Err(_) => None,
+        }
+    }
+
+    /// The links of a state name what they read as the instruction at an address asks for it.
+    pub(crate) fn name_places(&self, state: &mut Abs, address: u16) {
+        if let Some(op) = self.named_before(state, address) {
+            name_places(self.configuration.region, op, state);
+        }
+    }
+
+    /// The one byte gives way to a copy of a pair, as the instruction at an address asks for it.
+    pub(crate) fn give_way(&self, state: &mut Abs, address: u16) {
+        if self.is_fourth()
+            && may_give_way(self.configuration.region, state)
+            && let Ok(row) = decoded(&self.program(), self.rom, state, address)
+        {
+            give_way(row.op, state);
+        }
+    }
+
+    /// The links of a node that grew, which may be new, name what they read as its instruction asks for it.
+    pub(crate) fn name_places_at(&mut self, number: usize) {
+        let named = match self.nodes.get(number) {
+            Some(node) => self.named_before(&node.state, node.key.address),
+            None => None,
+        };
+        let region = self.configuration.region;
+        if let Some(op) = named
+            && let Some(node) = self.nodes.get_mut(number)
+        {
+            name_places(region, op, &mut node.state);
         }
     }
 
     /// A state in which a procedure returns gets the links that its callers are to know.
     pub(crate) fn leave_bases(&self, state: &mut Abs) {
         if self.is_fourth() && has_bases(state) {
-            offer_bases(None, state);
+            offer_bases(&self.program(), None, state);
         }
     }
 

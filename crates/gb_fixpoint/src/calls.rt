@@ -52,6 +52,7 @@ impl<'a> Run<'a> {
             self.lower_at_handler(&mut entered)?;
         }
         self.offer_bases(callee, &mut entered, target);
+        self.name_places(&mut entered, target);
         self.arrive(Some(number), NodeKey::of_entry(callee, point), &entered)?;
         self.inherit_ranges(procedure, callee)?;
         self.go_behind(number, callee, caller, back)

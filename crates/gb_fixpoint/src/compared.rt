@@ -9,7 +9,7 @@ use gb_joining::gb_domain::interval::{bounds, cut};
 use gb_joining::gb_domain::values::interval_of;
 use gb_joining::gb_ops::op::{Operand, Register};
 use gb_joining::gb_verify::gb_calls::with_cell;
-use gb_joining::gb_verify::{Abs, May, States, Val, byte_of, is_ram, reduced};
+use gb_joining::gb_verify::{Abs, May, States, Val, byte_of, is_ram, read_in, reduced};
 use gb_joining::joining::val_of;
 use gb_joining::keys::KnownRegisters;
 use gb_joining::stop::RunStop;
@@ -134,7 +134,8 @@ impl<'a> Run<'a> {
         let interval = cut(interval_of(val), bounds(lo, hi))?;
         let mut part = with_cell(self.rules(), state, address, val_of(interval, val.origin));
         let entered = self.pairs_at_entry(procedure);
-        let product = reduced(self.rules(), &entered, part.core(), part.relations())?;
+        let read = read_in(&self.program(), &States::of(&part), &part.relations().pairs);
+        let product = reduced(self.rules(), &entered, &read, part.core(), part.relations())?;
         part.set_core(product.core);
         part.set_relations(product.relations);
         Some(part)

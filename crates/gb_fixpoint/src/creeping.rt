@@ -7,6 +7,7 @@ use gb_joining::gb_ops::op::{Indirect, Op, Operand, Register, StackPair};
 use gb_joining::gb_verify::{Abs, Cell, Val, any, cell_at};
 use gb_joining::instruction::decoded;
 use gb_joining::limits::{CREEPS, POINT_STEPS};
+use gb_joining::naming::is_read;
 use gb_joining::steps::with_known_bits;
 use gb_joining::stop::RunStop;
 
@@ -101,7 +102,7 @@ impl<'a> Run<'a> {
         Ok(())
     }
 
-    /// Counts that cells are widened at a node. Those that were often go further.
+    /// Counts that cells are widened at a node. Those that were often go further, but not where a link reads them: such a counter ends.
     pub(crate) fn hasten(&mut self, number: usize, grown: &mut Abs) -> Result<(), RunStop> {
         let Some(node) = self.nodes.get(number) else {
             return Ok(());
@@ -115,7 +116,7 @@ impl<'a> Run<'a> {
             };
             let count = self.creeps.entry(creep)?.or_insert(0);
             *count = count.saturating_add(1);
-            if *count > CREEPS {
+            if *count > CREEPS && !is_read(*cell, grown.relations()) {
                 let _ = often.try_push(*cell);
             }
         }

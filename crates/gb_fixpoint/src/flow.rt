@@ -10,7 +10,7 @@ use gb_joining::covering::is_covered;
 use gb_joining::gb_domain::interval::{bounds, cut};
 use gb_joining::gb_domain::values::interval_of;
 use gb_joining::gb_ops::op::Register;
-use gb_joining::gb_verify::{Abs, Cell, Core, Rules, Val, reduced};
+use gb_joining::gb_verify::{Abs, Cell, Core, Rules, States, Val, read_in, reduced};
 use gb_joining::joining::val_of;
 use gb_joining::keys::{ControllerKey, KnownRegisters, NodeKey};
 use gb_joining::limits::{
@@ -45,6 +45,8 @@ impl<'a> Run<'a> {
         self.settle(state);
         self.offer_fills(state, point.address);
         self.offer_bases(procedure, state, point.address);
+        self.name_places(state, point.address);
+        self.give_way(state, point.address);
         let place = TargetPlace {
             target: self.target(procedure),
             point,
@@ -134,7 +136,12 @@ impl<'a> Run<'a> {
         let interval = cut(interval_of(val), bounds(lo, hi))?;
         core.registers.set(register, val_of(interval, val.origin));
         let entered = self.pairs_at_entry(procedure);
-        let product = reduced(self.rules(), &entered, &core, state.relations())?;
+        let narrowed = States {
+            core: &core,
+            ..States::of(state)
+        };
+        let read = read_in(&self.program(), &narrowed, &state.relations().pairs);
+        let product = reduced(self.rules(), &entered, &read, &core, state.relations())?;
         let mut single = state.with_core(product.core);
         single.set_relations(product.relations);
         Some(single)
@@ -429,6 +436,7 @@ impl<'a> Run<'a> {
         } else {
             self.widen(number, growth, state)?;
         }
+        self.name_places_at(number);
         if let Some(node) = self.nodes.get_mut(number) {
             node.growths = node.growths.saturating_add(1);
         }

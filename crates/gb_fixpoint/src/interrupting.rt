@@ -15,8 +15,8 @@ use gb_joining::gb_verify::{
     covers_said, covers_val, left_by_dispatch, may_come,
 };
 use gb_joining::handlers::{
-    entered_core, gives_back_all, has_links, holds_cells, holds_core, holds_summary, is_in,
-    return_word,
+    are_reads_kept, entered_core, gives_back_all, has_links, holds_cells, holds_core,
+    holds_summary, is_in, return_word,
 };
 use gb_joining::keys::ProcedureKey;
 use gb_joining::register_set::{REGISTERS, RegisterSet};
@@ -152,9 +152,11 @@ impl<'a> Run<'a> {
             && are_items_known(state.items(), &return_word(node.key.address))
             && self.are_cells_entered(state.cells(), node.state.cells())
             && covers_relations(
-                program.is_whole,
-                &entered.registers,
-                node.state.relations(),
+                &program,
+                &States {
+                    core: entered,
+                    ..States::of(&node.state)
+                },
                 state.relations(),
             )
             && covers_said(
@@ -200,6 +202,7 @@ impl<'a> Run<'a> {
             && holds_core(kind, state.core(), exit.core())
             && !has_links(&exit.relations().pairs)
             && is_place_kept
+            && are_reads_kept(ranges, &state.relations().pairs)
             && holds_cells(self.kept.as_slice(), ranges, state.cells(), exit.cells())
             && holds_summary(ranges, state.summary(), exit)
     }

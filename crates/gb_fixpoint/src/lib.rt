@@ -41,7 +41,7 @@ pub use types::{
 
 // What lies below, for the crates above.
 pub use gb_joining::bases::pair_bounds;
-pub use gb_joining::bounds::WORD_PAIRS;
+pub use gb_joining::bounds::{WORD_PAIRS, facts_of};
 pub use gb_joining::cause::{Cause, Failure, RunEnd, StackMisuse, TransferMisuse, Wish};
 pub use gb_joining::configuration::{Configuration, Edition, EntryCells, TargetPlace, TouchedCell};
 pub use gb_joining::gb_domain::pairs::{ANY_PAIRS, PairBounds};
@@ -52,13 +52,15 @@ pub use gb_joining::gb_verify::check::check;
 pub use gb_joining::gb_verify::verdict::Verdict;
 pub use gb_joining::gb_verify::{
     Abs, AbsRead, AbsWrite, Bounds, Cell, Cert, Core, Ctl, Flg, ImeSet, May, NOTHING_KNOWN,
-    NodeRef, OneByte, Origin, PairFacts, Pairs, Program, Range, Relations, Resumed, Rom, Rules,
-    Setting, Span, Stack, Successor, Successors, Target, Val, WordPair, any, callee_at, cell_at,
-    check_irqs, check_node, covers, covers_core, enter, exit_of, handler, is_ram, kept_of,
+    NodeRef, OneByte, Origin, Other, PairFacts, Pairs, Program, Range, Relations, Resumed, Rom,
+    Rules, Setting, Span, Stack, Successor, Successors, Target, Val, WordPair, any, callee_at,
+    cell_at, check_irqs, check_node, covers, covers_core, enter, exit_of, handler, is_ram, kept_of,
     known_bank, known_bytes, left_by_dispatch, may_come, program_of, ranges_of, resume, stack_of,
     successors_of, taken_by,
 };
 pub use gb_joining::instruction::code_at;
 pub use gb_joining::keys::{ControllerKey, KnownRegisters, NodeKey, ProcedureKey};
 pub use gb_joining::register_set::RegisterSet;
-pub use gb_joining::{cause, code_point, configuration, gb_ops, keys, limits, register_set};
+pub use gb_joining::{
+    cause, code_point, configuration, gb_ops, keys, limits, register_set, written,
+};

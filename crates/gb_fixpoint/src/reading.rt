@@ -5,7 +5,7 @@ use crate::stacks::is_settable;
 use crate::types::{CellRead, Run};
 use gb_joining::cause::{Cause, StackMisuse, Wish};
 use gb_joining::gb_ops::op::{AluOp, Op, Operand, Pair, Register, Row};
-use gb_joining::gb_verify::{Abs, Rules, Span, known_byte, length_of, reduced};
+use gb_joining::gb_verify::{Abs, Rules, Span, States, known_byte, length_of, read_in, reduced};
 use gb_joining::instruction::{decoded, refused};
 use gb_joining::limits::CODE_AHEAD;
 use gb_joining::register_set::RegisterSet;
@@ -154,7 +154,18 @@ impl<'a> Run<'a> {
         };
         let state = &node.state;
         let entered = self.pairs_at_entry(procedure);
-        let product = reduced(self.rules(), &entered, state.core(), state.relations());
+        let read = read_in(
+            &self.program(),
+            &States::of(state),
+            &state.relations().pairs,
+        );
+        let product = reduced(
+            self.rules(),
+            &entered,
+            &read,
+            state.core(),
+            state.relations(),
+        );
         let Some(product) = product else {
             return Ok(());
         };

@@ -24,32 +24,13 @@ fn base_of(link: &Link, entered: Entered) -> Option<u16> {
     }
 }
 
-/// Whether a pair with this word, what its link reads and its base have one of the link's sums.
-fn is_linked(word: u16, link: &Link, registers: &Registers<u8>, entered: Entered) -> bool {
+/// Whether a pair with this word, the word that its link reads and its base have one of the link's sums.
+fn is_linked(word: u16, link: &Link, other: u16, entered: Entered) -> bool {
     let Some(base) = base_of(link, entered) else {
         return true;
     };
-    let other = match link.other {
-        Other::Register(register) => u16::from(registers.get(register)),
-        Other::Pair(pair) => word_of(pair, registers),
-        Other::Nothing => 0,
-    };
     let sum = word.wrapping_add(link.factor.wrapping_mul(other));
     sum.wrapping_sub(base).wrapping_sub(link.sum) <= link.width
-}
-
-fn keeps_pair(
-    pair: WordPair,
-    facts: &PairFacts,
-    registers: &Registers<u8>,
-    entered: Entered,
-) -> bool {
-    let word = word_of(pair, registers);
-    let has_sum = match &facts.link {
-        Some(link) => is_linked(word, link, registers, entered),
-        None => true,
-    };
-    facts.bounds.first <= word && word <= facts.bounds.last && has_sum
 }
 
 /// Whether the flags say of a byte what a test says.
@@ -92,14 +73,33 @@ impl ReachedState<'_> {
         }
     }
 
+    /// What a link reads besides its pair and its base.
+    fn word_read(&mut self, other: Other) -> u16 {
+        match other {
+            Other::Register(register) => u16::from(self.processor.registers.get(register)),
+            Other::Pair(pair) => word_of(pair, &self.processor.registers),
+            Other::Cell(address) => u16::from(self.memory.read(address)),
+            Other::Nothing => 0,
+        }
+    }
+
+    fn keeps_pair(&mut self, pair: WordPair, facts: &PairFacts, entered: Entered) -> bool {
+        let word = word_of(pair, &self.processor.registers);
+        let has_sum = match &facts.link {
+            Some(link) => is_linked(word, link, self.word_read(link.other), entered),
+            None => true,
+        };
+        facts.bounds.first <= word && word <= facts.bounds.last && has_sum
+    }
+
     /// Whether what is said of several parts together is so.
     pub fn keeps_relations(&mut self, relations: &Relations, entered: Entered) -> bool {
         let (registers, flags) = (self.processor.registers, self.processor.flags);
         let pairs = &relations.pairs;
         self.keeps_one_byte(&relations.byte)
             && tells_zero(relations.zero, &registers, &flags)
-            && keeps_pair(WordPair::Bc, &pairs.bc, &registers, entered)
-            && keeps_pair(WordPair::De, &pairs.de, &registers, entered)
-            && keeps_pair(WordPair::Hl, &pairs.hl, &registers, entered)
+            && self.keeps_pair(WordPair::Bc, &pairs.bc, entered)
+            && self.keeps_pair(WordPair::De, &pairs.de, entered)
+            && self.keeps_pair(WordPair::Hl, &pairs.hl, entered)
     }
 }

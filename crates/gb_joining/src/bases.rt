@@ -2,7 +2,7 @@
 //! a pointer, wherever that began. The bytes of a pair tell of themselves whether they are those that one held at entry: so a link is
 //! offered only before an instruction that moves the pair.
 
-use crate::bounds::{WORD_PAIRS, facts_of, halves_of, set_facts};
+use crate::bounds::{WORD_PAIRS, bounds_of, facts_of, halves_of, set_facts};
 use crate::joining::known_of;
 use crate::limits::{BASE_WIDTHS, LINK_WIDTH};
 use crate::relating::{KnownRelations, are_same_pairs};
@@ -10,7 +10,9 @@ use crate::sums::{Sums, hull_of, sums_in};
 use gb_verify::gb_domain::pairs::PairBounds;
 use gb_verify::gb_ops::op::{Indirect, Op, Operand, Pair, Register};
 use gb_verify::gb_ops::registers::Registers;
-use gb_verify::{Abs, Bounds, Link, Origin, Other, PairFacts, Pairs, Relations, Val, WordPair};
+use gb_verify::{
+    Abs, Bounds, Link, Origin, Other, PairFacts, Pairs, Program, Relations, Val, WordPair,
+};
 
 /// Whether a pair's bytes are those that one held as the procedure was entered.
 fn is_held(pair: WordPair, held: WordPair, registers: &Registers<Val>) -> bool {
@@ -243,13 +245,13 @@ pub fn may_be_offered(state: &Abs) -> bool {
 }
 
 /// A state of a procedure but main gets links with a base as its next instruction asks for them.
-pub fn offer_bases(op: Option<Op>, state: &mut Abs) {
+pub fn offer_bases(program: &Program<'_>, op: Option<Op>, state: &mut Abs) {
     let moved = match op {
         Some(op) => moved_by(op),
         None => None,
     };
     let mut pairs = state.relations().pairs;
-    let known = known_of(state);
+    let known = known_of(program, state);
     for pair in WORD_PAIRS {
         let is_moved = moved.is_some_and(|moved| are_same_pairs(moved, pair));
         let facts = facts_of(pair, &pairs);
@@ -265,10 +267,10 @@ pub fn offer_bases(op: Option<Op>, state: &mut Abs) {
 
 /// Within which bounds the pairs of a state lie.
 pub fn pair_bounds(state: &Abs) -> PairBounds {
-    let known = known_of(state);
+    let (registers, pairs) = (&state.core().registers, &state.relations().pairs);
     PairBounds {
-        bc: known.bounds(WordPair::Bc),
-        de: known.bounds(WordPair::De),
-        hl: known.bounds(WordPair::Hl),
+        bc: bounds_of(WordPair::Bc, registers, pairs),
+        de: bounds_of(WordPair::De, registers, pairs),
+        hl: bounds_of(WordPair::Hl, registers, pairs),
     }
 }

@@ -7,7 +7,7 @@ use gb_verify::{
 };
 
 /// The cells from an address on; they are in order of address.
-fn from_address(address: u16, cells: &[Cell]) -> &[Cell] {
+pub(crate) fn from_address(address: u16, cells: &[Cell]) -> &[Cell] {
     match cells {
         [first, rest @ ..] if first.address < address => from_address(address, rest),
         _ => cells,
@@ -48,12 +48,7 @@ pub fn is_covered(basis: &Basis<'_>, other: &Abs, state: &Abs) -> bool {
     covers_core(basis.program.kind, other.core(), state.core())
         && are_items_known(state.items(), other.items())
         && are_cells_known(state.cells(), other.cells())
-        && covers_relations(
-            basis.program.is_whole,
-            &other.core().registers,
-            other.relations(),
-            state.relations(),
-        )
+        && covers_relations(&basis.program, &States::of(other), state.relations())
         && covers_said(
             &basis.program,
             &States::of(other),

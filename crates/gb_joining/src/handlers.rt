@@ -6,8 +6,8 @@ use crate::seen::kept_origin;
 use gb_verify::gb_ops::machine::Kind;
 use gb_verify::gb_ops::registers::Registers;
 use gb_verify::{
-    Abs, Cell, Core, Ctl, Flg, ImeSet, KeptBanks, Origin, Pairs, Range, Shadows, Summary, Val,
-    cell_at, covers_controller, covers_ime, covers_val,
+    Abs, Cell, Core, Ctl, Flg, ImeSet, KeptBanks, Origin, Other, Pairs, Range, Shadows, Summary,
+    Val, cell_at, covers_controller, covers_ime, covers_val,
 };
 
 /// Each register is a copy of what it holds.
@@ -84,6 +84,17 @@ pub fn has_links(pairs: &Pairs) -> bool {
     WORD_PAIRS
         .iter()
         .any(|pair| facts_of(*pair, pairs).link.is_some())
+}
+
+/// Whether a handler with these ranges writes none of the bytes that links read in memory.
+pub fn are_reads_kept(ranges: &[Range], pairs: &Pairs) -> bool {
+    WORD_PAIRS.iter().all(|pair| match facts_of(*pair, pairs).link {
+        Some(link) => match link.other {
+            Other::Cell(address) => !is_in(ranges, address),
+            Other::Register(_) | Other::Pair(_) | Other::Nothing => true,
+        },
+        None => true,
+    })
 }
 
 pub fn is_in(ranges: &[Range], address: u16) -> bool {

@@ -10,8 +10,8 @@ use gb_verify::gb_domain::values::interval_of;
 use gb_verify::gb_ops::machine::Kind;
 use gb_verify::gb_ops::registers::Registers;
 use gb_verify::{
-    Abs, Cell, Core, Ctl, Flg, ImeSet, KeptBanks, May, Origin, Relations, Rules, Test, Val, any,
-    test_alone,
+    Abs, Cell, Core, Ctl, Flg, ImeSet, KeptBanks, May, Origin, Program, Relations, Rules, Test,
+    Val, any, test_alone,
 };
 
 /// The origin of both, if it is one.
@@ -161,19 +161,24 @@ fn join_tests(a: &Relations, b: &Relations) -> Relations {
     test_alone(if test == compared(b) { test } else { None })
 }
 
-/// The registers of a state, and what is known of several parts of it together.
-pub fn known_of(state: &Abs) -> KnownRelations<'_> {
+/// A state in a program.
+pub fn known_of<'a>(program: &'a Program<'a>, state: &'a Abs) -> KnownRelations<'a> {
     KnownRelations {
+        program,
+        state,
         registers: &state.core().registers,
         relations: state.relations(),
     }
 }
 
 /// What is known of several parts together in both.
-pub fn join_all_relations(edition: Edition, a: &Abs, b: &Abs) -> Relations {
-    match edition.rules() {
+pub fn join_all_relations(basis: &Basis<'_>, a: &Abs, b: &Abs) -> Relations {
+    let program = &basis.program;
+    match basis.rules() {
         Rules::Simple => join_tests(a.relations(), b.relations()),
-        Rules::Extended => join_relations(edition, known_of(a), known_of(b)),
+        Rules::Extended => {
+            join_relations(basis.edition, known_of(program, a), known_of(program, b))
+        }
     }
 }
 
@@ -218,7 +223,7 @@ pub fn join(basis: &Basis<'_>, a: &Abs, b: &Abs) -> Abs {
         join_core(basis, a.core(), b.core()),
         join_items(basis.edition, a.items(), b.items()),
         join_cells(basis.edition, a.cells(), b.cells()),
-        join_all_relations(basis.edition, a, b),
+        join_all_relations(basis, a, b),
         join_summaries(basis, a, b),
     )
 }

@@ -2,10 +2,12 @@
 //! and why a run stops.
 //!
 //! Code is named by its `code_point`, bank and address. `configuration`, `keys` and `register_set` say how finely states are told
-//! apart; `joining`, `linking`, `relating`, `steps` and `ranges` join and widen them, `covering` compares them, by a `basis`: the rules of
-//! versions 1 and 2, of version 3 or of version 4. `bases` are links that speak of a procedure's entry. `claims`, `filling` and `shadowing` are what states of version 4 say of the whole
-//! program. `instruction` and `refusals` say what is against an instruction in a state, by the checker's own tests, `seen` what callers
-//! see of an exit, `handlers` what is known behind a handler, and `cause` and `stop` why a run goes no further.
+//! apart; `joining`, `linking`, `relating`, `steps` and `ranges` join and widen them, `covering` compares them, by a `basis`: the
+//! rules of versions 1 and 2, of version 3 or of version 4. `bases` are links that speak of a procedure's entry, and `naming` says
+//! by which place a link names a byte that several hold. `claims`, `filling` and `shadowing` are what states of version 4 say of
+//! the whole program. `instruction` and `refusals` say what is against an instruction in a state, by the checker's own tests,
+//! `seen` what callers see of an exit, `handlers` what is known behind a handler, `written` which registers an instruction writes,
+//! and `cause` and `stop` why a run goes no further.
 #![tactic(auto)]
 
 pub mod bases;
@@ -24,6 +26,7 @@ pub mod joining;
 pub mod keys;
 pub mod limits;
 pub mod linking;
+pub mod naming;
 pub mod ranges;
 pub mod refusals;
 pub mod register_set;
@@ -34,6 +37,7 @@ pub mod steps;
 pub mod stop;
 mod sums;
 pub mod tracking;
+pub mod written;
 
 // What lies below, for the crates above.
 pub use gb_spelling;

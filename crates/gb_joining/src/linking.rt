@@ -5,13 +5,15 @@
 use crate::bases::{grown_sums, is_based_in_one, place_from, places_from, unmoved, with_bases};
 use crate::bounds::{WORD_PAIRS, facts_of, halves_of, set_facts};
 use crate::configuration::Edition;
+use crate::covering::from_address;
 use crate::limits::{FACTOR, LINK_WIDTH};
 use crate::register_set::REGISTERS;
 use crate::relating::{KnownRelations, are_same_pairs};
 use crate::sums::{Sums, hull_of, sums_in};
 use gb_verify::gb_ops::op::Register;
 use gb_verify::{
-    ANY_BOUNDS, Bounds, Link, Other, PairFacts, Pairs, Relations, WordPair, covers_relations,
+    ANY_BOUNDS, Bounds, Cell, Link, Other, PairFacts, Pairs, Relations, States, WordPair,
+    covers_relations, is_ram,
 };
 
 /// Whether two links read the same.
@@ -19,6 +21,7 @@ fn are_same_others(a: Other, b: Other) -> bool {
     match (a, b) {
         (Other::Register(x), Other::Register(y)) => x == y,
         (Other::Pair(x), Other::Pair(y)) => are_same_pairs(x, y),
+        (Other::Cell(x), Other::Cell(y)) => x == y,
         (Other::Nothing, Other::Nothing) => true,
         _ => false,
     }
@@ -54,7 +57,7 @@ fn is_found(pair: WordPair, link: &Link, state: KnownRelations<'_>) -> bool {
         pairs,
         ..Relations::default()
     };
-    covers_relations(true, state.registers, state.relations, &wanted)
+    covers_relations(state.program, &States::of(state.state), &wanted)
 }
 
 /// Whether a link holds in a state: by versions 1 to 3 where the pair and what it reads are known, and meet it.
@@ -149,7 +152,7 @@ fn is_counted_down(other: Other, round: Round<'_>) -> bool {
 }
 
 /// Whether a register is one of a pair's.
-fn is_half(register: Register, pair: WordPair) -> bool {
+pub(crate) fn is_half(register: Register, pair: WordPair) -> bool {
     let (high, low) = halves_of(pair);
     register == high || register == low
 }
@@ -190,6 +193,46 @@ fn link_to_register(round: Round<'_>, is_down: bool) -> Option<Link> {
     None
 }
 
+/// Whether a cell has one value, and may have another one by others, from its address on: where they have no cell, facts may know it.
+fn may_differ(cell: &Cell, rest: &[Cell]) -> bool {
+    let is_one = cell.val.lo == cell.val.hi;
+    match rest {
+        [other, ..] if other.address == cell.address => {
+            is_one && other.val.lo == other.val.hi && other.val.lo != cell.val.lo
+        }
+        _ => is_one,
+    }
+}
+
+/// A link of a pair with a byte of RAM at one of some cells' addresses. The cells of the other state are in order of address too.
+fn link_among(round: Round<'_>, is_down: bool, cells: &[Cell], others: &[Cell]) -> Option<Link> {
+    let mut rest = others;
+    for cell in cells {
+        rest = from_address(cell.address, rest);
+        let other = Other::Cell(cell.address);
+        if may_differ(cell, rest)
+            && is_ram(cell.address)
+            && is_counted_down(other, round) == is_down
+            && let Some(link) = link_by(round, other)
+        {
+            return Some(link);
+        }
+    }
+    None
+}
+
+/// A link of a pair with a byte of RAM, by the rules of version 4. Where facts say of the byte what one state knows, only the other has
+/// a cell.
+fn link_to_cell(round: Round<'_>, is_down: bool) -> Option<Link> {
+    if !round.edition.is_fourth() {
+        return None;
+    }
+    let (before, behind) = (round.before.state.cells(), round.behind.state.cells());
+    link_among(round, is_down, behind, before).or_else(|| link_among(
+        round, is_down, before, behind,
+    ))
+}
+
 /// A link of a pair that holds in both states: with what is counted down first, and with another pair before its bytes,
 /// since a byte goes round where its pair goes on: a copy may end by either pointer, and the other one is known by it.
 fn inferred(round: Round<'_>, linked: &Pairs) -> Option<Link> {
@@ -198,8 +241,10 @@ fn inferred(round: Round<'_>, linked: &Pairs) -> Option<Link> {
     }
     link_to_pair(round, linked, true)
         .or(link_to_register(round, true))
+        .or_else(|| link_to_cell(round, true))
         .or(link_to_pair(round, linked, false))
         .or(link_to_register(round, false))
+        .or_else(|| link_to_cell(round, false))
 }
 
 /// A link of a pair that holds in both states, with a base of which one of them has a link.

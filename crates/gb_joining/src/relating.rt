@@ -6,13 +6,15 @@ use crate::linking::{are_same_links, holds_link};
 use crate::register_set::REGISTERS;
 use gb_verify::gb_ops::registers::Registers;
 use gb_verify::{
-    ANY_BOUNDS, Bounds, Link, NO_REGISTER, OneByte, PairFacts, Pairs, Relations, Test, Val,
-    WordPair,
+    ANY_BOUNDS, Abs, Bounds, Link, NO_REGISTER, OneByte, PairFacts, Pairs, Program, Relations,
+    States, Test, Val, WordPair, byte_of,
 };
 
-/// The registers of a state, and what is known of several parts of it together.
+/// A state in a program: its registers, what is known of several parts of it together, and what is known of RAM.
 #[derive(Clone, Copy)]
 pub struct KnownRelations<'a> {
+    pub program: &'a Program<'a>,
+    pub state: &'a Abs,
     pub registers: &'a Registers<Val>,
     pub relations: &'a Relations,
 }
@@ -21,6 +23,11 @@ impl<'a> KnownRelations<'a> {
     /// The bounds of a pair.
     pub fn bounds(&self, pair: WordPair) -> Bounds {
         bounds_of(pair, self.registers, &self.relations.pairs)
+    }
+
+    /// What is known of a byte of RAM.
+    pub fn byte_at(&self, address: u16) -> Val {
+        byte_of(self.program, &States::of(self.state), address)
     }
 
     /// The link of a pair.

@@ -3,7 +3,6 @@
 use crate::bases::with_bases;
 use crate::basis::Basis;
 use crate::bounds::{WORD_PAIRS, facts_of, set_facts};
-use crate::configuration::Edition;
 use crate::covering::{are_cells_known, are_items_known};
 use crate::joining::{
     join, join_all_relations, join_cells, join_core, join_items, known_of, val_of,
@@ -17,8 +16,8 @@ use gb_verify::gb_domain::pairs::ANY_PAIRS;
 use gb_verify::gb_domain::values::interval_of;
 use gb_verify::gb_ops::registers::Registers;
 use gb_verify::{
-    Abs, Bounds, Cell, Core, PairFacts, Pairs, Program, Relations, Rules, Val, any, cell_at,
-    covers, reduced,
+    Abs, Bounds, Cell, Core, PairFacts, Pairs, Program, Relations, Rules, States, Val, any,
+    cell_at, covers, read_in, reduced,
 };
 use std::collections::BTreeSet;
 
@@ -220,9 +219,10 @@ impl Steps {
     }
 
     /// Bounds of pairs that grew go on to the next page that is a step.
-    fn widen_pairs(&self, edition: Edition, old: &Abs, added: &Abs, new: &Abs) -> Pairs {
-        let before = known_of(old);
-        let mut pairs = with_wider_links(edition, &new.relations().pairs, before, known_of(added));
+    fn widen_pairs(&self, basis: &Basis<'_>, old: &Abs, added: &Abs, new: &Abs) -> Pairs {
+        let before = known_of(&basis.program, old);
+        let behind = known_of(&basis.program, added);
+        let mut pairs = with_wider_links(basis.edition, &new.relations().pairs, before, behind);
         for pair in WORD_PAIRS {
             let facts = facts_of(pair, &pairs);
             let bounds = self.widen_bounds(before.bounds(pair), facts.bounds);
@@ -238,7 +238,7 @@ impl Steps {
         let relations = match rules {
             Rules::Simple => *new.relations(),
             Rules::Extended => Relations {
-                pairs: self.widen_pairs(basis.edition, old, added, &new),
+                pairs: self.widen_pairs(basis, old, added, &new),
                 ..*new.relations()
             },
         };
@@ -279,11 +279,14 @@ impl Steps {
 
 /// A widened state, reduced, where that still covers what it was widened from.
 fn cut(program: &Program<'_>, widened: Abs, new: &Abs) -> Abs {
+    let relations = widened.relations();
+    let read = read_in(program, &States::of(&widened), &relations.pairs);
     let product = reduced(
         Rules::Extended,
         &ANY_PAIRS,
+        &read,
         widened.core(),
-        widened.relations(),
+        relations,
     );
     let Some(product) = product else {
         return widened;
@@ -300,8 +303,12 @@ fn cut(program: &Program<'_>, widened: Abs, new: &Abs) -> Abs {
 /// The join of two states, with links that have a base.
 fn joined(basis: &Basis<'_>, old: &Abs, added: &Abs) -> Abs {
     let mut joined = join(basis, old, added);
+    let (before, behind) = (
+        known_of(&basis.program, old),
+        known_of(&basis.program, added),
+    );
     let relations = Relations {
-        pairs: with_bases(&joined.relations().pairs, known_of(old), known_of(added)),
+        pairs: with_bases(&joined.relations().pairs, before, behind),
         ..*joined.relations()
     };
     joined.set_relations(relations);
@@ -319,12 +326,16 @@ fn without_pairs(mut state: Abs) -> Abs {
 }
 
 /// What is known of several parts together in both states, with links that hold in both.
-fn linked_relations(edition: Edition, old: &Abs, added: &Abs) -> Relations {
-    let joined = join_all_relations(edition, old, added);
-    match edition.rules() {
+fn linked_relations(basis: &Basis<'_>, old: &Abs, added: &Abs) -> Relations {
+    let joined = join_all_relations(basis, old, added);
+    let (before, behind) = (
+        known_of(&basis.program, old),
+        known_of(&basis.program, added),
+    );
+    match basis.rules() {
         Rules::Simple => joined,
         Rules::Extended => Relations {
-            pairs: with_links(edition, &joined.pairs, known_of(old), known_of(added)),
+            pairs: with_links(basis.edition, &joined.pairs, before, behind),
             ..joined
         },
     }
@@ -334,7 +345,7 @@ fn linked_relations(edition: Edition, old: &Abs, added: &Abs) -> Relations {
 pub fn link_in(basis: &Basis<'_>, state: &mut Abs, added: &Abs) {
     let edition = basis.edition;
     let core = join_core(basis, state.core(), added.core());
-    let relations = linked_relations(edition, state, added);
+    let relations = linked_relations(basis, state, added);
     if edition.is_fourth() {
         let summary = join_summaries(basis, state, added);
         state.set_summary(summary);

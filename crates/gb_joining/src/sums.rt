@@ -1,7 +1,7 @@
 //! Sums of a pair and what its link reads, times the factor: words that stand one after another, modulo 65,536.
 
 use crate::relating::KnownRelations;
-use gb_verify::{Bounds, Other};
+use gb_verify::{Bounds, Other, Val};
 
 /// The first word, and how many stand after it.
 #[derive(Clone, Copy, PartialEq, Eq)]
@@ -53,18 +53,21 @@ pub fn hull_of(a: Sums, b: Sums) -> Option<Sums> {
     }
 }
 
+/// The words that a byte may be.
+fn bounds_of_byte(val: Val) -> Bounds {
+    Bounds {
+        first: u16::from(val.lo),
+        last: u16::from(val.hi),
+    }
+}
+
 impl KnownRelations<'_> {
     /// The bounds of what a link reads.
     pub fn other_bounds(&self, other: Other) -> Bounds {
         match other {
             Other::Pair(pair) => self.bounds(pair),
-            Other::Register(register) => {
-                let val = self.registers.get(register);
-                Bounds {
-                    first: u16::from(val.lo),
-                    last: u16::from(val.hi),
-                }
-            }
+            Other::Register(register) => bounds_of_byte(self.registers.get(register)),
+            Other::Cell(address) => bounds_of_byte(self.byte_at(address)),
             Other::Nothing => Bounds { first: 0, last: 0 },
         }
     }

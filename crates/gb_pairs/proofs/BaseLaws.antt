@@ -10,7 +10,7 @@ use Rattle.gb_domain.specs.declared.pairs.PairBounds.{PairBounds}
 use Rattle.gb_domain.specs.declared.pairs.Link.{Link}
 use Rattle.gb_domain.specs.Pairs.{IsLink}
 use Rattle.gb_pairs.specs.Bounds.{is_empty, bounds_of_base}
-use Rattle.gb_pairs.specs.Meaning.{word_of, other_of, base_of, AreLinked, IsLinked}
+use Rattle.gb_pairs.specs.Meaning.{Beside, word_of, other_of, base_of, AreLinked, IsLinked}
 use Rattle.gb_pairs.specs.Reduced.{without_base, unbased}
 use Rattle.gb_pairs.specs.Sound.{Within, AreWithin, IsSoundWithoutBase}
 
@@ -68,35 +68,35 @@ AreLinked-without b l base w n k h =
     })
 
 -- a link that has no base, of a word and what it reads, if there is one
-abbrev pub IsAlone : Option Link → ℕ → Registers ℕ → Type 0
-IsAlone None w x = Unit {0}
-IsAlone (Some l) w x = AreLinked l 0 w (other_of l.other x)
+abbrev pub IsAlone : Option Link → ℕ → Beside → Registers ℕ → Type 0
+IsAlone None w was x = Unit {0}
+IsAlone (Some l) w was x = AreLinked l 0 w (other_of l.other was x)
 
 pub IsAlone-without :
-    (b : Bounds) (l : Link) (base w : ℕ) (x : Registers ℕ)
-    → Within b base → AreLinked l base w (other_of l.other x) → IsAlone (without_base b l) w x
+    (b : Bounds) (l : Link) (base w : ℕ) (was : Beside) (x : Registers ℕ)
+    → Within b base → AreLinked l base w (other_of l.other was x) → IsAlone (without_base b l) w was x
 unfolding without_base
-IsAlone-without b l base w x k h = choose (is_empty b || nat_lt 65535 (l.width + (b.last - b.first)))
+IsAlone-without b l base w was x k h = choose (is_empty b || nat_lt 65535 (l.width + (b.last - b.first)))
   where
-    choose : (c : Bool) → IsAlone (cond c None (Some (record l { base = None; sum = (l.sum + b.first) % 65536; width = l.width + (b.last - b.first) }))) w x
+    choose : (c : Bool) → IsAlone (cond c None (Some (record l { base = None; sum = (l.sum + b.first) % 65536; width = l.width + (b.last - b.first) }))) w was x
     choose true = tt
-    choose false = AreLinked-without b l base w (other_of l.other x) k h
+    choose false = AreLinked-without b l base w (other_of l.other was x) k h
 
 Within-base : (base : Option WordPair) (entered : PairBounds) (was : Registers ℕ) → AreWithin entered was → Within (bounds_of_base base entered) (base_of base was)
 Within-base None entered was h = record { least = omega arith; most = omega arith }
 Within-base (Some p) entered was h = h.each p
 
 pub IsAlone-unbased :
-    (entered : PairBounds) (l : Option Link) (p : WordPair) (was x : Registers ℕ)
-    → AreWithin entered was → IsLinked l p was x → IsAlone (unbased entered l) (word_of p x) x
+    (entered : PairBounds) (l : Option Link) (p : WordPair) (was : Beside) (x : Registers ℕ)
+    → AreWithin entered was.entered → IsLinked l p was x → IsAlone (unbased entered l) (word_of p x) was x
 IsAlone-unbased entered None p was x lay h = tt
 IsAlone-unbased entered (Some l) p was x lay h =
-    IsAlone-without _ l (base_of l.base was) (word_of p x) x (Within-base l.base entered was lay) h
+    IsAlone-without _ l (base_of l.base was.entered) (word_of p x) was x (Within-base l.base entered was.entered lay) h
 
-pub IsLink-unbased : (entered : PairBounds) (l : Option Link) → IfSome l IsLink → IfSome (unbased entered l) IsLink
+pub IsLink-unbased : (may_be : ℕ → Bool) (entered : PairBounds) (l : Option Link) → IfSome l (IsLink may_be) → IfSome (unbased entered l) (IsLink may_be)
 unfolding without_base
-IsLink-unbased entered None h = tt
-IsLink-unbased entered (Some l) h =
+IsLink-unbased may_be entered None h = tt
+IsLink-unbased may_be entered (Some l) h =
     choose (is_empty (bounds_of_base l.base entered)) (nat_lt 65535 (l.width + ((bounds_of_base l.base entered).last - (bounds_of_base l.base entered).first))) refl
   where
     b : Bounds
@@ -104,10 +104,10 @@ IsLink-unbased entered (Some l) h =
 
     choose :
         (c d : Bool) → nat_lt 65535 (l.width + (b.last - b.first)) ≡ d
-        → IfSome (cond (c || d) None (Some (record l { base = None; sum = (l.sum + b.first) % 65536; width = l.width + (b.last - b.first) }))) IsLink
+        → IfSome (cond (c || d) None (Some (record l { base = None; sum = (l.sum + b.first) % 65536; width = l.width + (b.last - b.first) }))) (IsLink may_be)
     choose true d e = tt
     choose false true e = tt
-    choose false false e = record { factor = h.factor; sum = omega arith; width = grind (arith, nat_tests) }
+    choose false false e = record { other = h.other; factor = h.factor; sum = omega arith; width = grind (arith, nat_tests) }
 
 -- its sums are words
 pub record IsSmall (l : Link) : Type 0 where
@@ -131,14 +131,14 @@ AreSmall-without_base b l = choose (is_empty b) (nat_lt 65535 (l.width + (b.last
 
 -- of a pair, whatever its registers were at entry
 pub IsLinked-without_base :
-    (b : Bounds) (l : Link) (base : ℕ) (p : WordPair) (was x : Registers ℕ)
-    → Within b base → AreLinked l base (word_of p x) (other_of l.other x) → IsLinked (without_base b l) p was x
+    (b : Bounds) (l : Link) (base : ℕ) (p : WordPair) (was : Beside) (x : Registers ℕ)
+    → Within b base → AreLinked l base (word_of p x) (other_of l.other was x) → IsLinked (without_base b l) p was x
 unfolding without_base
 IsLinked-without_base b l base p was x k h = choose (is_empty b || nat_lt 65535 (l.width + (b.last - b.first)))
   where
     choose : (c : Bool) → IsLinked (cond c None (Some (record l { base = None; sum = (l.sum + b.first) % 65536; width = l.width + (b.last - b.first) }))) p was x
     choose true = tt
-    choose false = AreLinked-without b l base (word_of p x) (other_of l.other x) k h
+    choose false = AreLinked-without b l base (word_of p x) (other_of l.other was x) k h
 
 -- ---- the clause of its function
 

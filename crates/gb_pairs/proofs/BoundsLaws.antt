@@ -13,8 +13,8 @@ use Rattle.gb_domain.specs.declared.pairs.Other.TheVariants as other
 use Rattle.gb_vals.specs.Meaning.{In}
 use Rattle.gb_pairs.specs.declared.values.Values.{Values}
 use Rattle.gb_pairs.specs.Bounds.{cut, high_of, low_of, box, bounds_of, bounds_of_other}
-use Rattle.gb_pairs.specs.Meaning.{word_of, other_of, AreBytes, Holds}
-use Rattle.gb_pairs.specs.Sound.{Within, IsSoundBounds}
+use Rattle.gb_pairs.specs.Meaning.{Beside, word_of, other_of, IsOtherIn, AreBytes, Holds}
+use Rattle.gb_pairs.specs.Sound.{Within, IsSoundBounds, IsSoundOther}
 
 pub Within-cut : (b c : Bounds) (w : ℕ) → Within b w → Within c w → Within (cut b c) w
 Within-cut b c w h k = record { least = grind (arith, nat_tests); most = grind (arith, nat_tests) }
@@ -34,29 +34,32 @@ word_of-is pair.Hl x = refl
 
 -- a pair's word, in the box of its bytes
 pub Within-bytes :
-    (p : WordPair) (v : Values) (was x : Registers ℕ)
+    (p : WordPair) (v : Values) (was : Beside) (x : Registers ℕ)
     → Holds v was x → Within (box (get (high_of p) v.registers) (get (low_of p) v.registers)) (word_of p x)
 Within-bytes p v was x h =
     subst (λ w. Within (box (get (high_of p) v.registers) (get (low_of p) v.registers)) w) (word_of-is p x)
     (Within-box _ _ _ _ (h.registers (high_of p)) (h.registers (low_of p)))
 
-pub Within-bounds_of : (p : WordPair) (v : Values) (was x : Registers ℕ) → Holds v was x → Within (bounds_of p v) (word_of p x)
+pub Within-bounds_of : (p : WordPair) (v : Values) (was : Beside) (x : Registers ℕ) → Holds v was x → Within (bounds_of p v) (word_of p x)
 unfolding bounds_of
 Within-bounds_of p v was x h =
     let own = h.pairs.each p in
     Within-cut _ _ _ (Within-bytes p v was x h) (record { least = own.first; most = own.last })
 
-pub Within-bounds_of_other : (o : Other) (v : Values) (was x : Registers ℕ) → Holds v was x → Within (bounds_of_other o v) (other_of o x)
+pub Within-bounds_of_other :
+    (m : Bounds) (o : Other) (v : Values) (was : Beside) (x : Registers ℕ)
+    → IsOtherIn o m was.memory → Holds v was x → Within (bounds_of_other m o v) (other_of o was x)
 unfolding bounds_of_other
-Within-bounds_of_other (other.Register r) v was x h = record { least = (h.registers r).least; most = (h.registers r).most }
-Within-bounds_of_other (other.Pair p) v was x h = Within-bounds_of p v was x h
-Within-bounds_of_other other.Nothing v was x h = record { least = omega arith; most = omega arith }
+Within-bounds_of_other m (other.Register r) v was x i h = record { least = (h.registers r).least; most = (h.registers r).most }
+Within-bounds_of_other m (other.Pair p) v was x i h = Within-bounds_of p v was x h
+Within-bounds_of_other m (other.Cell a) v was x i h = i.within
+Within-bounds_of_other m other.Nothing v was x i h = record { least = omega arith; most = omega arith }
 
-pub bounds_of_sound : (p : WordPair) (v : Values) (b : Bounds) → b ≡ bounds_of p v → IsSoundBounds (word_of p) v b
-bounds_of_sound p v b e = subst (λ c. IsSoundBounds (word_of p) v c) (sym e) (record { gives = Within-bounds_of p v })
+pub bounds_of_sound : (p : WordPair) (v : Values) (b : Bounds) → b ≡ bounds_of p v → IsSoundBounds p v b
+bounds_of_sound p v b e = subst (λ c. IsSoundBounds p v c) (sym e) (record { gives = Within-bounds_of p v })
 
-pub bounds_of_other_sound : (o : Other) (v : Values) (b : Bounds) → b ≡ bounds_of_other o v → IsSoundBounds (other_of o) v b
-bounds_of_other_sound o v b e = subst (λ c. IsSoundBounds (other_of o) v c) (sym e) (record { gives = Within-bounds_of_other o v })
+pub bounds_of_other_sound : (m : Bounds) (o : Other) (v : Values) (b : Bounds) → b ≡ bounds_of_other m o v → IsSoundOther m o v b
+bounds_of_other_sound m o v b e = subst (λ c. IsSoundOther m o v c) (sym e) (record { gives = Within-bounds_of_other m o v })
 
 -- ---- words and bytes in range
 
@@ -67,7 +70,9 @@ word_below p x h =
     let less : word (get (high_of p) x) (get (low_of p) x) < 65536 = omega arith in
     subst (λ w. w < 65536) (word_of-is p x) less
 
-pub other_below : (o : Other) (x : Registers ℕ) → AreBytes x → other_of o x < 65536
-other_below (other.Register r) x h = let a = h.each r in omega arith
-other_below (other.Pair p) x h = word_below p x h
-other_below other.Nothing x h = omega arith
+pub other_below :
+    (m : Bounds) (o : Other) (was : Beside) (x : Registers ℕ) → IsOtherIn o m was.memory → AreBytes x → other_of o was x < 65536
+other_below m (other.Register r) was x i h = let a = h.each r in omega arith
+other_below m (other.Pair p) was x i h = word_below p x h
+other_below m (other.Cell a) was x i h = let small = i.small in omega arith
+other_below m other.Nothing was x i h = omega arith

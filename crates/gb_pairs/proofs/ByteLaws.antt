@@ -15,15 +15,15 @@ use Rattle.gb_domain.specs.Pairs.{facts_of}
 use Rattle.gb_domain.specs.Places.{is_same_register}
 use Rattle.gb_pairs.specs.declared.values.Values.{Values}
 use Rattle.gb_pairs.specs.Bounds.{bounds_of}
-use Rattle.gb_pairs.specs.Meaning.{word_of, other_of, IsLinked, HoldsPair, HoldPairs, AreBytes, Holds}
+use Rattle.gb_pairs.specs.Meaning.{Beside, word_of, other_of, IsLinked, HoldsPair, HoldPairs, AreBytes, Holds}
 use Rattle.gb_pairs.specs.Written.{is_half, without_register}
 use Rattle.gb_pairs.specs.Moved.{by_if, bounds_up, bounds_down, by_byte, other_by_byte, link_of_byte, weight, facts_of_byte_up, facts_of_byte_down, byte_incremented, byte_decremented}
 use Rattle.gb_pairs.specs.Sound.{Within, IsSoundByteStep}
 use Rattle.gb_domain.proofs.RegisterLaws.{same_register}
 use Rattle.gb_pairs.proofs.RegisterLaws.{get_same, get_other, word_other}
-use Rattle.gb_pairs.proofs.BoundsLaws.{Within-bounds_of, word_below, other_below}
+use Rattle.gb_pairs.proofs.BoundsLaws.{Within-bounds_of, word_below}
 use Rattle.gb_pairs.proofs.WrittenLaws.{HoldPairs-without}
-use Rattle.gb_pairs.proofs.StepLaws.{stays, IsLinked-moved, Within-up, Within-down}
+use Rattle.gb_pairs.proofs.StepLaws.{stays, IsLinked-moved, Within-up, Within-down, again, none_more}
 
 -- a byte m becomes n: by how much that moves words that have it as low byte, and as high byte
 record IsByteMove (m n low high : ℕ) : Type 0 where
@@ -61,6 +61,9 @@ word_move E pair.Hl n low high x h k = stays _ (word_below pair.Hl x h)
 word_move H pair.Hl n low high x h k = k.as_high x.l (h.each L)
 word_move L pair.Hl n low high x h k = k.as_low x.h (h.each H)
 
+byte_below : (r : Register) (x : Registers ℕ) → AreBytes x → get r x < 65536
+byte_below r x h = let small = h.each r in omega arith
+
 byte_move : (m n low high : ℕ) → IsByteMove m n low high → n ≡ (m + low) % 65536
 byte_move m n low high k = let e : 256 * 0 + n ≡ (256 * 0 + m + low) % 65536 = k.as_low 0 (omega arith) in omega arith
 
@@ -72,21 +75,22 @@ register_move r s n low high x h k = choose (is_same_register r s) refl
     choose : (b : Bool) → is_same_register r s ≡ b → get s (set r n x) ≡ (get s x + by_if b low) % 65536
     choose true e =
         subst (λ q. get q (set r n x) ≡ (get q x + low) % 65536) (same_register r s e) (get_same r n x ∙ byte_move _ n low high k)
-    choose false e = get_other r s n x e ∙ stays _ (other_below (other.Register s) x h)
+    choose false e = get_other r s n x e ∙ stays _ (byte_below s x h)
 
 other_move :
-    (r : Register) (o : Other) (n low high : ℕ) (x : Registers ℕ) → AreBytes x → IsByteMove (get r x) n low high
-    → other_of o (set r n x) ≡ (other_of o x + other_by_byte r o low high) % 65536
-other_move r (other.Register s) n low high x h k = register_move r s n low high x h k
-other_move r (other.Pair q) n low high x h k = word_move r q n low high x h k
-other_move r other.Nothing n low high x h k = refl
+    (r : Register) (o : Other) (n low high : ℕ) (was : Beside) (x : Registers ℕ) → AreBytes x → IsByteMove (get r x) n low high
+    → other_of o was (set r n x) % 65536 ≡ (other_of o was x + other_by_byte r o low high) % 65536
+other_move r (other.Register s) n low high was x h k = again _ _ (register_move r s n low high x h k)
+other_move r (other.Pair q) n low high was x h k = again _ _ (word_move r q n low high x h k)
+other_move r (other.Cell a) n low high was x h k = none_more _
+other_move r other.Nothing n low high was x h k = refl
 
 link_move :
-    (r : Register) (q : WordPair) (l : Option Link) (n low high : ℕ) (was x : Registers ℕ) → AreBytes x → IsByteMove (get r x) n low high
+    (r : Register) (q : WordPair) (l : Option Link) (n low high : ℕ) (was : Beside) (x : Registers ℕ) → AreBytes x → IsByteMove (get r x) n low high
     → IsLinked l q was x → IsLinked (link_of_byte r low high q l) q was (set r n x)
 link_move r q None n low high was x h k m = tt
 link_move r q (Some l) n low high was x h k m =
-    IsLinked-moved l q was x _ _ _ (word_move r q n low high x h k) (other_move r l.other n low high x h k) m
+    IsLinked-moved l q was x _ _ _ (word_move r q n low high x h k) (other_move r l.other n low high was x h k) m
 
 -- ---- bounds
 
@@ -137,7 +141,7 @@ weight_down H pair.Hl h = refl
 weight_down L pair.Hl h = refl
 
 facts_up :
-    (r : Register) (v : Values) (q : WordPair) (was x : Registers ℕ)
+    (r : Register) (v : Values) (q : WordPair) (was : Beside) (x : Registers ℕ)
     → AreBytes x → Holds v was x → get r x < 255 → HoldsPair (facts_of_byte_up r v q) q was (set r ((get r x + 1) % 256) x)
 facts_up r v q was x bytes h less =
     let ends = choose (is_half r q) refl in
@@ -155,7 +159,7 @@ facts_up r v q was x bytes h less =
         (record { least = (h.pairs.each q).first; most = (h.pairs.each q).last })
 
 facts_down :
-    (r : Register) (v : Values) (q : WordPair) (was x : Registers ℕ)
+    (r : Register) (v : Values) (q : WordPair) (was : Beside) (x : Registers ℕ)
     → AreBytes x → Holds v was x → 0 < get r x → HoldsPair (facts_of_byte_down r v q) q was (set r ((get r x + 255) % 256) x)
 facts_down r v q was x bytes h more =
     let ends = choose (is_half r q) refl in
@@ -183,7 +187,7 @@ unfolding byte_incremented
 byte_incremented_sound r v o e = subst (λ s. IsSoundByteStep r 1 v s) (sym e) (record { gives = gives })
   where
     gives :
-        (was x : Registers ℕ) → AreBytes x → Holds v was x → HoldPairs (byte_incremented r v) was (set r ((get r x + 1) % 256) x)
+        (was : Beside) (x : Registers ℕ) → AreBytes x → Holds v was x → HoldPairs (byte_incremented r v) was (set r ((get r x + 1) % 256) x)
     gives was x bytes h = choose (nat_lt (get r v.registers).hi 255) refl
       where
         each :
@@ -212,7 +216,7 @@ unfolding byte_decremented
 byte_decremented_sound r v o e = subst (λ s. IsSoundByteStep r 255 v s) (sym e) (record { gives = gives })
   where
     gives :
-        (was x : Registers ℕ) → AreBytes x → Holds v was x → HoldPairs (byte_decremented r v) was (set r ((get r x + 255) % 256) x)
+        (was : Beside) (x : Registers ℕ) → AreBytes x → Holds v was x → HoldPairs (byte_decremented r v) was (set r ((get r x + 255) % 256) x)
     gives was x bytes h = choose (nat_lt 0 (get r v.registers).lo) refl
       where
         each :

@@ -11,11 +11,10 @@ use Rattle.gb_domain.specs.declared.pairs.Other.{Other}
 use Rattle.gb_domain.specs.declared.pairs.Other.TheVariants as other
 use Rattle.gb_domain.specs.declared.pairs.Link.{Link}
 use Rattle.gb_pairs.specs.Copied.{is_read, equal_to, link_copied}
-use Rattle.gb_pairs.specs.Meaning.{word_of, other_of, base_of, AreLinked, IsLinked, AreBytes}
+use Rattle.gb_pairs.specs.Meaning.{Beside, word_of, other_of, base_of, AreLinked, IsLinked}
 use Rattle.gb_pairs.specs.Sound.{with_word, IsSoundCopy}
 use Rattle.gb_pairs.specs.Written.{is_half, is_same_pair}
-use Rattle.gb_pairs.proofs.BoundsLaws.{other_below}
-use Rattle.gb_pairs.proofs.StepLaws.{stays, get_with_word}
+use Rattle.gb_pairs.proofs.StepLaws.{none_more, get_with_word}
 
 none_left : (w : ℕ) → (w + 65535 * w) % 65536 ≡ (0 + 0 + 0) % 65536
 none_left w = omega arith
@@ -69,14 +68,15 @@ pair_unread pair.Bc pair.Hl h = refl
 pair_unread pair.De pair.Hl h = refl
 
 other_kept :
-    (p : WordPair) (o : Other) (x y : Registers ℕ)
-    → is_read p o ≡ false → ((r : Register) → is_half r p ≡ false → get r y ≡ get r x) → other_of o y ≡ other_of o x
-other_kept p (other.Register r) x y h k = k r (half_unread p r h)
-other_kept p (other.Pair q) x y h k = word_kept p q x y (pair_unread p q h) k
-other_kept p other.Nothing x y h k = refl
+    (p : WordPair) (o : Other) (was : Beside) (x y : Registers ℕ)
+    → is_read p o ≡ false → ((r : Register) → is_half r p ≡ false → get r y ≡ get r x) → other_of o was y ≡ other_of o was x
+other_kept p (other.Register r) was x y h k = k r (half_unread p r h)
+other_kept p (other.Pair q) was x y h k = word_kept p q x y (pair_unread p q h) k
+other_kept p (other.Cell a) was x y h k = refl
+other_kept p other.Nothing was x y h k = refl
 
 pub linked_copied :
-    (p q : WordPair) (k : Option Link) (was x y : Registers ℕ)
+    (p q : WordPair) (k : Option Link) (was : Beside) (x y : Registers ℕ)
     → is_same_pair p q ≡ false → word_of p y ≡ word_of q x → ((r : Register) → is_half r p ≡ false → get r y ≡ get r x)
     → IsLinked k q was x → IsLinked (Some (link_copied p q k)) p was y
 linked_copied p q k was x y apart same kept h = by k h
@@ -93,8 +93,8 @@ linked_copied p q k was x y apart same kept h = by k h
         choose : (b : Bool) → is_read p l.other ≡ b → IsLinked (Some (cond b (equal_to q) l)) p was y
         choose true e = alike
         choose false e =
-            subst (λ w. AreLinked l (base_of l.base was) w (other_of l.other y)) (sym same)
-            (subst (λ n. AreLinked l (base_of l.base was) (word_of q x) n) (sym (other_kept p l.other x y e kept)) h)
+            subst (λ w. AreLinked l (base_of l.base was.entered) w (other_of l.other was y)) (sym same)
+            (subst (λ n. AreLinked l (base_of l.base was.entered) (word_of q x) n) (sym (other_kept p l.other was x y e kept)) h)
 
 -- a copied link reads none of the pair's bytes
 pair_read : (p q : WordPair) → is_same_pair p q ≡ false → is_read p (other.Pair q) ≡ false
@@ -118,12 +118,12 @@ unread p q (Some l) apart = choose (is_read p l.other) refl
 
 -- which stays, whatever word the pair becomes
 pub other_again :
-    (o : Other) (m n : ℕ) (x : Registers ℕ) → AreBytes x → is_read pair.Hl o ≡ false
-    → other_of o (with_word pair.Hl n x) ≡ (other_of o (with_word pair.Hl m x) + 0) % 65536
-other_again o m n x bytes h =
-    let first = other_kept pair.Hl o x (with_word pair.Hl m x) h (λ r k. get_with_word r pair.Hl m x k) in
-    let second = other_kept pair.Hl o x (with_word pair.Hl n x) h (λ r k. get_with_word r pair.Hl n x k) in
-    second ∙ stays _ (other_below o x bytes) ∙ ap (λ i. (i + 0) % 65536) (sym first)
+    (o : Other) (m n : ℕ) (was : Beside) (x : Registers ℕ) → is_read pair.Hl o ≡ false
+    → other_of o was (with_word pair.Hl n x) % 65536 ≡ (other_of o was (with_word pair.Hl m x) + 0) % 65536
+other_again o m n was x h =
+    let first = other_kept pair.Hl o was x (with_word pair.Hl m x) h (λ r k. get_with_word r pair.Hl m x k) in
+    let second = other_kept pair.Hl o was x (with_word pair.Hl n x) h (λ r k. get_with_word r pair.Hl n x k) in
+    ap (λ i. i % 65536) (second ∙ sym first) ∙ none_more _
 
 -- ---- the clause of its function
 

@@ -13,7 +13,7 @@ use Rattle.gb_domain.specs.declared.pairs.Other.{Other}
 use Rattle.gb_domain.specs.declared.pairs.Other.TheVariants as other
 use Rattle.gb_domain.specs.declared.pairs.PairBounds.{PairBounds}
 use Rattle.gb_domain.specs.declared.pairs.Link.{Link}
-use Rattle.gb_domain.specs.Pairs.{facts_of}
+use Rattle.gb_domain.specs.Pairs.{bounds_in, facts_of}
 use Rattle.gb_domain.specs.declared.interval.StridedInterval.{StridedInterval}
 use Rattle.gb_domain.specs.LowBits.{low_bits}
 use Rattle.gb_domain.specs.Interval.{with_low_bits}
@@ -182,6 +182,7 @@ cut_other_cuts : (o : Other) (d : Bounds) (v : Values) → IfSome (cut_other o d
 unfolding cut_other
 cut_other_cuts (other.Register r) d v = with_register_if_cuts v v r _ (IsCut-itself v) (IfSome-cut_val _ d)
 cut_other_cuts (other.Pair p) d v = with_bounds_if_cuts v v p _ (IsCut-itself v) (IsPart-cut_left _ d)
+cut_other_cuts (other.Cell a) d v = IsCut-itself v
 cut_other_cuts other.Nothing d v = IsCut-itself v
 
 cut_other_if_cuts : (o : Other) (d : Option Bounds) (v : Values) → IfSome (cut_other_if o d v) (IsCut v)
@@ -231,22 +232,26 @@ reduced_by_link_cuts p l o b v h = choose (is_empty o || is_empty (cut_by_other 
         (IsPart-trans _ b _ (IsPart-cut_by_other l o b) h)
 
 reduced_within_cuts :
-    (p : WordPair) (l : Option Link) (b : Bounds) (v : Values)
-    → IsPart b (facts_of p v.pairs).bounds → IfSome (reduced_within p l b v) (IsCut v)
-reduced_within_cuts p None b v h = settled_cuts v v p b (IsCut-itself v) h
-reduced_within_cuts p (Some l) b v h = reduced_by_link_cuts p l _ b v h
+    (p : WordPair) (l : Option Link) (m b : Bounds) (v : Values)
+    → IsPart b (facts_of p v.pairs).bounds → IfSome (reduced_within p l m b v) (IsCut v)
+reduced_within_cuts p None m b v h = settled_cuts v v p b (IsCut-itself v) h
+reduced_within_cuts p (Some l) m b v h = reduced_by_link_cuts p l _ b v h
 
-pub reduced_pair_cuts : (entered : PairBounds) (p : WordPair) (v : Values) → IfSome (reduced_pair entered p v) (IsCut v)
+pub reduced_pair_cuts : (entered read : PairBounds) (p : WordPair) (v : Values) → IfSome (reduced_pair entered read p v) (IsCut v)
 unfolding reduced_pair
-reduced_pair_cuts entered p v = choose (is_empty (bounds_of p v))
+reduced_pair_cuts entered read p v = choose (is_empty (bounds_of p v))
   where
-    choose : (c : Bool) → IfSome (cond c None (reduced_within p (unbased entered (facts_of p v.pairs).link) (bounds_of p v) v)) (IsCut v)
+    choose : (c : Bool) → IfSome (cond c None (reduced_within p (unbased entered (facts_of p v.pairs).link) (bounds_in p read) (bounds_of p v) v)) (IsCut v)
     choose true = tt
-    choose false = reduced_within_cuts p _ (bounds_of p v) v (IsPart-bounds_of p v)
+    choose false = reduced_within_cuts p _ _ (bounds_of p v) v (IsPart-bounds_of p v)
+
+pub one_pair_cuts :
+    (entered read : PairBounds) (p : WordPair) (v : Values) (o : Option Values) → o ≡ reduced_pair entered read p v → IfSome o (IsCut v)
+one_pair_cuts entered read p v o e = subst (λ r. IfSome r (IsCut v)) (sym e) (reduced_pair_cuts entered read p v)
 
 -- ---- all of them
 
-then_cuts :
+pub then_cuts :
     (f : Values → Option Values) (u : Values) (o : Option Values)
     → IfSome o (IsCut u) → ((v : Values) → IfSome (f v) (IsCut v)) → IfSome (option_and_then f o) (IsCut u)
 then_cuts f u None h k = tt
@@ -257,17 +262,22 @@ then_cuts f u (Some v) h k = further (f v) (k v)
     further (Some w) m = IsCut-trans u v w h m
 
 pub reduced_by_two_cuts :
-    (entered : PairBounds) (v : Values) → IfSome (option_and_then (reduced_pair entered pair.De) (reduced_pair entered pair.Bc v)) (IsCut v)
-reduced_by_two_cuts entered v = then_cuts _ v _ (reduced_pair_cuts entered pair.Bc v) (reduced_pair_cuts entered pair.De)
+    (entered read : PairBounds) (v : Values) → IfSome (option_and_then (reduced_pair entered read pair.De) (reduced_pair entered read pair.Bc v)) (IsCut v)
+reduced_by_two_cuts entered read v = then_cuts _ v _ (reduced_pair_cuts entered read pair.Bc v) (reduced_pair_cuts entered read pair.De)
 
-pub reduced_once_cuts : (entered : PairBounds) (v : Values) → IfSome (reduced_once entered v) (IsCut v)
+pub reduced_once_cuts : (entered read : PairBounds) (v : Values) → IfSome (reduced_once entered read v) (IsCut v)
 unfolding reduced_once
-reduced_once_cuts entered v = then_cuts _ v _ (reduced_by_two_cuts entered v) (reduced_pair_cuts entered pair.Hl)
+reduced_once_cuts entered read v = then_cuts _ v _ (reduced_by_two_cuts entered read v) (reduced_pair_cuts entered read pair.Hl)
 
-pub reduced_cuts : (entered : PairBounds) (v : Values) (o : Option Values) → o ≡ reduced entered v → IfSome o (IsCut v)
+-- where both are asked one after another
+pub cuts_then : (u v : Values) (o r : Option Values) → o ≡ Some v → IfSome o (IsCut u) → IfSome r (IsCut v) → IfSome r (IsCut u)
+cuts_then u v o None e h k = tt
+cuts_then u v o (Some w) e h k = IsCut-trans u v w (subst (λ p. IfSome p (IsCut u)) e h) k
+
+pub reduced_cuts : (entered read : PairBounds) (v : Values) (o : Option Values) → o ≡ reduced entered read v → IfSome o (IsCut v)
 unfolding reduced
-reduced_cuts entered v o e =
-    subst (λ r. IfSome r (IsCut v)) (sym e) (then_cuts _ v _ (reduced_once_cuts entered v) (reduced_once_cuts entered))
+reduced_cuts entered read v o e =
+    subst (λ r. IfSome r (IsCut v)) (sym e) (then_cuts _ v _ (reduced_once_cuts entered read v) (reduced_once_cuts entered read))
 
 pub restricted_cuts : (p : WordPair) (within : Bounds) (v : Values) (o : Option Values) → o ≡ restricted p within v → IfSome o (IsCut v)
 unfolding restricted

@@ -25,74 +25,74 @@ use Rattle.gb_pairs.specs.Reduced.{reduced, restricted}
 use Rattle.gb_pairs.specs.Sound.{IsCut}
 use Rattle.gb_pairs.proofs.CutLaws.{IsPart-bounds_of, reduced_cuts, restricted_cuts}
 
-pub bounds_of_below : (p : WordPair) (v : Values) → ArePairs v.pairs → (bounds_of p v).last < 65536
-bounds_of_below p v h =
+pub bounds_of_below : (may_be : ℕ → Bool) (p : WordPair) (v : Values) → ArePairs may_be v.pairs → (bounds_of p v).last < 65536
+bounds_of_below may_be p v h =
     let own = (h.each p).last in
     let part = (IsPart-bounds_of p v).last in
     omega arith
 
-are_pairs : (b d h : PairFacts) → IsPairFacts b → IsPairFacts d → IsPairFacts h → ArePairs (record { bc = b; de = d; hl = h })
-are_pairs b d h i j k = record { each = each }
+are_pairs : (may_be : ℕ → Bool) (b d h : PairFacts) → IsPairFacts may_be b → IsPairFacts may_be d → IsPairFacts may_be h → ArePairs may_be (record { bc = b; de = d; hl = h })
+are_pairs may_be b d h i j k = record { each = each }
   where
-    each : (p : WordPair) → IsPairFacts (facts_of p (record { bc = b; de = d; hl = h }))
+    each : (p : WordPair) → IsPairFacts may_be (facts_of p (record { bc = b; de = d; hl = h }))
     each pair.Bc = i
     each pair.De = j
     each pair.Hl = k
 
 -- ---- forgetting
 
-link_without_kept : (r : Register) (l : Option Link) → IfSome l IsLink → IfSome (link_without r l) IsLink
-link_without_kept r None h = tt
-link_without_kept r (Some l) h = choose (reads r l.other)
+link_without_kept : (may_be : ℕ → Bool) (r : Register) (l : Option Link) → IfSome l (IsLink may_be) → IfSome (link_without r l) (IsLink may_be)
+link_without_kept may_be r None h = tt
+link_without_kept may_be r (Some l) h = choose (reads r l.other)
   where
-    choose : (b : Bool) → IfSome (cond b None (Some l)) IsLink
+    choose : (b : Bool) → IfSome (cond b None (Some l)) (IsLink may_be)
     choose true = tt
     choose false = h
 
-facts_without_kept : (r : Register) (p : WordPair) (f : PairFacts) → IsPairFacts f → IsPairFacts (facts_without r p f)
-facts_without_kept r p f h = choose (is_half r p)
+facts_without_kept : (may_be : ℕ → Bool) (r : Register) (p : WordPair) (f : PairFacts) → IsPairFacts may_be f → IsPairFacts may_be (facts_without r p f)
+facts_without_kept may_be r p f h = choose (is_half r p)
   where
-    choose : (b : Bool) → IsPairFacts (cond b nothing_known (record f { link = link_without r f.link }))
+    choose : (b : Bool) → IsPairFacts may_be (cond b nothing_known (record f { link = link_without r f.link }))
     choose true = record { last = omega arith; link = tt }
-    choose false = record { last = h.last; link = link_without_kept r f.link h.link }
+    choose false = record { last = h.last; link = link_without_kept may_be r f.link h.link }
 
-ArePairs-without_register : (r : Register) (s : Pairs) → ArePairs s → ArePairs (without_register r s)
+ArePairs-without_register : (may_be : ℕ → Bool) (r : Register) (s : Pairs) → ArePairs may_be s → ArePairs may_be (without_register r s)
 unfolding without_register
-ArePairs-without_register r s h =
-    are_pairs _ _ _ (facts_without_kept r pair.Bc s.bc (h.each pair.Bc)) (facts_without_kept r pair.De s.de (h.each pair.De))
-    (facts_without_kept r pair.Hl s.hl (h.each pair.Hl))
+ArePairs-without_register may_be r s h =
+    are_pairs may_be _ _ _ (facts_without_kept may_be r pair.Bc s.bc (h.each pair.Bc)) (facts_without_kept may_be r pair.De s.de (h.each pair.De))
+    (facts_without_kept may_be r pair.Hl s.hl (h.each pair.Hl))
 
-pub without_register_kept : (r : Register) (s o : Pairs) → o ≡ without_register r s → ArePairs s → ArePairs o
-without_register_kept r s o e h = subst ArePairs (sym e) (ArePairs-without_register r s h)
+pub without_register_kept : (may_be : ℕ → Bool) (r : Register) (s o : Pairs) → o ≡ without_register r s → ArePairs may_be s → ArePairs may_be o
+without_register_kept may_be r s o e h = subst (ArePairs may_be) (sym e) (ArePairs-without_register may_be r s h)
 
 -- ---- steps
 
-IsLink-moved : (a b : ℕ) (l : Link) → IsLink l → IsLink (moved_link a b l)
-IsLink-moved a b l h = record { factor = h.factor; sum = omega arith; width = h.width }
+IsLink-moved : (may_be : ℕ → Bool) (a b : ℕ) (l : Link) → IsLink may_be l → IsLink may_be (moved_link a b l)
+IsLink-moved may_be a b l h = record { other = h.other; factor = h.factor; sum = omega arith; width = h.width }
 
-link_of_step_kept : (p : WordPair) (a : ℕ) (q : WordPair) (l : Option Link) → IfSome l IsLink → IfSome (link_of_step p a q l) IsLink
-link_of_step_kept p a q None h = tt
-link_of_step_kept p a q (Some l) h = choose (reads_half p l.other || (is_same_pair p q && reads_pair p l.other))
+link_of_step_kept : (may_be : ℕ → Bool) (p : WordPair) (a : ℕ) (q : WordPair) (l : Option Link) → IfSome l (IsLink may_be) → IfSome (link_of_step p a q l) (IsLink may_be)
+link_of_step_kept may_be p a q None h = tt
+link_of_step_kept may_be p a q (Some l) h = choose (reads_half p l.other || (is_same_pair p q && reads_pair p l.other))
   where
-    choose : (b : Bool) → IfSome (cond b None (Some (moved_link (by_if (is_same_pair p q) a) (by_if (reads_pair p l.other) a) l))) IsLink
+    choose : (b : Bool) → IfSome (cond b None (Some (moved_link (by_if (is_same_pair p q) a) (by_if (reads_pair p l.other) a) l))) (IsLink may_be)
     choose true = tt
-    choose false = IsLink-moved _ _ l h
+    choose false = IsLink-moved may_be _ _ l h
 
 either_below : (c : Bool) (b d : Bounds) → b.last < 65536 → d.last < 65536 → (cond c b d).last < 65536
 either_below true b d h k = h
 either_below false b d h k = k
 
 facts_of_step_kept :
-    (p : WordPair) (a : ℕ) (b : Bounds) (q : WordPair) (f : PairFacts)
-    → b.last < 65536 → IsPairFacts f → IsPairFacts (facts_of_step p a b q f)
-facts_of_step_kept p a b q f below h =
-    record { last = either_below (is_same_pair p q) b f.bounds below h.last; link = link_of_step_kept p a q f.link h.link }
+    (may_be : ℕ → Bool) (p : WordPair) (a : ℕ) (b : Bounds) (q : WordPair) (f : PairFacts)
+    → b.last < 65536 → IsPairFacts may_be f → IsPairFacts may_be (facts_of_step p a b q f)
+facts_of_step_kept may_be p a b q f below h =
+    record { last = either_below (is_same_pair p q) b f.bounds below h.last; link = link_of_step_kept may_be p a q f.link h.link }
 
-ArePairs-stepped : (p : WordPair) (a : ℕ) (b : Bounds) (s : Pairs) → b.last < 65536 → ArePairs s → ArePairs (stepped p a b s)
+ArePairs-stepped : (may_be : ℕ → Bool) (p : WordPair) (a : ℕ) (b : Bounds) (s : Pairs) → b.last < 65536 → ArePairs may_be s → ArePairs may_be (stepped p a b s)
 unfolding stepped
-ArePairs-stepped p a b s below h =
-    are_pairs _ _ _ (facts_of_step_kept p a b pair.Bc s.bc below (h.each pair.Bc)) (facts_of_step_kept p a b pair.De s.de below (h.each pair.De))
-    (facts_of_step_kept p a b pair.Hl s.hl below (h.each pair.Hl))
+ArePairs-stepped may_be p a b s below h =
+    are_pairs may_be _ _ _ (facts_of_step_kept may_be p a b pair.Bc s.bc below (h.each pair.Bc)) (facts_of_step_kept may_be p a b pair.De s.de below (h.each pair.De))
+    (facts_of_step_kept may_be p a b pair.Hl s.hl below (h.each pair.Hl))
 
 bounds_up_below : (n : ℕ) (b : Bounds) → (bounds_up n b).last < 65536
 unfolding bounds_up
@@ -108,56 +108,56 @@ bounds_down_below : (n : ℕ) (b : Bounds) → b.last < 65536 → (bounds_down n
 unfolding bounds_down
 bounds_down_below n b h = either_below (nat_le n (smaller b.first b.last)) _ any_bounds (omega arith) (omega arith)
 
-pub incremented_kept : (p : WordPair) (v : Values) (o : Pairs) → o ≡ incremented p v → ArePairs v.pairs → ArePairs o
+pub incremented_kept : (may_be : ℕ → Bool) (p : WordPair) (v : Values) (o : Pairs) → o ≡ incremented p v → ArePairs may_be v.pairs → ArePairs may_be o
 unfolding incremented
-incremented_kept p v o e h = subst ArePairs (sym e) (ArePairs-stepped p 1 _ v.pairs (bounds_up_below 1 _) h)
+incremented_kept may_be p v o e h = subst (ArePairs may_be) (sym e) (ArePairs-stepped may_be p 1 _ v.pairs (bounds_up_below 1 _) h)
 
-pub decremented_kept : (p : WordPair) (v : Values) (o : Pairs) → o ≡ decremented p v → ArePairs v.pairs → ArePairs o
+pub decremented_kept : (may_be : ℕ → Bool) (p : WordPair) (v : Values) (o : Pairs) → o ≡ decremented p v → ArePairs may_be v.pairs → ArePairs may_be o
 unfolding decremented
-decremented_kept p v o e h =
-    subst ArePairs (sym e) (ArePairs-stepped p 65535 _ v.pairs (bounds_down_below 1 _ (bounds_of_below p v h)) h)
+decremented_kept may_be p v o e h =
+    subst (ArePairs may_be) (sym e) (ArePairs-stepped may_be p 65535 _ v.pairs (bounds_down_below 1 _ (bounds_of_below may_be p v h)) h)
 
 -- ---- a byte's step
 
 link_of_byte_kept :
-    (r : Register) (low high : ℕ) (q : WordPair) (l : Option Link) → IfSome l IsLink → IfSome (link_of_byte r low high q l) IsLink
-link_of_byte_kept r low high q None h = tt
-link_of_byte_kept r low high q (Some l) h = IsLink-moved _ _ l h
+    (may_be : ℕ → Bool) (r : Register) (low high : ℕ) (q : WordPair) (l : Option Link) → IfSome l (IsLink may_be) → IfSome (link_of_byte r low high q l) (IsLink may_be)
+link_of_byte_kept may_be r low high q None h = tt
+link_of_byte_kept may_be r low high q (Some l) h = IsLink-moved may_be _ _ l h
 
-facts_of_byte_up_kept : (r : Register) (v : Values) (q : WordPair) → ArePairs v.pairs → IsPairFacts (facts_of_byte_up r v q)
-facts_of_byte_up_kept r v q h =
+facts_of_byte_up_kept : (may_be : ℕ → Bool) (r : Register) (v : Values) (q : WordPair) → ArePairs may_be v.pairs → IsPairFacts may_be (facts_of_byte_up r v q)
+facts_of_byte_up_kept may_be r v q h =
     record {
       last = either_below (is_half r q) _ (facts_of q v.pairs).bounds (bounds_up_below (weight r) (bounds_of q v)) (h.each q).last;
-      link = link_of_byte_kept r 1 256 q _ (h.each q).link;
+      link = link_of_byte_kept may_be r 1 256 q _ (h.each q).link;
     }
 
-facts_of_byte_down_kept : (r : Register) (v : Values) (q : WordPair) → ArePairs v.pairs → IsPairFacts (facts_of_byte_down r v q)
-facts_of_byte_down_kept r v q h =
+facts_of_byte_down_kept : (may_be : ℕ → Bool) (r : Register) (v : Values) (q : WordPair) → ArePairs may_be v.pairs → IsPairFacts may_be (facts_of_byte_down r v q)
+facts_of_byte_down_kept may_be r v q h =
     record {
       last =
-          either_below (is_half r q) _ (facts_of q v.pairs).bounds (bounds_down_below (weight r) _ (bounds_of_below q v h)) (h.each q).last;
-      link = link_of_byte_kept r 65535 65280 q _ (h.each q).link;
+          either_below (is_half r q) _ (facts_of q v.pairs).bounds (bounds_down_below (weight r) _ (bounds_of_below may_be q v h)) (h.each q).last;
+      link = link_of_byte_kept may_be r 65535 65280 q _ (h.each q).link;
     }
 
-either_kept : (c : Bool) (s t : Pairs) → ArePairs s → ArePairs t → ArePairs (cond c s t)
-either_kept true s t h k = h
-either_kept false s t h k = k
+either_kept : (may_be : ℕ → Bool) (c : Bool) (s t : Pairs) → ArePairs may_be s → ArePairs may_be t → ArePairs may_be (cond c s t)
+either_kept may_be true s t h k = h
+either_kept may_be false s t h k = k
 
-pub byte_incremented_kept : (r : Register) (v : Values) (o : Pairs) → o ≡ byte_incremented r v → ArePairs v.pairs → ArePairs o
+pub byte_incremented_kept : (may_be : ℕ → Bool) (r : Register) (v : Values) (o : Pairs) → o ≡ byte_incremented r v → ArePairs may_be v.pairs → ArePairs may_be o
 unfolding byte_incremented
-byte_incremented_kept r v o e h =
-    subst ArePairs (sym e)
-    (either_kept (nat_lt (get r v.registers).hi 255) _ _
-    (are_pairs _ _ _ (facts_of_byte_up_kept r v pair.Bc h) (facts_of_byte_up_kept r v pair.De h) (facts_of_byte_up_kept r v pair.Hl h))
-    (ArePairs-without_register r v.pairs h))
+byte_incremented_kept may_be r v o e h =
+    subst (ArePairs may_be) (sym e)
+    (either_kept may_be (nat_lt (get r v.registers).hi 255) _ _
+    (are_pairs may_be _ _ _ (facts_of_byte_up_kept may_be r v pair.Bc h) (facts_of_byte_up_kept may_be r v pair.De h) (facts_of_byte_up_kept may_be r v pair.Hl h))
+    (ArePairs-without_register may_be r v.pairs h))
 
-pub byte_decremented_kept : (r : Register) (v : Values) (o : Pairs) → o ≡ byte_decremented r v → ArePairs v.pairs → ArePairs o
+pub byte_decremented_kept : (may_be : ℕ → Bool) (r : Register) (v : Values) (o : Pairs) → o ≡ byte_decremented r v → ArePairs may_be v.pairs → ArePairs may_be o
 unfolding byte_decremented
-byte_decremented_kept r v o e h =
-    subst ArePairs (sym e)
-    (either_kept (nat_lt 0 (get r v.registers).lo) _ _
-    (are_pairs _ _ _ (facts_of_byte_down_kept r v pair.Bc h) (facts_of_byte_down_kept r v pair.De h) (facts_of_byte_down_kept r v pair.Hl h))
-    (ArePairs-without_register r v.pairs h))
+byte_decremented_kept may_be r v o e h =
+    subst (ArePairs may_be) (sym e)
+    (either_kept may_be (nat_lt 0 (get r v.registers).lo) _ _
+    (are_pairs may_be _ _ _ (facts_of_byte_down_kept may_be r v pair.Bc h) (facts_of_byte_down_kept may_be r v pair.De h) (facts_of_byte_down_kept may_be r v pair.Hl h))
+    (ArePairs-without_register may_be r v.pairs h))
 
 -- ---- sums
 
@@ -165,79 +165,79 @@ sums_below : (carry : Option Bool) (x y : Bounds) → (sums carry x y).last < 65
 sums_below None x y = omega arith
 sums_below (Some carry) x y = omega arith
 
-pub IsLink-copied : (p q : WordPair) (k : Option Link) → IfSome k IsLink → IsLink (link_copied p q k)
-IsLink-copied p q None h = record { factor = refl; sum = omega arith; width = omega arith }
-IsLink-copied p q (Some l) h = choose (is_read p l.other)
+pub IsLink-copied : (may_be : ℕ → Bool) (p q : WordPair) (k : Option Link) → IfSome k (IsLink may_be) → IsLink may_be (link_copied p q k)
+IsLink-copied may_be p q None h = record { other = tt; factor = refl; sum = omega arith; width = omega arith }
+IsLink-copied may_be p q (Some l) h = choose (is_read p l.other)
   where
-    choose : (b : Bool) → IsLink (cond b (equal_to q) l)
-    choose true = record { factor = refl; sum = omega arith; width = omega arith }
+    choose : (b : Bool) → IsLink may_be (cond b (equal_to q) l)
+    choose true = record { other = tt; factor = refl; sum = omega arith; width = omega arith }
     choose false = h
 
-IfSome-link_of_sum : (from : Option WordPair) (v : Values) → ArePairs v.pairs → IfSome (link_of_sum from v) IsLink
-IfSome-link_of_sum None v h = tt
-IfSome-link_of_sum (Some p) v h = choose (is_one (bounds_of pair.Hl v) && not (is_same_pair pair.Hl p))
+IfSome-link_of_sum : (may_be : ℕ → Bool) (from : Option WordPair) (v : Values) → ArePairs may_be v.pairs → IfSome (link_of_sum from v) (IsLink may_be)
+IfSome-link_of_sum may_be None v h = tt
+IfSome-link_of_sum may_be (Some p) v h = choose (is_one (bounds_of pair.Hl v) && not (is_same_pair pair.Hl p))
   where
     copied : Link
     copied = link_copied pair.Hl p (facts_of p v.pairs).link
 
-    choose : (b : Bool) → IfSome (cond b (Some (moved_link (bounds_of pair.Hl v).first 0 copied)) None) IsLink
+    choose : (b : Bool) → IfSome (cond b (Some (moved_link (bounds_of pair.Hl v).first 0 copied)) None) (IsLink may_be)
     choose true =
-        let is = IsLink-copied pair.Hl p (facts_of p v.pairs).link (h.each p).link in
-        record { factor = is.factor; sum = omega arith; width = is.width }
+        let is = IsLink-copied may_be pair.Hl p (facts_of p v.pairs).link (h.each p).link in
+        record { other = is.other; factor = is.factor; sum = omega arith; width = is.width }
     choose false = tt
 
-ArePairs-with_hl : (b : Bounds) (l : Option Link) (s : Pairs) → b.last < 65536 → IfSome l IsLink → ArePairs s → ArePairs (with_hl b l s)
-ArePairs-with_hl b l s below linked h =
-    let left = ArePairs-without_register H _ (ArePairs-without_register L s h) in
-    are_pairs _ _ _ (left.each pair.Bc) (left.each pair.De) (record { last = below; link = linked })
+ArePairs-with_hl : (may_be : ℕ → Bool) (b : Bounds) (l : Option Link) (s : Pairs) → b.last < 65536 → IfSome l (IsLink may_be) → ArePairs may_be s → ArePairs may_be (with_hl b l s)
+ArePairs-with_hl may_be b l s below linked h =
+    let left = ArePairs-without_register may_be H _ (ArePairs-without_register may_be L s h) in
+    are_pairs may_be _ _ _ (left.each pair.Bc) (left.each pair.De) (record { last = below; link = linked })
 
 pub added_kept :
-    (y : Bounds) (is_hl : Bool) (from : Option WordPair) (v : Values) (o : HlSum) → o ≡ added y is_hl from v → ArePairs v.pairs → ArePairs o.pairs
+    (may_be : ℕ → Bool) (y : Bounds) (is_hl : Bool) (from : Option WordPair) (v : Values) (o : HlSum) → o ≡ added y is_hl from v → ArePairs may_be v.pairs → ArePairs may_be o.pairs
 unfolding added
-added_kept y is_hl from v o e h =
+added_kept may_be y is_hl from v o e h =
     let below = sums_below (carry_of (bounds_of pair.Hl v) y) (bounds_of pair.Hl v) y in
-    subst (λ s. ArePairs s.pairs) (sym e)
-    (either_kept (is_one y && not is_hl) _ _ (ArePairs-stepped pair.Hl y.first _ v.pairs below h) (ArePairs-with_hl _ _ v.pairs below (IfSome-link_of_sum from v h) h))
+    subst (λ s. ArePairs may_be s.pairs) (sym e)
+    (either_kept may_be (is_one y && not is_hl) _ _ (ArePairs-stepped may_be pair.Hl y.first _ v.pairs below h) (ArePairs-with_hl may_be _ _ v.pairs below (IfSome-link_of_sum may_be from v h) h))
 
 -- ---- a procedure is left
 
-IsPairFacts-without_bases : (f : PairFacts) → IsPairFacts f → IsPairFacts (facts_without_base f)
-IsPairFacts-without_bases f h = record { last = h.last; link = by f.link h.link }
+IsPairFacts-without_bases : (may_be : ℕ → Bool) (f : PairFacts) → IsPairFacts may_be f → IsPairFacts may_be (facts_without_base f)
+IsPairFacts-without_bases may_be f h = record { last = h.last; link = by f.link h.link }
   where
-    by : (l : Option Link) → IfSome l IsLink → IfSome (link_without_base l) IsLink
+    by : (l : Option Link) → IfSome l (IsLink may_be) → IfSome (link_without_base l) (IsLink may_be)
     by None i = tt
     by (Some l) i = choose (is_none l.base)
       where
-        choose : (b : Bool) → IfSome (cond b (Some l) None) IsLink
+        choose : (b : Bool) → IfSome (cond b (Some l) None) (IsLink may_be)
         choose true = i
         choose false = tt
 
-pub without_bases_kept : (s o : Pairs) → o ≡ without_bases s → ArePairs s → ArePairs o
+pub without_bases_kept : (may_be : ℕ → Bool) (s o : Pairs) → o ≡ without_bases s → ArePairs may_be s → ArePairs may_be o
 unfolding without_bases
-without_bases_kept s o e h =
-    subst ArePairs (sym e)
-    (are_pairs _ _ _ (IsPairFacts-without_bases s.bc (h.each pair.Bc)) (IsPairFacts-without_bases s.de (h.each pair.De)) (IsPairFacts-without_bases s.hl (h.each pair.Hl)))
+without_bases_kept may_be s o e h =
+    subst (ArePairs may_be) (sym e)
+    (are_pairs may_be _ _ _ (IsPairFacts-without_bases may_be s.bc (h.each pair.Bc)) (IsPairFacts-without_bases may_be s.de (h.each pair.De)) (IsPairFacts-without_bases may_be s.hl (h.each pair.Hl)))
 
 -- ---- reducing
 
-pub ArePairs-cut : (v w : Values) → IsCut v w → ArePairs v.pairs → ArePairs w.pairs
-ArePairs-cut v w h k =
+pub ArePairs-cut : (may_be : ℕ → Bool) (v w : Values) → IsCut v w → ArePairs may_be v.pairs → ArePairs may_be w.pairs
+ArePairs-cut may_be v w h k =
     record {
       each = λ p.
           let cut = h.last p in
           let below = (k.each p).last in
-          record { last = omega arith; link = subst (λ l. IfSome l IsLink) (sym (h.link p)) (k.each p).link };
+          record { last = omega arith; link = subst (λ l. IfSome l (IsLink may_be)) (sym (h.link p)) (k.each p).link };
     }
 
-cut_kept : (v : Values) (o : Option Values) → IfSome o (IsCut v) → ArePairs v.pairs → IfSome o (λ w. ArePairs w.pairs)
-cut_kept v None h k = tt
-cut_kept v (Some w) h k = ArePairs-cut v w h k
+cut_kept : (may_be : ℕ → Bool) (v : Values) (o : Option Values) → IfSome o (IsCut v) → ArePairs may_be v.pairs → IfSome o (λ w. ArePairs may_be w.pairs)
+cut_kept may_be v None h k = tt
+cut_kept may_be v (Some w) h k = ArePairs-cut may_be v w h k
 
 pub reduced_kept :
-    (entered : PairBounds) (v : Values) (o : Option Values) → o ≡ reduced entered v → ArePairs v.pairs → IfSome o (λ w. ArePairs w.pairs)
-reduced_kept entered v o e = cut_kept v o (reduced_cuts entered v o e)
+    (may_be : ℕ → Bool) (entered read : PairBounds) (v : Values) (o : Option Values) → o ≡ reduced entered read v → ArePairs may_be v.pairs → IfSome o (λ w. ArePairs may_be w.pairs)
+reduced_kept may_be entered read v o e = cut_kept may_be v o (reduced_cuts entered read v o e)
 
 pub restricted_kept :
-    (p : WordPair) (within : Bounds) (v : Values) (o : Option Values)
-    → o ≡ restricted p within v → ArePairs v.pairs → IfSome o (λ w. ArePairs w.pairs)
-restricted_kept p within v o e = cut_kept v o (restricted_cuts p within v o e)
+    (may_be : ℕ → Bool) (p : WordPair) (within : Bounds) (v : Values) (o : Option Values)
+    → o ≡ restricted p within v → ArePairs may_be v.pairs → IfSome o (λ w. ArePairs may_be w.pairs)
+restricted_kept may_be p within v o e = cut_kept may_be v o (restricted_cuts p within v o e)

@@ -12,13 +12,13 @@ use Rattle.gb_domain.specs.declared.pairs.Bounds.{Bounds}
 use Rattle.gb_domain.specs.declared.pairs.PairBounds.{PairBounds}
 use Rattle.gb_domain.specs.declared.pairs.Link.{Link}
 use Rattle.gb_domain.specs.declared.pairs.PairFacts.{PairFacts}
-use Rattle.gb_domain.specs.Pairs.{facts_of}
+use Rattle.gb_domain.specs.Pairs.{bounds_in, facts_of}
 use Rattle.gb_vals.specs.Logic.{smaller, larger}
 use Rattle.gb_pairs.specs.declared.values.Values.{Values}
 use Rattle.gb_pairs.specs.Bounds.{cut, is_empty, high_of, low_of, box, bounds_of}
 use Rattle.gb_pairs.specs.Plain.{is_plain, are_plain, with_boxes, EndInBytes}
 use Rattle.gb_pairs.specs.Reduced.{unbased, values_within, cut_val, with_bounds, high_bounds, low_bounds, with_bytes_if, settled, reduced_within, reduced_pair, reduced_once, reduced}
-use Rattle.gb_pairs.specs.Meaning.{Holds}
+use Rattle.gb_pairs.specs.Meaning.{Beside, Holds}
 use Rattle.gb_pairs.specs.Sound.{IsSoundReducing}
 use Rattle.gb_pairs.proofs.RegisterLaws.{each_facts}
 use Rattle.gb_pairs.proofs.BoundsLaws.{Within-bytes}
@@ -124,12 +124,12 @@ box-some high low f h =
     let low_order = h.low.order in
     grind (arith, nat_tests)
 
-reduced_pair-plain : (entered : PairBounds) (p : WordPair) (v : Values) → IsPlainPair p v → reduced_pair entered p v ≡ Some (with_box p v)
+reduced_pair-plain : (entered read : PairBounds) (p : WordPair) (v : Values) → IsPlainPair p v → reduced_pair entered read p v ≡ Some (with_box p v)
 unfolding reduced_pair
-reduced_pair-plain entered p v h =
-    subst (λ b. cond (is_empty b) None (reduced_within p (unbased entered (facts_of p v.pairs).link) b v) ≡ Some (with_box p v)) (sym (bounds_of-plain p v h))
-    (subst (λ e. cond e None (reduced_within p (unbased entered (facts_of p v.pairs).link) (box_of p v) v) ≡ Some (with_box p v)) (sym (box-some _ _ _ h))
-    (subst (λ l. reduced_within p (unbased entered l) (box_of p v) v ≡ Some (with_box p v)) (sym h.link) (settled-plain p v h)))
+reduced_pair-plain entered read p v h =
+    subst (λ b. cond (is_empty b) None (reduced_within p (unbased entered (facts_of p v.pairs).link) (bounds_in p read) b v) ≡ Some (with_box p v)) (sym (bounds_of-plain p v h))
+    (subst (λ e. cond e None (reduced_within p (unbased entered (facts_of p v.pairs).link) (bounds_in p read) (box_of p v) v) ≡ Some (with_box p v)) (sym (box-some _ _ _ h))
+    (subst (λ l. reduced_within p (unbased entered l) (bounds_in p read) (box_of p v) v ≡ Some (with_box p v)) (sym h.link) (settled-plain p v h)))
 
 -- ---- all pairs
 
@@ -149,16 +149,16 @@ ArePlain-with_box p v h =
           h.each;
     }
 
-reduced_once-plain : (entered : PairBounds) (v : Values) → ArePlain v → reduced_once entered v ≡ Some (with_boxes v)
+reduced_once-plain : (entered read : PairBounds) (v : Values) → ArePlain v → reduced_once entered read v ≡ Some (with_boxes v)
 unfolding reduced_once with_boxes
-reduced_once-plain entered v h =
+reduced_once-plain entered read v h =
     let by_bc = ArePlain-with_box pair.Bc v h in
     let by_de = ArePlain-with_box pair.De _ by_bc in
-    subst (λ o. option_and_then (reduced_pair entered pair.Hl) (option_and_then (reduced_pair entered pair.De) o) ≡ Some (with_boxes v))
-    (sym (reduced_pair-plain entered pair.Bc v (h.each pair.Bc)))
-    (subst (λ o. option_and_then (reduced_pair entered pair.Hl) o ≡ Some (with_boxes v))
-    (sym (reduced_pair-plain entered pair.De (with_box pair.Bc v) (by_bc.each pair.De)))
-    (reduced_pair-plain entered pair.Hl (with_box pair.De (with_box pair.Bc v)) (by_de.each pair.Hl)))
+    subst (λ o. option_and_then (reduced_pair entered read pair.Hl) (option_and_then (reduced_pair entered read pair.De) o) ≡ Some (with_boxes v))
+    (sym (reduced_pair-plain entered read pair.Bc v (h.each pair.Bc)))
+    (subst (λ o. option_and_then (reduced_pair entered read pair.Hl) o ≡ Some (with_boxes v))
+    (sym (reduced_pair-plain entered read pair.De (with_box pair.Bc v) (by_bc.each pair.De)))
+    (reduced_pair-plain entered read pair.Hl (with_box pair.De (with_box pair.Bc v)) (by_de.each pair.Hl)))
 
 ArePlain-with_boxes : (v : Values) → ArePlain v → ArePlain (with_boxes v)
 unfolding with_boxes
@@ -168,11 +168,11 @@ with_boxes-again : (v : Values) → with_boxes (with_boxes v) ≡ with_boxes v
 unfolding with_boxes
 with_boxes-again v = refl
 
-reduced-plain : (entered : PairBounds) (v : Values) → ArePlain v → reduced entered v ≡ Some (with_boxes v)
+reduced-plain : (entered read : PairBounds) (v : Values) → ArePlain v → reduced entered read v ≡ Some (with_boxes v)
 unfolding reduced
-reduced-plain entered v h =
-    subst (λ o. option_and_then (reduced_once entered) o ≡ Some (with_boxes v)) (sym (reduced_once-plain entered v h))
-    (reduced_once-plain entered (with_boxes v) (ArePlain-with_boxes v h) ∙ ap Some (with_boxes-again v))
+reduced-plain entered read v h =
+    subst (λ o. option_and_then (reduced_once entered read) o ≡ Some (with_boxes v)) (sym (reduced_once-plain entered read v h))
+    (reduced_once-plain entered read (with_boxes v) (ArePlain-with_boxes v h) ∙ ap Some (with_boxes-again v))
 
 -- ---- the clauses of functions
 
@@ -216,19 +216,19 @@ ArePlain-tested v h bytes =
     (IsPlain-tested _ _ v.pairs.hl (is_none-use _ links.1) hl.1 bytes.h bytes.l)
 
 pub with_boxes_plain :
-    (entered : PairBounds) (v w : Values) → w ≡ with_boxes v → EndInBytes v.registers → are_plain v ≡ true → reduced entered v ≡ Some w
-with_boxes_plain entered v w e bytes h = reduced-plain entered v (ArePlain-tested v h bytes) ∙ ap Some (sym e)
+    (entered read : PairBounds) (v w : Values) → w ≡ with_boxes v → EndInBytes v.registers → are_plain v ≡ true → reduced entered read v ≡ Some w
+with_boxes_plain entered read v w e bytes h = reduced-plain entered read v (ArePlain-tested v h bytes) ∙ ap Some (sym e)
 
-Holds-with_box : (p : WordPair) (v : Values) (was x : Registers ℕ) → Holds v was x → Holds (with_box p v) was x
+Holds-with_box : (p : WordPair) (v : Values) (was : Beside) (x : Registers ℕ) → Holds v was x → Holds (with_box p v) was x
 Holds-with_box p v was x h = Holds-with_bounds p (box_of p v) v was x (Within-bytes p v was x h) h
 
 -- of all pairs, plain or not
-pub with_boxes_sound : (entered : PairBounds) (v w : Values) → w ≡ with_boxes v → IsSoundReducing entered v (Some w)
+pub with_boxes_sound : (entered read : PairBounds) (v w : Values) → w ≡ with_boxes v → IsSoundReducing entered read v (Some w)
 unfolding with_boxes
-with_boxes_sound entered v w e =
-    subst (λ u. IsSoundReducing entered v (Some u)) (sym e)
+with_boxes_sound entered read v w e =
+    subst (λ u. IsSoundReducing entered read v (Some u)) (sym e)
     (record {
-      gives = λ was x within bytes h.
+      gives = λ was x within reads bytes h.
           let by_bc = Holds-with_box pair.Bc v was x h in
           let by_de = Holds-with_box pair.De (with_box pair.Bc v) was x by_bc in
           Holds-with_box pair.Hl (with_box pair.De (with_box pair.Bc v)) was x by_de;

@@ -17,23 +17,24 @@ use Rattle.gb_domain.specs.Pairs.{any_bounds, facts_of}
 use Rattle.gb_vals.specs.Logic.{smaller, larger}
 use Rattle.gb_pairs.specs.declared.values.Values.{Values}
 use Rattle.gb_pairs.specs.Bounds.{bounds_of}
-use Rattle.gb_pairs.specs.Meaning.{word_of, other_of, base_of, IsLinked, HoldsPair, HoldPairs, AreBytes, Holds}
+use Rattle.gb_pairs.specs.Meaning.{Beside, word_of, other_of, base_of, IsLinked, HoldsPair, HoldPairs, AreBytes, Holds}
 use Rattle.gb_pairs.specs.Written.{is_half, is_same_pair}
 use Rattle.gb_pairs.specs.Moved.{moved_link, by_if, bounds_up, bounds_down, reads_half, reads_pair, link_of_step, facts_of_step, stepped, incremented, decremented}
 use Rattle.gb_pairs.specs.Sound.{Within, with_word, IsSoundStep}
 use Rattle.gb_pairs.proofs.RegisterLaws.{same_pair}
-use Rattle.gb_pairs.proofs.BoundsLaws.{Within-bounds_of, word_below, other_below}
+use Rattle.gb_pairs.proofs.BoundsLaws.{Within-bounds_of, word_below}
 
 -- ---- on plain numbers
 
 moved_sum :
     (w o f base s more a b w' o' : ℕ)
-    → (w + f * o) % 65536 ≡ (base + s + more) % 65536 → w' ≡ (w + a) % 65536 → o' ≡ (o + b) % 65536
+    → (w + f * o) % 65536 ≡ (base + s + more) % 65536 → w' ≡ (w + a) % 65536 → o' % 65536 ≡ (o + b) % 65536
     → (w' + f * o') % 65536 ≡ (base + (s + a + f * b) % 65536 + more) % 65536
 moved_sum w o f base s more a b w' o' h d e =
+    let q : ℕ = o' / 65536 in
     let r : ℕ = (o + b) / 65536 in
-    let is : o + b ≡ o' + 65536 * r = omega arith in
-    let times : f * o + f * b ≡ f * o' + 65536 * (f * r) = omega (arith, ap (λ n. f * n) is) in
+    let is : o + b + 65536 * q ≡ o' + 65536 * r = omega arith in
+    let times : f * o + f * b + 65536 * (f * q) ≡ f * o' + 65536 * (f * r) = omega (arith, ap (λ n. f * n) is) in
     omega arith
 
 word_split : (w : ℕ) → 256 * (w / 256) + w % 256 ≡ w
@@ -42,17 +43,24 @@ word_split w = omega arith
 pub stays : (n : ℕ) → n < 65536 → n ≡ (n + 0) % 65536
 stays n h = omega arith
 
+-- whatever it is
+pub none_more : (n : ℕ) → n % 65536 ≡ (n + 0) % 65536
+none_more n = omega arith
+
+pub again : (m n : ℕ) → m ≡ n % 65536 → m % 65536 ≡ n % 65536
+again m n h = omega arith
+
 -- ---- links
 
 pub IsLinked-moved :
-    (l : Link) (q : WordPair) (was x y : Registers ℕ) (a b : ℕ)
-    → word_of q y ≡ (word_of q x + a) % 65536 → other_of l.other y ≡ (other_of l.other x + b) % 65536
+    (l : Link) (q : WordPair) (was : Beside) (x y : Registers ℕ) (a b : ℕ)
+    → word_of q y ≡ (word_of q x + a) % 65536 → other_of l.other was y % 65536 ≡ (other_of l.other was x + b) % 65536
     → IsLinked (Some l) q was x → IsLinked (Some (moved_link a b l)) q was y
 IsLinked-moved l q was x y a b d e h =
     record {
       more = h.more;
       most = h.most;
-      sum = moved_sum (word_of q x) (other_of l.other x) l.factor (base_of l.base was) l.sum h.more a b (word_of q y) (other_of l.other y) h.sum d e;
+      sum = moved_sum (word_of q x) (other_of l.other was x) l.factor (base_of l.base was.entered) l.sum h.more a b (word_of q y) (other_of l.other was y) h.sum d e;
     }
 
 -- ---- registers where a pair becomes a word
@@ -99,16 +107,17 @@ word_step pair.Hl pair.De a x h = stays _ (word_below pair.De x h)
 word_step pair.Hl pair.Hl a x h = word_same pair.Hl _ x
 
 other_step :
-    (p : WordPair) (o : Other) (a : ℕ) (x : Registers ℕ) → AreBytes x → reads_half p o ≡ false
-    → other_of o (with_word p ((word_of p x + a) % 65536) x) ≡ (other_of o x + by_if (reads_pair p o) a) % 65536
-other_step p (other.Register r) a x h e = get_with_word r p _ x e ∙ stays _ (other_below (other.Register r) x h)
-other_step p (other.Pair q) a x h e = word_step p q a x h
-other_step p other.Nothing a x h e = refl
+    (p : WordPair) (o : Other) (a : ℕ) (was : Beside) (x : Registers ℕ) → AreBytes x → reads_half p o ≡ false
+    → other_of o was (with_word p ((word_of p x + a) % 65536) x) % 65536 ≡ (other_of o was x + by_if (reads_pair p o) a) % 65536
+other_step p (other.Register r) a was x h e = ap (λ n. n % 65536) (get_with_word r p _ x e) ∙ none_more _
+other_step p (other.Pair q) a was x h e = again _ _ (word_step p q a x h)
+other_step p (other.Cell c) a was x h e = none_more _
+other_step p other.Nothing a was x h e = refl
 
 -- ---- a pair's step
 
 link_step :
-    (p : WordPair) (a : ℕ) (q : WordPair) (l : Option Link) (was x : Registers ℕ) → AreBytes x → IsLinked l q was x
+    (p : WordPair) (a : ℕ) (q : WordPair) (l : Option Link) (was : Beside) (x : Registers ℕ) → AreBytes x → IsLinked l q was x
     → IsLinked (link_of_step p a q l) q was (with_word p ((word_of p x + a) % 65536) x)
 link_step p a q None was x bytes h = tt
 link_step p a q (Some l) was x bytes h = choose (reads_half p l.other) (is_same_pair p q && reads_pair p l.other) refl
@@ -120,10 +129,10 @@ link_step p a q (Some l) was x bytes h = choose (reads_half p l.other) (is_same_
         q was (with_word p ((word_of p x + a) % 65536) x)
     choose true c e = tt
     choose false true e = tt
-    choose false false e = IsLinked-moved l q was x _ _ _ (word_step p q a x bytes) (other_step p l.other a x bytes e) h
+    choose false false e = IsLinked-moved l q was x _ _ _ (word_step p q a x bytes) (other_step p l.other a was x bytes e) h
 
 facts_step :
-    (p : WordPair) (a : ℕ) (b : Bounds) (q : WordPair) (f : PairFacts) (was x : Registers ℕ)
+    (p : WordPair) (a : ℕ) (b : Bounds) (q : WordPair) (f : PairFacts) (was : Beside) (x : Registers ℕ)
     → AreBytes x → HoldsPair f q was x → Within b ((word_of p x + a) % 65536)
     → HoldsPair (facts_of_step p a b q f) q was (with_word p ((word_of p x + a) % 65536) x)
 facts_step p a b q f was x bytes h k =
@@ -141,7 +150,7 @@ facts_step p a b q f was x bytes h k =
         subst (λ w. Within f.bounds w) (stays _ (word_below q x bytes) ∙ sym moved) (record { least = h.first; most = h.last })
 
 pub HoldPairs-stepped :
-    (p : WordPair) (a : ℕ) (b : Bounds) (s : Pairs) (was x : Registers ℕ)
+    (p : WordPair) (a : ℕ) (b : Bounds) (s : Pairs) (was : Beside) (x : Registers ℕ)
     → AreBytes x → HoldPairs s was x → Within b ((word_of p x + a) % 65536)
     → HoldPairs (stepped p a b s) was (with_word p ((word_of p x + a) % 65536) x)
 unfolding stepped
@@ -185,7 +194,7 @@ unfolding incremented
 incremented_sound p v o e = subst (λ s. IsSoundStep p 1 v s) (sym e) (record { gives = gives })
   where
     gives :
-        (was x : Registers ℕ) → AreBytes x → Holds v was x
+        (was : Beside) (x : Registers ℕ) → AreBytes x → Holds v was x
         → HoldPairs (stepped p 1 (bounds_up 1 (bounds_of p v)) v.pairs) was (with_word p ((word_of p x + 1) % 65536) x)
     gives was x bytes h = HoldPairs-stepped p 1 _ v.pairs was x bytes h.pairs (Within-up 1 _ _ (Within-bounds_of p v was x h))
 
@@ -194,7 +203,7 @@ unfolding decremented
 decremented_sound p v o e = subst (λ s. IsSoundStep p 65535 v s) (sym e) (record { gives = gives })
   where
     gives :
-        (was x : Registers ℕ) → AreBytes x → Holds v was x
+        (was : Beside) (x : Registers ℕ) → AreBytes x → Holds v was x
         → HoldPairs (stepped p 65535 (bounds_down 1 (bounds_of p v)) v.pairs) was (with_word p ((word_of p x + 65535) % 65536) x)
     gives was x bytes h =
         HoldPairs-stepped p 65535 _ v.pairs was x bytes h.pairs

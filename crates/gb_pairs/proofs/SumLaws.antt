@@ -14,7 +14,7 @@ use Rattle.gb_domain.specs.Pairs.{facts_of}
 use Rattle.gb_pairs.specs.declared.values.Values.{Values}
 use Rattle.gb_pairs.specs.declared.moved.HlSum.{HlSum}
 use Rattle.gb_pairs.specs.Bounds.{is_one, bounds_of}
-use Rattle.gb_pairs.specs.Meaning.{word_of, IsLinked, HoldsPair, HoldPairs, AreBytes, Holds}
+use Rattle.gb_pairs.specs.Meaning.{Beside, word_of, IsLinked, HoldsPair, HoldPairs, AreBytes, Holds}
 use Rattle.gb_pairs.specs.Written.{is_same_pair, without_register}
 use Rattle.gb_pairs.specs.Moved.{goes_round, if_alike, carry_of, sums, moved_link, stepped, with_hl, link_of_sum, added}
 use Rattle.gb_pairs.specs.Sound.{Within, with_word, IsCarry, IsWordOf, IsSoundSum}
@@ -56,7 +56,7 @@ Within-sums b c w n p q h k = choose (goes_round b.first c.first) (goes_round b.
 
 -- HL is some other word
 HoldPairs-with_hl :
-    (b : Bounds) (l : Option Link) (s : Pairs) (w : ℕ) (was x : Registers ℕ)
+    (b : Bounds) (l : Option Link) (s : Pairs) (w : ℕ) (was : Beside) (x : Registers ℕ)
     → w < 65536 → AreBytes x → HoldPairs s was x → Within b w → IsLinked l pair.Hl was (with_word pair.Hl w x)
     → HoldPairs (with_hl b l s) was (with_word pair.Hl w x)
 HoldPairs-with_hl b l s w was x small bytes h k linked = record { each = each }
@@ -78,7 +78,7 @@ HoldPairs-with_hl b l s w was x small bytes h k linked = record { each = each }
 
 -- HL is the pair's word and a known one more
 linked_sum :
-    (from : Option WordPair) (v : Values) (was x : Registers ℕ) (n : ℕ) → AreBytes x → Holds v was x → n < 65536 → IsWordOf from n x
+    (from : Option WordPair) (v : Values) (was : Beside) (x : Registers ℕ) (n : ℕ) → AreBytes x → Holds v was x → n < 65536 → IsWordOf from n x
     → IsLinked (link_of_sum from v) pair.Hl was (with_word pair.Hl ((word_of pair.Hl x + n) % 65536) x)
 linked_sum None v was x n bytes h small is = tt
 linked_sum (Some p) v was x n bytes h small is = choose (is_one hl) (is_same_pair pair.Hl p) refl refl
@@ -112,10 +112,10 @@ linked_sum (Some p) v was x n bytes h small is = choose (is_one hl) (is_same_pai
         (h.pairs.each p).link in
         IsLinked-moved copied pair.Hl was y z hl.first 0
         (word_same pair.Hl _ x ∙ subst (λ m. (word_of pair.Hl x + n) % 65536 ≡ (m + hl.first) % 65536) (sym (word_same pair.Hl n x)) (omega arith))
-        (other_again copied.other n ((word_of pair.Hl x + n) % 65536) x bytes (unread pair.Hl p (facts_of p v.pairs).link f)) linked
+        (other_again copied.other n ((word_of pair.Hl x + n) % 65536) was x (unread pair.Hl p (facts_of p v.pairs).link f)) linked
 
 pairs_added :
-    (c : Bounds) (is_hl : Bool) (from : Option WordPair) (v : Values) (was x : Registers ℕ) (n : ℕ)
+    (c : Bounds) (is_hl : Bool) (from : Option WordPair) (v : Values) (was : Beside) (x : Registers ℕ) (n : ℕ)
     → (bounds_of pair.Hl v).last < 65536 → c.last < 65536 → AreBytes x → Holds v was x → Within c n → IsWordOf from n x
     → HoldPairs (added c is_hl from v).pairs was (with_word pair.Hl ((word_of pair.Hl x + n) % 65536) x)
 unfolding added

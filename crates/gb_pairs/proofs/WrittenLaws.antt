@@ -12,30 +12,31 @@ use Rattle.gb_domain.specs.declared.pairs.Link.{Link}
 use Rattle.gb_domain.specs.declared.pairs.PairFacts.{PairFacts}
 use Rattle.gb_domain.specs.declared.pairs.Pairs.{Pairs}
 use Rattle.gb_domain.specs.Pairs.{nothing_known, facts_of}
-use Rattle.gb_pairs.specs.Meaning.{word_of, other_of, base_of, AreLinked, IsLinked, HoldsPair, HoldPairs, AreBytes}
+use Rattle.gb_pairs.specs.Meaning.{Beside, word_of, other_of, base_of, AreLinked, IsLinked, HoldsPair, HoldPairs, AreBytes}
 use Rattle.gb_pairs.specs.Written.{is_half, reads, link_without, facts_without, without_register, link_without_base, facts_without_base, without_bases}
 use Rattle.gb_pairs.specs.Sound.{IsSoundWithoutBases, IsSoundForgetting}
 use Rattle.gb_pairs.proofs.RegisterLaws.{get_other, word_other, AreBytes-set}
 use Rattle.gb_pairs.proofs.BoundsLaws.{word_below}
 
 -- what isn't read from the register stays
-other_stays : (r : Register) (o : Other) (n : ℕ) (x : Registers ℕ) → reads r o ≡ false → other_of o (set r n x) ≡ other_of o x
-other_stays r (other.Register s) n x h = get_other r s n x h
-other_stays r (other.Pair p) n x h = word_other r p n x h
-other_stays r other.Nothing n x h = refl
+other_stays : (r : Register) (o : Other) (n : ℕ) (was : Beside) (x : Registers ℕ) → reads r o ≡ false → other_of o was (set r n x) ≡ other_of o was x
+other_stays r (other.Register s) n was x h = get_other r s n x h
+other_stays r (other.Pair p) n was x h = word_other r p n x h
+other_stays r (other.Cell a) n was x h = refl
+other_stays r other.Nothing n was x h = refl
 
 -- a link goes on where the pair and what it reads stay
 IsLinked-stays :
-    (l : Option Link) (p : WordPair) (was x y : Registers ℕ)
-    → word_of p y ≡ word_of p x → ((k : Link) → l ≡ Some k → other_of k.other y ≡ other_of k.other x)
+    (l : Option Link) (p : WordPair) (was : Beside) (x y : Registers ℕ)
+    → word_of p y ≡ word_of p x → ((k : Link) → l ≡ Some k → other_of k.other was y ≡ other_of k.other was x)
     → IsLinked l p was x → IsLinked l p was y
 IsLinked-stays None p was x y e f h = tt
 IsLinked-stays (Some l) p was x y e f h =
-    let g : other_of l.other y ≡ other_of l.other x = f l refl in
-    subst (λ w. AreLinked l (base_of l.base was) w (other_of l.other y)) (sym e) (subst (λ o. AreLinked l (base_of l.base was) (word_of p x) o) (sym g) h)
+    let g : other_of l.other was y ≡ other_of l.other was x = f l refl in
+    subst (λ w. AreLinked l (base_of l.base was.entered) w (other_of l.other was y)) (sym e) (subst (λ o. AreLinked l (base_of l.base was.entered) (word_of p x) o) (sym g) h)
 
 IsLinked-without :
-    (r : Register) (l : Option Link) (p : WordPair) (n : ℕ) (was x : Registers ℕ)
+    (r : Register) (l : Option Link) (p : WordPair) (n : ℕ) (was : Beside) (x : Registers ℕ)
     → is_half r p ≡ false → IsLinked l p was x → IsLinked (link_without r l) p was (set r n x)
 IsLinked-without r None p n was x e h = tt
 IsLinked-without r (Some l) p n was x e h = choose (reads r l.other) refl
@@ -43,11 +44,11 @@ IsLinked-without r (Some l) p n was x e h = choose (reads r l.other) refl
     choose : (b : Bool) → reads r l.other ≡ b → IsLinked (cond b None (Some l)) p was (set r n x)
     choose true f = tt
     choose false f =
-        subst (λ w. AreLinked l (base_of l.base was) w (other_of l.other (set r n x))) (sym (word_other r p n x e))
-        (subst (λ o. AreLinked l (base_of l.base was) (word_of p x) o) (sym (other_stays r l.other n x f)) h)
+        subst (λ w. AreLinked l (base_of l.base was.entered) w (other_of l.other was (set r n x))) (sym (word_other r p n x e))
+        (subst (λ o. AreLinked l (base_of l.base was.entered) (word_of p x) o) (sym (other_stays r l.other n was x f)) h)
 
 HoldsPair-without :
-    (r : Register) (p : WordPair) (f : PairFacts) (n : ℕ) (was x : Registers ℕ)
+    (r : Register) (p : WordPair) (f : PairFacts) (n : ℕ) (was : Beside) (x : Registers ℕ)
     → n ≤ 255 → AreBytes x → HoldsPair f p was x → HoldsPair (facts_without r p f) p was (set r n x)
 HoldsPair-without r p f n was x byte bytes h = choose (is_half r p) refl
   where
@@ -62,7 +63,7 @@ HoldsPair-without r p f n was x byte bytes h = choose (is_half r p) refl
         record { first = omega arith; last = omega arith; link = IsLinked-without r f.link p n was x e h.link }
 
 pub HoldPairs-without :
-    (r : Register) (s : Pairs) (n : ℕ) (was x : Registers ℕ)
+    (r : Register) (s : Pairs) (n : ℕ) (was : Beside) (x : Registers ℕ)
     → n ≤ 255 → AreBytes x → HoldPairs s was x → HoldPairs (without_register r s) was (set r n x)
 unfolding without_register
 HoldPairs-without r s n was x byte bytes h = record { each = each }
@@ -78,26 +79,37 @@ without_register_sound r s o e =
 
 -- ---- a procedure is left
 
+unentered : (o : Other) (was : Beside) (entered x : Registers ℕ) → other_of o was x ≡ other_of o (record was { entered = entered }) x
+unentered (other.Register r) was entered x = refl
+unentered (other.Pair p) was entered x = refl
+unentered (other.Cell a) was entered x = refl
+unentered other.Nothing was entered x = refl
+
 IsLinked-without_bases :
-    (l : Option Link) (p : WordPair) (was entered x : Registers ℕ) → IsLinked l p was x → IsLinked (link_without_base l) p entered x
+    (l : Option Link) (p : WordPair) (was : Beside) (entered x : Registers ℕ)
+    → IsLinked l p was x → IsLinked (link_without_base l) p (record was { entered = entered }) x
 IsLinked-without_bases None p was entered x h = tt
 IsLinked-without_bases (Some l) p was entered x h = choose l.base refl
   where
-    choose : (b : Option WordPair) → l.base ≡ b → IsLinked (cond (is_none b) (Some l) None) p entered x
+    choose : (b : Option WordPair) → l.base ≡ b → IsLinked (cond (is_none b) (Some l) None) p (record was { entered = entered }) x
     choose (Some q) e = tt
     choose None e =
-        subst (λ c. AreLinked l (base_of c entered) (word_of p x) (other_of l.other x)) (sym e)
-        (subst (λ c. AreLinked l (base_of c was) (word_of p x) (other_of l.other x)) e h)
+        subst (λ c. AreLinked l (base_of c entered) (word_of p x) (other_of l.other (record was { entered = entered }) x)) (sym e)
+        (subst (λ c. AreLinked l (base_of c was.entered) (word_of p x) (other_of l.other (record was { entered = entered }) x)) e
+        (subst (λ n. AreLinked l (base_of l.base was.entered) (word_of p x) n) (unentered l.other was entered x) h))
 
 HoldsPair-without_bases :
-    (f : PairFacts) (p : WordPair) (was entered x : Registers ℕ) → HoldsPair f p was x → HoldsPair (facts_without_base f) p entered x
+    (f : PairFacts) (p : WordPair) (was : Beside) (entered x : Registers ℕ)
+    → HoldsPair f p was x → HoldsPair (facts_without_base f) p (record was { entered = entered }) x
 HoldsPair-without_bases f p was entered x h = record { first = h.first; last = h.last; link = IsLinked-without_bases f.link p was entered x h.link }
 
 pub without_bases_sound : (s o : Pairs) → o ≡ without_bases s → IsSoundWithoutBases s o
 unfolding without_bases
 without_bases_sound s o e = subst (λ t. IsSoundWithoutBases s t) (sym e) (record { gives = λ was entered x h. record { each = each was entered x h } })
   where
-    each : (was entered x : Registers ℕ) → HoldPairs s was x → (p : WordPair) → HoldsPair (facts_of p (without_bases s)) p entered x
+    each :
+        (was : Beside) (entered x : Registers ℕ)
+        → HoldPairs s was x → (p : WordPair) → HoldsPair (facts_of p (without_bases s)) p (record was { entered = entered }) x
     each was entered x h pair.Bc = HoldsPair-without_bases s.bc pair.Bc was entered x (h.each pair.Bc)
     each was entered x h pair.De = HoldsPair-without_bases s.de pair.De was entered x (h.each pair.De)
     each was entered x h pair.Hl = HoldsPair-without_bases s.hl pair.Hl was entered x (h.each pair.Hl)

@@ -51,11 +51,12 @@ zero_alone = record { first = 0; last = 0 }
 abbrev pub bounds_of_val : Val → Bounds
 bounds_of_val v = record { first = v.lo; last = v.hi }
 
--- the bounds of what a link reads
-unfoldable pub bounds_of_other : Other → Values → Bounds
-bounds_of_other (other.Register r) v = bounds_of_val (get r v.registers)
-bounds_of_other (other.Pair p) v = bounds_of p v
-bounds_of_other other.Nothing v = zero_alone
+-- the bounds of what a link reads, where it reads memory within b
+unfoldable pub bounds_of_other : Bounds → Other → Values → Bounds
+bounds_of_other b (other.Register r) v = bounds_of_val (get r v.registers)
+bounds_of_other b (other.Pair p) v = bounds_of p v
+bounds_of_other b (other.Cell a) v = b
+bounds_of_other b other.Nothing v = zero_alone
 
 -- the bounds of a link's base, where those of the pairs at entry are known
 abbrev pub bounds_of_base : Option WordPair → PairBounds → Bounds

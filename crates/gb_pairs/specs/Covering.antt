@@ -2,7 +2,6 @@
 use Rattle.std.specs.Prelude.{ℕ, ◌+◌, ◌-◌, ◌*◌, ◌%◌, Bool, true, false, ◌&&◌, ◌||◌, ◌==◌, if◌then◌else◌, nat_le, nat_lt, Option, Some, None, is_none}
 use Rattle.gb_ops.specs.declared.op.Register.{Register}
 use Rattle.gb_ops.specs.declared.op.Register.TheVariants as register
-use Rattle.gb_ops.specs.declared.registers.Registers.{Registers}
 use Rattle.gb_ops.specs.Registers.{get}
 use Rattle.gb_domain.specs.declared.pairs.WordPair.{WordPair}
 use Rattle.gb_domain.specs.declared.pairs.WordPair.TheVariants as pair
@@ -11,7 +10,9 @@ use Rattle.gb_domain.specs.declared.pairs.Other.{Other}
 use Rattle.gb_domain.specs.declared.pairs.Other.TheVariants as other
 use Rattle.gb_domain.specs.declared.pairs.Link.{Link}
 use Rattle.gb_domain.specs.declared.pairs.PairFacts.{PairFacts}
+use Rattle.gb_domain.specs.declared.pairs.PairBounds.{PairBounds}
 use Rattle.gb_domain.specs.declared.pairs.Pairs.{Pairs}
+use Rattle.gb_domain.specs.declared.places.OneByte.{OneByte}
 use Rattle.gb_domain.specs.declared.types.Origin.{Origin}
 use Rattle.gb_domain.specs.declared.types.Origin.TheVariants as origin
 use Rattle.gb_domain.specs.Pairs.{facts_of}
@@ -22,9 +23,15 @@ use Rattle.gb_pairs.specs.Bounds.{is_one, high_of, low_of, bounds_of, bounds_of_
 use Rattle.gb_pairs.specs.Reduced.{is_rising, size, pairs_at, pairs_width}
 use Rattle.gb_pairs.specs.Written.{is_same_pair}
 
+-- it is the address
+abbrev pub is_some_address : ℕ → Option ℕ → Bool
+is_some_address a None = false
+is_some_address a (Some b) = a == b
+
 abbrev pub is_same_other : Other → Other → Bool
 is_same_other (other.Register r) (other.Register s) = is_same_register r s
 is_same_other (other.Pair p) (other.Pair q) = is_same_pair p q
+is_same_other (other.Cell a) (other.Cell b) = a == b
 is_same_other other.Nothing other.Nothing = true
 is_same_other _ _ = false
 
@@ -75,17 +82,22 @@ arc_of_both l o a =
 
 -- ---- a link
 
--- both are registers that hold one byte
-abbrev pub are_one_byte : Registers Bool → Other → Other → Bool
-are_one_byte places (other.Register r) (other.Register s) = get r places && get s places
-are_one_byte places o p = false
+-- what is read is the one byte
+abbrev pub is_byte : OneByte → Other → Bool
+is_byte b (other.Register r) = get r b.registers
+is_byte b (other.Cell a) = is_some_address a b.address
+is_byte b _ = false
+
+-- both are places of the one byte
+abbrev pub are_one_byte : OneByte → Other → Other → Bool
+are_one_byte b o p = is_byte b o && is_byte b p
 
 -- a link follows from another one of the pair
-abbrev pub follows : Registers Bool → Option Link → Link → Bool
-follows places None t = false
-follows places (Some s) t =
+abbrev pub follows : OneByte → Option Link → Link → Bool
+follows b None t = false
+follows b (Some s) t =
     is_same_base s.base t.base
-    && (is_same_other s.other t.other || are_one_byte places s.other t.other)
+    && (is_same_other s.other t.other || are_one_byte b s.other t.other)
     && (s.factor == t.factor)
     && is_arc_in (arc_of_sums s) (arc_of_sums t)
 
@@ -98,10 +110,10 @@ abbrev pub follows_on : Bounds → Link → Option Arc → Bool
 follows_on o l None = false
 follows_on o l (Some a) = has_sums l (arc_of_both l o a)
 
--- which another link of it says, that has the base
-abbrev pub arc_by_link : Values → Option WordPair → Option Link → Option Arc
-arc_by_link s base None = None
-arc_by_link s base (Some k) = if is_same_base k.base base then arc_of_link k (bounds_of_other k.other s) else None
+-- which another link of it says, that has the base, where it reads memory within m
+abbrev pub arc_by_link : Values → Bounds → Option WordPair → Option Link → Option Arc
+arc_by_link s m base None = None
+arc_by_link s m base (Some k) = if is_same_base k.base base then arc_of_link k (bounds_of_other m k.other s) else None
 
 -- it is what the register held as the procedure was entered
 abbrev pub is_copy_of : Register → Option Origin → Bool
@@ -124,30 +136,33 @@ abbrev pub arc_by_itself : Values → Option WordPair → WordPair → Option Ar
 arc_by_itself s None p = Some (arc_of_bounds (bounds_of p s))
 arc_by_itself s (Some q) p = if is_as_entered p q s then Some (arc 0 0) else None
 
-unfoldable pub holds_link : Registers Bool → WordPair → Values → Link → Bool
-holds_link places p s l =
-    follows places (facts_of p s.pairs).link l
-    || follows_on (bounds_of_other l.other s) l (arc_by_itself s l.base p)
-    || follows_on (bounds_of_other l.other s) l (arc_by_link s l.base (facts_of p s.pairs).link)
+-- a link of p holds that reads memory within n, where p's own link reads it within m
+unfoldable pub holds_link : OneByte → WordPair → Values → Bounds → Bounds → Link → Bool
+holds_link one p s m n l =
+    follows one (facts_of p s.pairs).link l
+    || follows_on (bounds_of_other n l.other s) l (arc_by_itself s l.base p)
+    || follows_on (bounds_of_other n l.other s) l (arc_by_link s m l.base (facts_of p s.pairs).link)
 
 -- by the rules of versions 1 to 3: it is the pair's link, or pair and other are known and meet it
-unfoldable pub holds_link_plainly : WordPair → Values → Link → Bool
-holds_link_plainly p s l = is_same_link (facts_of p s.pairs).link l || meets_link (bounds_of p s) (bounds_of_other l.other s) l
+unfoldable pub holds_link_plainly : WordPair → Values → Bounds → Link → Bool
+holds_link_plainly p s n l = is_same_link (facts_of p s.pairs).link l || meets_link (bounds_of p s) (bounds_of_other n l.other s) l
 
 -- ---- pairs
 
 -- a link is asked for only where there is one; by the rules of version 4 what holds one byte counts too
-abbrev pub covers_link : Option (Registers Bool) → WordPair → Values → Option Link → Bool
-covers_link by p s None = true
-covers_link None p s (Some l) = holds_link_plainly p s l
-covers_link (Some places) p s (Some l) = holds_link places p s l
+abbrev pub covers_link : Option OneByte → WordPair → Values → Bounds → Bounds → Option Link → Bool
+covers_link by p s m n None = true
+covers_link None p s m n (Some l) = holds_link_plainly p s n l
+covers_link (Some one) p s m n (Some l) = holds_link one p s m n l
 
 abbrev pub covers_bounds : Bounds → Bounds → Bool
 covers_bounds s t = nat_le t.first s.first && nat_le s.last t.last
 
-abbrev pub covers_pair : Option (Registers Bool) → WordPair → Values → PairFacts → Bool
-covers_pair by p s t = covers_bounds (bounds_of p s) t.bounds && covers_link by p s t.link
+abbrev pub covers_pair : Option OneByte → WordPair → Values → Bounds → Bounds → PairFacts → Bool
+covers_pair by p s m n t = covers_bounds (bounds_of p s) t.bounds && covers_link by p s m n t.link
 
--- by the rules of version 4 where it is told which registers hold one byte
-unfoldable pub covers_pairs : Option (Registers Bool) → Values → Pairs → Bool
-covers_pairs by s t = covers_pair by pair.Bc s t.bc && covers_pair by pair.De s t.de && covers_pair by pair.Hl s t.hl
+-- by the rules of version 4 where it is told which places hold one byte; the links of s read memory within one set of bounds, those
+-- of t within another
+unfoldable pub covers_pairs : Option OneByte → Values → PairBounds → PairBounds → Pairs → Bool
+covers_pairs by s m n t =
+    covers_pair by pair.Bc s m.bc n.bc t.bc && covers_pair by pair.De s m.de n.de t.de && covers_pair by pair.Hl s m.hl n.hl t.hl

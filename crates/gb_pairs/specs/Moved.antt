@@ -100,6 +100,7 @@ by_byte _ _ low high = 0
 abbrev pub other_by_byte : Register → Other → ℕ → ℕ → ℕ
 other_by_byte r (other.Register s) low high = by_if (is_same_register r s) low
 other_by_byte r (other.Pair p) low high = by_byte r p low high
+other_by_byte r (other.Cell a) low high = 0
 other_by_byte r other.Nothing low high = 0
 
 abbrev pub link_of_byte : Register → ℕ → ℕ → WordPair → Option Link → Option Link

@@ -18,7 +18,7 @@ use Rattle.gb_domain.specs.declared.pairs.PairFacts.{PairFacts}
 use Rattle.gb_domain.specs.declared.pairs.Pairs.{Pairs}
 use Rattle.gb_domain.specs.Interval.{with_low_bits}
 use Rattle.gb_domain.specs.LowBits.{low_bits}
-use Rattle.gb_domain.specs.Pairs.{facts_of}
+use Rattle.gb_domain.specs.Pairs.{facts_of, bounds_in}
 use Rattle.gb_vals.specs.Logic.{smaller, larger}
 use Rattle.gb_pairs.specs.declared.values.Values.{Values}
 use Rattle.gb_pairs.specs.Bounds.{cut, is_empty, high_of, low_of, bounds_of, bounds_of_other, bounds_of_base}
@@ -147,10 +147,11 @@ with_register_if r (Some x) v = Some (with_register r x v)
 abbrev pub with_bounds_if : WordPair → Bounds → Values → Option Values
 with_bounds_if p b v = if is_empty b then None else Some (with_bounds p b v)
 
--- what a link reads is cut: a register's value, or a pair's own bounds, if it reads something
+-- what a link reads is cut: a register's value, or a pair's own bounds, if it reads one of these
 unfoldable pub cut_other : Other → Bounds → Values → Option Values
 cut_other (other.Register r) d v = with_register_if r (cut_val (get r v.registers) d) v
 cut_other (other.Pair p) d v = with_bounds_if p (cut (facts_of p v.pairs).bounds d) v
+cut_other (other.Cell a) d v = Some v
 cut_other other.Nothing d v = Some v
 
 abbrev pub cut_other_if : Other → Option Bounds → Values → Option Values
@@ -188,25 +189,27 @@ reduced_by_link p l o b v =
     if is_empty o || is_empty c then None
     else option_and_then (settled p c) (cut_other_if l.other (others_at l o c) v)
 
-abbrev pub reduced_within : WordPair → Option Link → Bounds → Values → Option Values
-reduced_within p None b v = settled p b v
-reduced_within p (Some l) b v = reduced_by_link p l (bounds_of_other l.other v) b v
+-- where its link reads memory within m
+abbrev pub reduced_within : WordPair → Option Link → Bounds → Bounds → Values → Option Values
+reduced_within p None m b v = settled p b v
+reduced_within p (Some l) m b v = reduced_by_link p l (bounds_of_other m l.other v) b v
 
--- one pair, by its bounds and its link, where the pairs lay in some bounds as the procedure was entered
-unfoldable pub reduced_pair : PairBounds → WordPair → Values → Option Values
-reduced_pair entered p v =
+-- one pair, by its bounds and its link, where the pairs lay in some bounds as the procedure was entered, and the bytes of memory that
+-- their links read lie in others
+unfoldable pub reduced_pair : PairBounds → PairBounds → WordPair → Values → Option Values
+reduced_pair entered read p v =
     if is_empty (bounds_of p v) then None
-    else reduced_within p (unbased entered (facts_of p v.pairs).link) (bounds_of p v) v
+    else reduced_within p (unbased entered (facts_of p v.pairs).link) (bounds_in p read) (bounds_of p v) v
 
 -- each pair once
-unfoldable pub reduced_once : PairBounds → Values → Option Values
-reduced_once entered v =
-    option_and_then (reduced_pair entered pair.Hl)
-    (option_and_then (reduced_pair entered pair.De) (reduced_pair entered pair.Bc v))
+unfoldable pub reduced_once : PairBounds → PairBounds → Values → Option Values
+reduced_once entered read v =
+    option_and_then (reduced_pair entered read pair.Hl)
+    (option_and_then (reduced_pair entered read pair.De) (reduced_pair entered read pair.Bc v))
 
 -- the same values, cut: none where they stand for nothing
-unfoldable pub reduced : PairBounds → Values → Option Values
-reduced entered v = option_and_then (reduced_once entered) (reduced_once entered v)
+unfoldable pub reduced : PairBounds → PairBounds → Values → Option Values
+reduced entered read v = option_and_then (reduced_once entered read) (reduced_once entered read v)
 
 -- ---- a pair within bounds
 

@@ -34,6 +34,7 @@ is_same_pair p q = pair_number p == pair_number q
 abbrev pub reads : Register → Other → Bool
 reads r (other.Register s) = is_same_register r s
 reads r (other.Pair p) = is_half r p
+reads r (other.Cell a) = false
 reads r other.Nothing = false
 
 abbrev pub link_without : Register → Option Link → Option Link

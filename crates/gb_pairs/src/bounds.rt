@@ -3,8 +3,7 @@
 ghost use Rattle.std.specs.Prelude.{◌≡◌};
 ghost use Rattle.gb_domain.specs.Pairs.{facts_of, bounds_in};
 ghost use Rattle.gb_pairs.specs.Bounds.{cut, is_empty, is_one, high_of, low_of, box, bounds_of, bounds_of_val, bounds_of_other, bounds_of_base};
-ghost use Rattle.gb_pairs.specs.Meaning.{word_of, other_of};
-ghost use Rattle.gb_pairs.specs.Sound.{IsSoundBounds};
+ghost use Rattle.gb_pairs.specs.Sound.{IsSoundBounds, IsSoundOther};
 
 use crate::values::Values;
 use gb_domain::pairs::{Bounds, Other, PairBounds, PairFacts, Pairs, WordPair};
@@ -85,7 +84,7 @@ pub(crate) fn box_of(high: Val, low: Val) -> Bounds
 #[tactic(auto, using(crate::proofs::BoundsLaws::bounds_of_sound), unfolding(crate::specs::Bounds::bounds_of))]
 pub fn bounds_of(pair: WordPair, values: &Values) -> Bounds
     ensures exact { result ≡ bounds_of pair values.now }
-    ensures sound { IsSoundBounds (word_of pair) values.now result }
+    ensures sound { IsSoundBounds pair values.now result }
 {
     let high = values.registers.get(high_of(pair));
     let low = values.registers.get(low_of(pair));
@@ -101,15 +100,16 @@ fn bounds_of_val(val: Val) -> Bounds
     }
 }
 
-/// The bounds of what a link reads beside its pair.
+/// The bounds of what a link reads beside its pair, where it reads memory within these.
 #[tactic(auto, using(crate::proofs::BoundsLaws::bounds_of_other_sound), unfolding(crate::specs::Bounds::bounds_of_other))]
-pub fn bounds_of_other(other: Other, values: &Values) -> Bounds
-    ensures exact { result ≡ bounds_of_other other values.now }
-    ensures sound { IsSoundBounds (other_of other) values.now result }
+pub fn bounds_of_other(memory: Bounds, other: Other, values: &Values) -> Bounds
+    ensures exact { result ≡ bounds_of_other memory other values.now }
+    ensures sound { IsSoundOther memory other values.now result }
 {
     match other {
         Other::Register(register) => bounds_of_val(values.registers.get(register)),
         Other::Pair(pair) => bounds_of(pair, values),
+        Other::Cell(_) => memory,
         Other::Nothing => ZERO_ALONE,
     }
 }

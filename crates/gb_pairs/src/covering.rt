@@ -1,18 +1,17 @@
 //! Covering: whether what is known of pairs holds of all that values stand for.
 
 ghost use Rattle.std.specs.Prelude.{◌≡◌, ◌+◌, ◌-◌, ◌%◌, true};
-ghost use Rattle.gb_pairs.specs.Covering.{is_same_other, is_same_base, is_same_link, meets_link, holds_link_plainly, arc_by, is_arc_in, arc_of_bounds, arc_of_link, arc_of_sums, arc_of_both, are_one_byte, follows, has_sums, follows_on, arc_by_link, is_copy_of, is_as_entered, arc_by_itself, holds_link, covers_link, covers_bounds, covers_pair, covers_pairs};
+ghost use Rattle.gb_pairs.specs.Covering.{is_some_address, is_byte, is_same_other, is_same_base, is_same_link, meets_link, holds_link_plainly, arc_by, is_arc_in, arc_of_bounds, arc_of_link, arc_of_sums, arc_of_both, are_one_byte, follows, has_sums, follows_on, arc_by_link, is_copy_of, is_as_entered, arc_by_itself, holds_link, covers_link, covers_bounds, covers_pair, covers_pairs};
 ghost use Rattle.gb_pairs.specs.Sound.{ArePartOf};
 
 use crate::bounds::{bounds_of, bounds_of_other, facts_of, high_of, is_one, low_of};
 use crate::reduced::{is_rising, pairs_at, pairs_width, product, size};
 use crate::values::Values;
 use crate::written::is_same_pair;
-use gb_domain::pairs::{Bounds, Link, Other, PairFacts, Pairs, WordPair};
-use gb_domain::places::is_same_register;
+use gb_domain::pairs::{Bounds, Link, Other, PairBounds, PairFacts, Pairs, WordPair};
+use gb_domain::places::{OneByte, is_same_register};
 use gb_domain::types::Origin;
 use gb_ops::op::Register;
-use gb_ops::registers::Registers;
 
 fn is_same_other(s: Other, t: Other) -> bool
     ensures { result ≡ is_same_other s t }
@@ -20,6 +19,7 @@ fn is_same_other(s: Other, t: Other) -> bool
     match (s, t) {
         (Other::Register(s), Other::Register(t)) => is_same_register(s, t),
         (Other::Pair(s), Other::Pair(t)) => is_same_pair(s, t),
+        (Other::Cell(s), Other::Cell(t)) => s == t,
         (Other::Nothing, Other::Nothing) => true,
         _ => false,
     }
@@ -62,11 +62,15 @@ fn meets_link(pair: Bounds, other: Bounds, link: Link) -> bool
 
 /// By the rules of versions 1 to 3: it is the pair's link, or pair and other are known and meet it.
 #[tactic(auto, unfolding(crate::specs::Covering::holds_link_plainly))]
-fn holds_link_plainly(pair: WordPair, s: &Values, link: Link) -> bool
-    ensures { result ≡ holds_link_plainly pair s.now link }
+fn holds_link_plainly(pair: WordPair, s: &Values, read: Bounds, link: Link) -> bool
+    ensures { result ≡ holds_link_plainly pair s.now read link }
 {
     is_same_link(facts_of(pair, &s.pairs).link, link)
-        || meets_link(bounds_of(pair, s), bounds_of_other(link.other, s), link)
+        || meets_link(
+            bounds_of(pair, s),
+            bounds_of_other(read, link.other, s),
+            link,
+        )
 }
 
 // ---- words that stand one after another
@@ -144,25 +148,43 @@ fn arc_of_both(link: Link, other: Bounds, pair: Arc) -> Option<Arc>
 
 // ---- a link
 
-/// Whether both are registers that hold one byte.
-fn are_one_byte(places: &Registers<bool>, s: Other, t: Other) -> bool
-    ensures { result ≡ are_one_byte places.now s t }
+/// Whether it is the address.
+fn is_some_address(cell: u16, address: Option<u16>) -> bool
+    ensures { result ≡ is_some_address cell address }
 {
-    match (s, t) {
-        (Other::Register(s), Other::Register(t)) => places.get(s) && places.get(t),
-        _ => false,
+    match address {
+        None => false,
+        Some(address) => cell == address,
     }
 }
 
+/// Whether what is read is the one byte.
+fn is_byte(byte: &OneByte, other: Other) -> bool
+    ensures { result ≡ is_byte byte.now other }
+{
+    match other {
+        Other::Register(register) => byte.registers.get(register),
+        Other::Cell(cell) => is_some_address(cell, byte.address),
+        Other::Pair(_) | Other::Nothing => false,
+    }
+}
+
+/// Whether both are places of the one byte.
+fn are_one_byte(byte: &OneByte, s: Other, t: Other) -> bool
+    ensures { result ≡ are_one_byte byte.now s t }
+{
+    is_byte(byte, s) && is_byte(byte, t)
+}
+
 /// Whether a link follows from another one of the pair.
-fn follows(places: &Registers<bool>, s: Option<Link>, t: Link) -> bool
-    ensures { result ≡ follows places.now s t }
+fn follows(byte: &OneByte, s: Option<Link>, t: Link) -> bool
+    ensures { result ≡ follows byte.now s t }
 {
     let Some(s) = s else {
         return false;
     };
     is_same_base(s.base, t.base)
-        && (is_same_other(s.other, t.other) || are_one_byte(places, s.other, t.other))
+        && (is_same_other(s.other, t.other) || are_one_byte(byte, s.other, t.other))
         && s.factor == t.factor
         && is_arc_in(arc_of_sums(s), arc_of_sums(t))
 }
@@ -187,13 +209,13 @@ fn follows_on(other: Bounds, link: Link, pair: Option<Arc>) -> bool
     has_sums(link, arc_of_both(link, other, pair))
 }
 
-/// Where a pair is by its link, if that has the base.
-fn arc_by_link(s: &Values, base: Option<WordPair>, link: Option<Link>) -> Option<Arc>
-    ensures { result ≡ arc_by_link s.now base link }
+/// Where a pair is by its link, which reads memory within bounds, if that has the base.
+fn arc_by_link(s: &Values, read: Bounds, base: Option<WordPair>, link: Option<Link>) -> Option<Arc>
+    ensures { result ≡ arc_by_link s.now read base link }
 {
     let link = link?;
     if is_same_base(link.base, base) {
-        arc_of_link(link, bounds_of_other(link.other, s))
+        arc_of_link(link, bounds_of_other(read, link.other, s))
     } else {
         None
     }
@@ -234,28 +256,43 @@ fn arc_by_itself(s: &Values, base: Option<WordPair>, pair: WordPair) -> Option<A
     }
 }
 
+/// Whether a link of the pair holds that reads memory within some bounds, where the pair's own link reads it within others.
 #[tactic(auto, unfolding(crate::specs::Covering::holds_link))]
-fn holds_link(places: &Registers<bool>, pair: WordPair, s: &Values, link: Link) -> bool
-    ensures { result ≡ holds_link places.now pair s.now link }
+fn holds_link(
+    byte: &OneByte,
+    pair: WordPair,
+    s: &Values,
+    own_read: Bounds,
+    read: Bounds,
+    link: Link,
+) -> bool
+    ensures { result ≡ holds_link byte.now pair s.now own_read read link }
 {
     let known = facts_of(pair, &s.pairs).link;
-    let other = bounds_of_other(link.other, s);
-    follows(places, known, link)
+    let other = bounds_of_other(read, link.other, s);
+    follows(byte, known, link)
         || follows_on(other, link, arc_by_itself(s, link.base, pair))
-        || follows_on(other, link, arc_by_link(s, link.base, known))
+        || follows_on(other, link, arc_by_link(s, own_read, link.base, known))
 }
 
 // ---- pairs
 
-fn covers_link(by: Option<Registers<bool>>, pair: WordPair, s: &Values, link: Option<Link>) -> bool
-    ensures { result ≡ covers_link by pair s.now link }
+fn covers_link(
+    by: Option<OneByte>,
+    pair: WordPair,
+    s: &Values,
+    own_read: Bounds,
+    read: Bounds,
+    link: Option<Link>,
+) -> bool
+    ensures { result ≡ covers_link by pair s.now own_read read link }
 {
     let Some(link) = link else {
         return true;
     };
     match by {
-        None => holds_link_plainly(pair, s, link),
-        Some(places) => holds_link(&places, pair, s, link),
+        None => holds_link_plainly(pair, s, read, link),
+        Some(byte) => holds_link(&byte, pair, s, own_read, read, link),
     }
 }
 
@@ -265,20 +302,34 @@ fn covers_bounds(s: Bounds, t: Bounds) -> bool
     t.first <= s.first && s.last <= t.last
 }
 
-fn covers_pair(by: Option<Registers<bool>>, pair: WordPair, s: &Values, t: PairFacts) -> bool
-    ensures { result ≡ covers_pair by pair s.now t }
+fn covers_pair(
+    by: Option<OneByte>,
+    pair: WordPair,
+    s: &Values,
+    own_read: Bounds,
+    read: Bounds,
+    t: PairFacts,
+) -> bool
+    ensures { result ≡ covers_pair by pair s.now own_read read t }
 {
-    covers_bounds(bounds_of(pair, s), t.bounds) && covers_link(by, pair, s, t.link)
+    covers_bounds(bounds_of(pair, s), t.bounds) && covers_link(by, pair, s, own_read, read, t.link)
 }
 
 /// Whether what is known of pairs holds of all registers that values stand for, decided pair by pair (abstract
-/// interpretation: inclusion): by the rules of version 4 where it is told which registers hold one byte.
+/// interpretation: inclusion): by the rules of version 4 where it is told which places hold one byte. The links of the values read
+/// memory within some bounds, those that are asked for within others.
 #[tactic(auto, using(crate::proofs::CoveringLaws::covers_pairs_sound), unfolding(crate::specs::Covering::covers_pairs))]
-pub fn covers_pairs(by: Option<Registers<bool>>, values: &Values, pairs: &Pairs) -> bool
-    ensures exact { result ≡ covers_pairs by values.now pairs.now }
-    ensures sound { result ≡ true → ArePartOf by values.now pairs.now }
+pub fn covers_pairs(
+    by: Option<OneByte>,
+    values: &Values,
+    own_read: &PairBounds,
+    read: &PairBounds,
+    pairs: &Pairs,
+) -> bool
+    ensures exact { result ≡ covers_pairs by values.now own_read.now read.now pairs.now }
+    ensures sound { result ≡ true → ArePartOf by values.now own_read.now read.now pairs.now }
 {
-    covers_pair(by, WordPair::Bc, values, pairs.bc)
-        && covers_pair(by, WordPair::De, values, pairs.de)
-        && covers_pair(by, WordPair::Hl, values, pairs.hl)
+    covers_pair(by, WordPair::Bc, values, own_read.bc, read.bc, pairs.bc)
+        && covers_pair(by, WordPair::De, values, own_read.de, read.de, pairs.de)
+        && covers_pair(by, WordPair::Hl, values, own_read.hl, read.hl, pairs.hl)
 }

@@ -1,6 +1,6 @@
 //! Steps: registers that move by a known amount move the bounds of their pairs, and the sums of links.
 
-ghost use Rattle.std.specs.Prelude.{◌≡◌};
+ghost use Rattle.std.specs.Prelude.{◌≡◌, ℕ, Bool};
 ghost use Rattle.gb_domain.specs.Pairs.{ArePairs};
 ghost use Rattle.gb_pairs.specs.Moved.{moved_link, by_if, bounds_up, bounds_down, reads_half, reads_pair, link_of_step, facts_of_step, stepped, incremented, decremented, by_byte, other_by_byte, link_of_byte, weight, facts_of_byte_up, facts_of_byte_down, byte_incremented, byte_decremented, goes_round, carry_of, sums, with_hl, link_of_sum, added};
 ghost use Rattle.gb_pairs.specs.Sound.{IsSoundStep, IsSoundByteStep, IsSoundSum};
@@ -21,7 +21,7 @@ pub struct HlSum {
 }
 
 /// A link whose pair moved by one amount, and what it reads by another.
-fn moved_link(by_pair: u16, by_other: u16, link: Link) -> Link
+pub fn moved_link(by_pair: u16, by_other: u16, link: Link) -> Link
     ensures { result ≡ moved_link by_pair by_other link }
 {
     let product = link.factor.wrapping_mul(by_other);
@@ -71,7 +71,7 @@ fn reads_half(pair: WordPair, other: Other) -> bool
 {
     match other {
         Other::Register(register) => is_half(register, pair),
-        Other::Pair(_) | Other::Nothing => false,
+        Other::Pair(_) | Other::Cell(_) | Other::Nothing => false,
     }
 }
 
@@ -80,7 +80,7 @@ fn reads_pair(pair: WordPair, other: Other) -> bool
 {
     match other {
         Other::Pair(read) => is_same_pair(pair, read),
-        Other::Register(_) | Other::Nothing => false,
+        Other::Register(_) | Other::Cell(_) | Other::Nothing => false,
     }
 }
 
@@ -134,7 +134,7 @@ fn stepped(moved: WordPair, amount: u16, bounds: Bounds, pairs: &Pairs) -> Pairs
 pub fn incremented(pair: WordPair, values: &Values) -> Pairs
     ensures exact { result ≡ incremented pair values.now }
     ensures sound { IsSoundStep pair 1 values.now result }
-    ensures kept { ArePairs values.now.pairs → ArePairs result }
+    ensures kept { (may_be : ℕ → Bool) → ArePairs may_be values.now.pairs → ArePairs may_be result }
 {
     stepped(
         pair,
@@ -149,7 +149,7 @@ pub fn incremented(pair: WordPair, values: &Values) -> Pairs
 pub fn decremented(pair: WordPair, values: &Values) -> Pairs
     ensures exact { result ≡ decremented pair values.now }
     ensures sound { IsSoundStep pair 65535 values.now result }
-    ensures kept { ArePairs values.now.pairs → ArePairs result }
+    ensures kept { (may_be : ℕ → Bool) → ArePairs may_be values.now.pairs → ArePairs may_be result }
 {
     stepped(
         pair,
@@ -178,7 +178,7 @@ fn other_by_byte(register: Register, other: Other, low: u16, high: u16) -> u16
     match other {
         Other::Register(read) => by_if(is_same_register(register, read), low),
         Other::Pair(pair) => by_byte(register, pair, low, high),
-        Other::Nothing => 0,
+        Other::Cell(_) | Other::Nothing => 0,
     }
 }
 
@@ -242,7 +242,7 @@ fn facts_of_byte_down(register: Register, values: &Values, pair: WordPair) -> Pa
 pub fn byte_incremented(register: Register, values: &Values) -> Pairs
     ensures exact { result ≡ byte_incremented register values.now }
     ensures sound { IsSoundByteStep register 1 values.now result }
-    ensures kept { ArePairs values.now.pairs → ArePairs result }
+    ensures kept { (may_be : ℕ → Bool) → ArePairs may_be values.now.pairs → ArePairs may_be result }
 {
     if values.registers.get(register).hi < 255 {
         Pairs {
@@ -260,7 +260,7 @@ pub fn byte_incremented(register: Register, values: &Values) -> Pairs
 pub fn byte_decremented(register: Register, values: &Values) -> Pairs
     ensures exact { result ≡ byte_decremented register values.now }
     ensures sound { IsSoundByteStep register 255 values.now result }
-    ensures kept { ArePairs values.now.pairs → ArePairs result }
+    ensures kept { (may_be : ℕ → Bool) → ArePairs may_be values.now.pairs → ArePairs may_be result }
 {
     if values.registers.get(register).lo > 0 {
         Pairs {
@@ -337,7 +337,7 @@ fn link_of_sum(from: Option<WordPair>, values: &Values) -> Option<Link>
 pub fn added(addend: Bounds, is_hl: bool, from: Option<WordPair>, values: &Values) -> HlSum
     ensures exact { result ≡ added addend is_hl from values.now }
     ensures sound { IsSoundSum addend from values.now result }
-    ensures kept { ArePairs values.now.pairs → ArePairs result.pairs }
+    ensures kept { (may_be : ℕ → Bool) → ArePairs may_be values.now.pairs → ArePairs may_be result.pairs }
 {
     let hl = bounds_of(WordPair::Hl, values);
     let carry = carry_of(hl, addend);

@@ -42,10 +42,15 @@ fn end_in_bytes(registers: Registers<Val>)
 
 /// Each pair's own bounds become those that its bytes give.
 #[tactic(auto, using(crate::proofs::PlainLaws::with_boxes_sound, crate::proofs::PlainLaws::with_boxes_plain), unfolding(crate::specs::Plain::with_boxes))]
-pub(crate) fn put_boxes(entered: &PairBounds, registers: &Registers<Val>, pairs: &mut Pairs)
+pub(crate) fn put_boxes(
+    entered: &PairBounds,
+    read: &PairBounds,
+    registers: &Registers<Val>,
+    pairs: &mut Pairs,
+)
     ensures exact { values_of registers.now pairs.new ≡ with_boxes (values_of registers.now pairs.old) }
-    ensures sound { IsSoundReducing entered.now (values_of registers.now pairs.old) (Some (values_of registers.now pairs.new)) }
-    ensures plain { are_plain (values_of registers.now pairs.old) ≡ true → reduced entered.now (values_of registers.now pairs.old) ≡ Some (values_of registers.now pairs.new) }
+    ensures sound { IsSoundReducing entered.now read.now (values_of registers.now pairs.old) (Some (values_of registers.now pairs.new)) }
+    ensures plain { are_plain (values_of registers.now pairs.old) ≡ true → reduced entered.now read.now (values_of registers.now pairs.old) ≡ Some (values_of registers.now pairs.new) }
 {
     end_in_bytes(*registers);
     pairs.bc.bounds = box_of(registers.b, registers.c);

@@ -1,12 +1,12 @@
 //! Reducing: values are cut to what their pairs and links leave.
 
-ghost use Rattle.std.specs.Prelude.{◌≡◌, ◌≤◌, ◌*◌, IfSome};
+ghost use Rattle.std.specs.Prelude.{◌≡◌, ◌≤◌, ◌*◌, ℕ, Bool, IfSome};
 ghost use Rattle.gb_domain.specs.Pairs.{ArePairs};
 ghost use Rattle.gb_pairs.specs.Reduced.{values_of, values_if, is_rising, size, pair_at, last_pair_at, pairs_at, pairs_width, cut_by_other, without_base, unbased, multiple_at, last_sum, multiples_at, others_at, values_within, cut_val, with_facts, with_bounds, with_bounds_if, cut_other, high_bounds, low_bounds, settled, reduced_by_link, reduced_pair, reduced_once, reduced, restricted};
 ghost use Rattle.gb_pairs.specs.Sound.{IsSoundWithoutBase, IsSoundByLink, IsSoundReducing, IsSoundRestriction, IsCut};
 
 use crate::bounds::{
-    bounds_of, bounds_of_base, bounds_of_other, cut, facts_of, high_of, is_empty, low_of,
+    bounds_in, bounds_of, bounds_of_base, bounds_of_other, cut, facts_of, high_of, is_empty, low_of,
 };
 use crate::plain::{are_plain, put_boxes};
 use crate::values::Values;
@@ -226,7 +226,7 @@ fn set_bounds(pair: WordPair, bounds: Bounds, values: &mut Values)
     set_facts(pair, PairFacts { bounds, ..facts }, values);
 }
 
-/// What a link reads is cut: a register's value, or a pair's own bounds, if it reads something.
+/// What a link reads is cut: a register's value, or a pair's own bounds, if it reads one of these.
 #[tactic(auto, unfolding(crate::specs::Reduced::cut_other))]
 fn cut_other(other: Other, bounds: Bounds, values: &Values) -> Option<Values>
     ensures { result ≡ cut_other other bounds values.now }
@@ -244,7 +244,7 @@ fn cut_other(other: Other, bounds: Bounds, values: &Values) -> Option<Values>
             }
             set_bounds(pair, left, &mut reduced);
         }
-        Other::Nothing => {}
+        Other::Cell(_) | Other::Nothing => {}
     }
     Some(reduced)
 }
@@ -311,11 +311,17 @@ fn reduced_by_link(
     }
 }
 
-/// Values cut by one pair, where the pairs lay in some bounds as the procedure was entered.
+/// Values cut by one pair, where the pairs lay in some bounds as the procedure was entered, and the bytes of memory that their links
+/// read lie in others.
 #[tactic(auto, using(crate::proofs::ReducedLaws::no_link_sound, crate::proofs::ReducedLaws::link_sound, crate::proofs::ReducedLaws::empty_sound), unfolding(crate::specs::Reduced::reduced_pair))]
-fn reduced_pair(entered: &PairBounds, pair: WordPair, values: &Values) -> Option<Values>
-    ensures exact { result ≡ reduced_pair entered.now pair values.now }
-    ensures sound { IsSoundReducing entered.now values.now result }
+fn cut_by_pair(
+    entered: &PairBounds,
+    read: &PairBounds,
+    pair: WordPair,
+    values: &Values,
+) -> Option<Values>
+    ensures exact { result ≡ reduced_pair entered.now read.now pair values.now }
+    ensures sound { IsSoundReducing entered.now read.now values.now result }
 {
     let bounds = bounds_of(pair, values);
     if is_empty(bounds) {
@@ -326,45 +332,66 @@ fn reduced_pair(entered: &PairBounds, pair: WordPair, values: &Values) -> Option
         Some(link) => reduced_by_link(
             pair,
             link,
-            bounds_of_other(link.other, values),
+            bounds_of_other(bounds_in(pair, read), link.other, values),
             bounds,
             values,
         ),
     }
 }
 
-/// Values cut by each pair.
-#[tactic(auto, using(crate::proofs::ReducedLaws::sound_then, crate::proofs::ReducedLaws::sound_none), unfolding(crate::specs::Reduced::reduced_once))]
-fn reduced_once(entered: &PairBounds, values: &Values) -> Option<Values>
-    ensures exact { result ≡ reduced_once entered.now values.now }
-    ensures sound { IsSoundReducing entered.now values.now result }
+/// The same, which changes neither origins nor links.
+#[tactic(auto, using(crate::proofs::CutLaws::one_pair_cuts))]
+fn reduced_pair(
+    entered: &PairBounds,
+    read: &PairBounds,
+    pair: WordPair,
+    values: &Values,
+) -> Option<Values>
+    ensures exact { result ≡ reduced_pair entered.now read.now pair values.now }
+    ensures sound { IsSoundReducing entered.now read.now values.now result }
+    ensures cuts { IfSome result (IsCut values.now) }
 {
-    let by_bc = reduced_pair(entered, WordPair::Bc, values)?;
-    let by_de = reduced_pair(entered, WordPair::De, &by_bc)?;
-    reduced_pair(entered, WordPair::Hl, &by_de)
+    cut_by_pair(entered, read, pair, values)
+}
+
+/// Values cut by each pair.
+#[tactic(auto, using(crate::proofs::ReducedLaws::sound_then, crate::proofs::ReducedLaws::sound_none, crate::proofs::CutLaws::cuts_then), unfolding(crate::specs::Reduced::reduced_once))]
+fn reduced_once(entered: &PairBounds, read: &PairBounds, values: &Values) -> Option<Values>
+    ensures exact { result ≡ reduced_once entered.now read.now values.now }
+    ensures sound { IsSoundReducing entered.now read.now values.now result }
+    ensures cuts { IfSome result (IsCut values.now) }
+{
+    let by_bc = reduced_pair(entered, read, WordPair::Bc, values)?;
+    let by_de = reduced_pair(entered, read, WordPair::De, &by_bc)?;
+    reduced_pair(entered, read, WordPair::Hl, &by_de)
 }
 
 /// Each pair may cut what an earlier one reads, so that all are asked twice.
 #[tactic(auto, using(crate::proofs::ReducedLaws::sound_then, crate::proofs::ReducedLaws::sound_none), unfolding(crate::specs::Reduced::reduced))]
-fn reduced_twice(entered: &PairBounds, values: &Values) -> Option<Values>
-    ensures exact { result ≡ reduced entered.now values.now }
-    ensures sound { IsSoundReducing entered.now values.now result }
+fn reduced_twice(entered: &PairBounds, read: &PairBounds, values: &Values) -> Option<Values>
+    ensures exact { result ≡ reduced entered.now read.now values.now }
+    ensures sound { IsSoundReducing entered.now read.now values.now result }
 {
-    reduced_once(entered, &reduced_once(entered, values)?)
+    reduced_once(entered, read, &reduced_once(entered, read, values)?)
 }
 
 /// Cuts values in place by each pair, twice; whether they then mean something. It is out of line, so that no values are copied
 /// where no pair says more than its bytes.
 #[inline(never)]
-fn reduce_twice(entered: &PairBounds, registers: &mut Registers<Val>, pairs: &mut Pairs) -> bool
-    ensures exact { reduced entered.now (values_of registers.old pairs.old) ≡ values_if result (values_of registers.new pairs.new) }
-    ensures sound { IsSoundReducing entered.now (values_of registers.old pairs.old) (values_if result (values_of registers.new pairs.new)) }
+fn reduce_twice(
+    entered: &PairBounds,
+    read: &PairBounds,
+    registers: &mut Registers<Val>,
+    pairs: &mut Pairs,
+) -> bool
+    ensures exact { reduced entered.now read.now (values_of registers.old pairs.old) ≡ values_if result (values_of registers.new pairs.new) }
+    ensures sound { IsSoundReducing entered.now read.now (values_of registers.old pairs.old) (values_if result (values_of registers.new pairs.new)) }
 {
     let values = Values {
         registers: *registers,
         pairs: *pairs,
     };
-    match reduced_twice(entered, &values) {
+    match reduced_twice(entered, read, &values) {
         Some(values) => {
             *registers = values.registers;
             *pairs = values.pairs;
@@ -376,28 +403,38 @@ fn reduce_twice(entered: &PairBounds, registers: &mut Registers<Val>, pairs: &mu
 
 /// Cuts values in place by each pair, where some pair says more than its bytes: that test is cheap and mostly fails.
 #[inline(always)]
-fn reduce_by_need(entered: &PairBounds, registers: &mut Registers<Val>, pairs: &mut Pairs) -> bool
-    ensures exact { reduced entered.now (values_of registers.old pairs.old) ≡ values_if result (values_of registers.new pairs.new) }
-    ensures sound { IsSoundReducing entered.now (values_of registers.old pairs.old) (values_if result (values_of registers.new pairs.new)) }
+fn reduce_by_need(
+    entered: &PairBounds,
+    read: &PairBounds,
+    registers: &mut Registers<Val>,
+    pairs: &mut Pairs,
+) -> bool
+    ensures exact { reduced entered.now read.now (values_of registers.old pairs.old) ≡ values_if result (values_of registers.new pairs.new) }
+    ensures sound { IsSoundReducing entered.now read.now (values_of registers.old pairs.old) (values_if result (values_of registers.new pairs.new)) }
 {
     if are_plain(registers, pairs) {
-        put_boxes(entered, registers, pairs);
+        put_boxes(entered, read, registers, pairs);
         true
     } else {
-        reduce_twice(entered, registers, pairs)
+        reduce_twice(entered, read, registers, pairs)
     }
 }
 
 /// Registers and pairs are cut in place to what pairs and links leave of each other, in a procedure that was entered with pairs
-/// within bounds; whether they then stand for something.
+/// within bounds, where the bytes of memory that links read lie within others; whether they then stand for something.
 #[inline(always)]
-pub fn reduce(entered: &PairBounds, registers: &mut Registers<Val>, pairs: &mut Pairs) -> bool
-    ensures exact { reduced entered.now (values_of registers.old pairs.old) ≡ values_if result (values_of registers.new pairs.new) }
-    ensures sound { IsSoundReducing entered.now (values_of registers.old pairs.old) (values_if result (values_of registers.new pairs.new)) }
+pub fn reduce(
+    entered: &PairBounds,
+    read: &PairBounds,
+    registers: &mut Registers<Val>,
+    pairs: &mut Pairs,
+) -> bool
+    ensures exact { reduced entered.now read.now (values_of registers.old pairs.old) ≡ values_if result (values_of registers.new pairs.new) }
+    ensures sound { IsSoundReducing entered.now read.now (values_of registers.old pairs.old) (values_if result (values_of registers.new pairs.new)) }
     ensures cuts { IfSome (values_if result (values_of registers.new pairs.new)) (IsCut (values_of registers.old pairs.old)) }
-    ensures kept { ArePairs pairs.old → IfSome (values_if result (values_of registers.new pairs.new)) (λ w. ArePairs w.pairs) }
+    ensures kept { (may_be : ℕ → Bool) → ArePairs may_be pairs.old → IfSome (values_if result (values_of registers.new pairs.new)) (λ w. ArePairs may_be w.pairs) }
 {
-    reduce_by_need(entered, registers, pairs)
+    reduce_by_need(entered, read, registers, pairs)
 }
 
 #[tactic(auto, unfolding(crate::specs::Reduced::restricted))]
@@ -419,7 +456,7 @@ pub fn restricted(pair: WordPair, within: Bounds, values: &Values) -> Option<Val
     ensures exact { result ≡ restricted pair within values.now }
     ensures sound { IsSoundRestriction pair within values.now result }
     ensures cuts { IfSome result (IsCut values.now) }
-    ensures kept { ArePairs values.now.pairs → IfSome result (λ w. ArePairs w.pairs) }
+    ensures kept { (may_be : ℕ → Bool) → ArePairs may_be values.now.pairs → IfSome result (λ w. ArePairs may_be w.pairs) }
 {
     within_bounds(pair, within, values)
 }

@@ -1,6 +1,6 @@
 //! Forgetting: what is left of the pairs where a register was written.
 
-ghost use Rattle.std.specs.Prelude.{◌≡◌};
+ghost use Rattle.std.specs.Prelude.{◌≡◌, ℕ, Bool};
 ghost use Rattle.gb_domain.specs.Pairs.{ArePairs};
 ghost use Rattle.gb_pairs.specs.Sound.{IsSoundWithoutBases, IsSoundForgetting};
 ghost use Rattle.gb_pairs.specs.Written.{is_half, pair_number, is_same_pair, reads, link_without, facts_without, without_register, link_without_base, facts_without_base, without_bases};
@@ -46,7 +46,7 @@ pub(crate) fn reads(register: Register, other: Other) -> bool
     match other {
         Other::Register(read) => is_same_register(register, read),
         Other::Pair(pair) => is_half(register, pair),
-        Other::Nothing => false,
+        Other::Cell(_) | Other::Nothing => false,
     }
 }
 
@@ -79,7 +79,7 @@ fn facts_without(register: Register, pair: WordPair, facts: PairFacts) -> PairFa
 pub fn without_register(register: Register, pairs: &Pairs) -> Pairs
     ensures exact { result ≡ without_register register pairs.now }
     ensures sound { IsSoundForgetting register pairs.now result }
-    ensures kept { ArePairs pairs.now → ArePairs result }
+    ensures kept { (may_be : ℕ → Bool) → ArePairs may_be pairs.now → ArePairs may_be result }
 {
     Pairs {
         bc: facts_without(register, WordPair::Bc, pairs.bc),
@@ -114,7 +114,7 @@ fn facts_without_base(facts: PairFacts) -> PairFacts
 pub fn without_bases(pairs: &Pairs) -> Pairs
     ensures exact { result ≡ without_bases pairs.now }
     ensures sound { IsSoundWithoutBases pairs.now result }
-    ensures kept { ArePairs pairs.now → ArePairs result }
+    ensures kept { (may_be : ℕ → Bool) → ArePairs may_be pairs.now → ArePairs may_be result }
 {
     Pairs {
         bc: facts_without_base(pairs.bc),

@@ -1,5 +1,5 @@
 -- The controller's registers stay within what the places of its windows leave.
-use Rattle.std.proofs.Common.{◌≡◌, ℕ, ◌≤◌, ◌<◌, Bool, true, false, cond, nat_le, List, Option, Some, None, option_map, refl, sym, subst, arith}
+use Rattle.std.proofs.Common.{◌≡◌, ℕ, ◌≤◌, ◌<◌, Bool, true, false, cond, nat_le, List, Option, Some, None, option_map, refl, sym, subst, arith, take}
 use Rattle.std.specs.Prelude.{option_and_then, IfSome}
 use Rattle.std.proofs.lemmas.Bool.Decides.{nat_tests}
 use Rattle.gb_ops.specs.declared.machine.Banks.{Banks}
@@ -8,23 +8,23 @@ use Rattle.gb_ops.specs.declared.machine.Kind.TheVariants as kind
 use Rattle.gb_ops.specs.declared.registers.Processor.{Processor}
 use Rattle.gb_domain.specs.declared.pairs.Bounds.{Bounds}
 use Rattle.gb_domain.specs.declared.pairs.PairBounds.{PairBounds}
-use Rattle.gb_product.specs.Meaning.{entered_with}
-use Rattle.gb_ops.specs.declared.registers.Registers.{Registers}
+use Rattle.gb_product.specs.Covering.{read_by}
+use Rattle.gb_product.specs.Meaning.{beside}
 use Rattle.gb_domain.specs.declared.types.Cell.{Cell}
 use Rattle.gb_domain.specs.declared.types.Ctl.{Ctl}
 use Rattle.gb_domain.specs.Summaries.{Program, SummaryParts}
 use Rattle.gb_abs_effects.specs.Below.gb_abs.Meaning.{Activation, HoldsLowBank, HoldsController, MeansCore}
 use Rattle.gb_summaries.specs.Below.gb_pairs.declared.values.Values.{Values}
-use Rattle.gb_summaries.specs.Below.gb_pairs.Meaning.{AreBytes, Holds as HoldValues}
-use Rattle.gb_summaries.specs.Below.gb_ram_bounds.Meaning.{HoldCells}
+use Rattle.gb_summaries.specs.Below.gb_pairs.Meaning.{Beside, AreBytes, Holds as HoldValues}
+use Rattle.gb_summaries.specs.Below.gb_ram_bounds.Meaning.{HoldCells, HoldsState}
 use Rattle.gb_summaries.specs.Below.gb_copies.declared.windows.BankWindow.{BankWindow}
 use Rattle.gb_summaries.specs.Below.gb_copies.declared.windows.BankWindow.TheVariants.{First, Second}
 use Rattle.gb_summaries.specs.Below.gb_copies.Fitting.{WithinSome}
 use Rattle.gb_summaries.specs.Below.gb_copies.Windows.{register_of}
-use Rattle.gb_summaries.specs.Known.{window_bounds, HoldWindows, HoldsKnown}
-use Rattle.gb_summaries.specs.Meaning.{HoldSummary}
+use Rattle.gb_summaries.specs.Known.{pointer_bounds, window_bounds, HoldWindows, HoldsKnown}
+use Rattle.gb_summaries.specs.Meaning.{pointers_of, HoldSummary}
 use Rattle.gb_summaries.specs.Reducing.{shadows_of, has_shadow, reduced_window}
-use Rattle.gb_summaries.proofs.KnownLaws.{windows_within}
+use Rattle.gb_summaries.proofs.KnownLaws.{windows_within, PointersIn-known}
 use Rattle.gb_summaries.proofs.ReducingLaws.{reduced_window_sound}
 use Rattle.gb_product.specs.Reduced.{cut_bounds, with_window, ordered_or, with_bounds, cut_window, reduced_controller, product_of, reduced, with_banks_cut, reduced_wholly}
 use Rattle.gb_product.specs.Sound.{HoldsControllerIf, IsSoundController, IsReduced, IsMeantProduct, IsSoundReducing, IsSoundWhole}
@@ -37,6 +37,7 @@ use Rattle.gb_abs_effects.specs.Below.gb_abs.Storage.{peek}
 use Rattle.gb_summaries.specs.Below.gb_relations.Transfer.{values_of}
 use Rattle.gb_product.specs.declared.parts.Product.{Product}
 use Rattle.gb_product.proofs.ReducedLaws.{Holds-values, reduced_sound, reduced_cuts}
+use Rattle.gb_product.proofs.ReadLaws.{AreReadIn-read_by}
 use Rattle.gb_domain.specs.declared.rules.Rules.TheVariants.{Simple, Extended}
 
 -- the windows' registers are within the bounds that a controller gives them
@@ -145,7 +146,7 @@ HoldsController-with_bounds k which b c entry r e least most small h = choose (n
 
 -- what a state knows, of the registers of both windows
 record HoldsRest (program : Program) (v : Values) (cells : List Cell) (s : SummaryParts) (p : Processor) (memory : ℕ → ℕ) (r : Banks) : Type 0 where
-  was : Registers ℕ
+  was : Beside
   values : HoldValues v was p.registers
   registers : AreBytes p.registers
   bytes : (a : ℕ) → memory a < 256
@@ -223,17 +224,32 @@ MeansCore-with_ctl core c entry x h m = record {
 
 pub with_banks_cut_sound :
     (program : Program) (entered : PairBounds) (cells : List Cell) (s : SummaryParts) (core : Core) (r : Relations) (o q : Option Product)
-    → IsSoundReducing entered core r o → q ≡ option_and_then (with_banks_cut program cells s) o → IsSoundWhole program entered cells s core r q
+    → IsSoundReducing entered (read_by program (values_of core.registers r.pairs) cells s r.pairs) core r o → q ≡ option_and_then (with_banks_cut program cells s) o → IsSoundWhole program entered cells s core r q
 with_banks_cut_sound program entered cells s core r o q sound e =
     subst (λ t. IsSoundWhole program entered cells s core r t) (sym e)
-    (record { gives = λ entry x of within registers bytes cells_hold summary m related. by entry x of registers bytes cells_hold summary o (sound.gives entry x within registers m related) })
+    (record {
+      gives = λ entry x of within registers bytes cells_hold summary m related.
+          let state : HoldsState (take s.level program.facts) cells s.fills (pointer_bounds v) (peek x.storage) (pointers_of x.processor) =
+          record {
+            bytes = bytes;
+            cells_hold = cells_hold;
+            facts_hold = summary.facts;
+            fills_hold = summary.fills;
+            pointers = PointersIn-known v (beside entry x) x.processor (Holds-values core r entry x m related);
+          } in
+          by entry x of registers bytes cells_hold summary o
+          (sound.gives entry x within (AreReadIn-read_by program v cells s r.pairs (peek x.storage) (pointers_of x.processor) state) registers m related);
+    })
   where
+    v : Values
+    v = values_of core.registers r.pairs
+
     by : (entry : Activation) (x : MState) → entry.program ≡ program → AreBytes x.processor.registers → ((a : ℕ) → peek x.storage a < 256) → HoldCells cells (peek x.storage)
         → HoldSummary program cells s x.processor (peek x.storage) x.storage.banks → (p : Option Product) → IsMeantProduct p entry x → IsMeantProduct (option_and_then (with_banks_cut program cells s) p) entry x
     by entry x of registers bytes cells_hold summary None m = m
     by entry x of registers bytes cells_hold summary (Some p) m =
         cut (reduced_controller program (values_of p.core.registers p.relations.pairs) cells s p.core.ctl)
-        ((reduced_controller_sound program (values_of p.core.registers p.relations.pairs) cells s p.core.ctl _ refl).gives entry (entered_with entry) x.processor (peek x.storage) x.storage.banks of registers
+        ((reduced_controller_sound program (values_of p.core.registers p.relations.pairs) cells s p.core.ctl _ refl).gives entry (beside entry x) x.processor (peek x.storage) x.storage.banks of registers
         (Holds-values p.core p.relations entry x m.core m.related) bytes cells_hold summary m.core.controller)
       where
         cut : (d : Option Ctl) → HoldsControllerIf d entry x.storage.banks → IsMeantProduct (option_map (λ c. product_of (record p.core { ctl = c }) p.relations) d) entry x
@@ -245,12 +261,13 @@ pub same_whole : (program : Program) (entered : PairBounds) (cells : List Cell) 
 same_whole program entered cells s core r = record { gives = λ entry x of within registers bytes cells_hold summary m related. record { core = m; related = related } }
 
 pub reduced_wholly_sound :
-    (program : Program) (rules : Rules) (entered : PairBounds) (core : Core) (r : Relations) (cells : List Cell) (s : SummaryParts)
-    → (rules ≡ Extended → ArePairs r.pairs) → IsSoundWhole program entered cells s core r (reduced_wholly program rules entered core r cells s)
+    (may_be : ℕ → Bool) (program : Program) (rules : Rules) (entered : PairBounds) (core : Core) (r : Relations) (cells : List Cell) (s : SummaryParts)
+    → (rules ≡ Extended → ArePairs may_be r.pairs) → IsSoundWhole program entered cells s core r (reduced_wholly program rules entered core r cells s)
 unfolding reduced_wholly reduced
-reduced_wholly_sound program Simple entered core r cells s are = same_whole program entered cells s core r
-reduced_wholly_sound program Extended entered core r cells s are =
-    with_banks_cut_sound program entered cells s core r (reduced Extended entered core r) _ (reduced_sound Extended entered core r _ refl (are refl)) refl
+reduced_wholly_sound may_be program Simple entered core r cells s are = same_whole program entered cells s core r
+reduced_wholly_sound may_be program Extended entered core r cells s are =
+    let read = read_by program (values_of core.registers r.pairs) cells s r.pairs in
+    with_banks_cut_sound program entered cells s core r (reduced Extended entered read core r) _ (reduced_sound may_be Extended entered read core r _ refl (are refl)) refl
 
 -- SP stays set, and the one byte keeps its places
 abbrev pub AreKept : Core → Relations → Product → Type 0
@@ -283,4 +300,4 @@ pub reduced_wholly_kept :
     → IfSome (reduced_wholly program rules entered core r cells s) (AreKept core r)
 unfolding reduced_wholly reduced
 reduced_wholly_kept program Simple entered core r cells s = (refl, refl)
-reduced_wholly_kept program Extended entered core r cells s = with_banks_cut_kept program cells s core r (reduced Extended entered core r) _ (reduced_cuts Extended entered core r _ refl) refl
+reduced_wholly_kept program Extended entered core r cells s = with_banks_cut_kept program cells s core r (reduced Extended entered _ core r) _ (reduced_cuts Extended entered _ core r _ refl) refl

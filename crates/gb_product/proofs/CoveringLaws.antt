@@ -1,5 +1,5 @@
 -- What covers a whole state means each of its machine states.
-use Rattle.std.proofs.Common.{◌≡◌, ℕ, ◌==◌, Bool, true, false, ◌&&◌, cond, List, [], ◌∷◌, take, Option, Some, None, refl, sym, ◌∙◌, subst, arith}
+use Rattle.std.proofs.Common.{◌≡◌, ℕ, ◌==◌, Bool, true, false, ◌&&◌, cond, List, [], ◌∷◌, take, Option, Some, None, refl, sym, ◌∙◌, ap, subst, arith}
 use Rattle.std.proofs.lemmas.Bool.{and_parts, eqb-true}
 use Rattle.std.proofs.lemmas.Option.{same_Some}
 use Rattle.std.specs.List.{AllByRecursion, list_all}
@@ -33,6 +33,7 @@ use Rattle.gb_abs_effects.proofs.Below.gb_abs_laws.OriginLaws.{origin_value-of_r
 use Rattle.gb_abs_effects.proofs.CoreLaws.{In-from}
 use Rattle.gb_summaries.proofs.Below.gb_pairs_laws.RegisterLaws.{same_pair}
 use Rattle.gb_summaries.specs.Below.gb_copies.Meaning.{HoldOneByte}
+use Rattle.gb_summaries.specs.Below.gb_pairs.Covering.{is_some_address, is_byte}
 use Rattle.gb_summaries.specs.Below.gb_pairs.Sound.{AreOneByte, AreCopies}
 use Rattle.gb_summaries.proofs.Below.gb_pairs_laws.CoveringLaws.{covers_pairs_sound}
 use Rattle.gb_summaries.proofs.Below.gb_copies_laws.CoveringLaws.{covers_byte_sound}
@@ -40,7 +41,11 @@ use Rattle.gb_summaries.proofs.Below.gb_ram_bounds_laws.CoveringLaws.{byte_at_so
 use Rattle.gb_summaries.proofs.CoveringLaws.{HoldsState-known, covers_summary_sound}
 use Rattle.gb_summaries.proofs.KnownLaws.{PointersIn-known}
 use Rattle.gb_summaries.specs.Below.gb_pairs.declared.values.Values.{Values}
-use Rattle.gb_summaries.specs.Below.gb_pairs.Meaning.{Holds as HoldValues}
+use Rattle.gb_summaries.specs.Below.gb_pairs.Meaning.{Beside, other_of, AreReadIn, Holds as HoldValues}
+use Rattle.gb_summaries.specs.Below.gb_ram_bounds.declared.pointers.Pointers.{Pointers}
+use Rattle.gb_domain.specs.declared.places.OneByte.{OneByte}
+use Rattle.gb_domain.specs.declared.pairs.Other.{Other}
+use Rattle.gb_domain.specs.declared.pairs.Other.TheVariants as other
 use Rattle.gb_summaries.specs.Below.gb_ram_bounds.Cells.{cell_at as strided_at, has_cell}
 use Rattle.gb_summaries.specs.Below.gb_ram_bounds.Covering.{byte_at}
 use Rattle.gb_summaries.specs.Below.gb_ram_bounds.Meaning.{HoldCells, HoldsState}
@@ -49,41 +54,60 @@ use Rattle.gb_summaries.specs.Below.gb_relations.Transfer.{values_of}
 use Rattle.gb_summaries.specs.Covering.{covers_aside, covers_summary}
 use Rattle.gb_summaries.specs.Known.{pointer_bounds, HoldsKnown}
 use Rattle.gb_summaries.specs.Meaning.{pointers_of}
-use Rattle.gb_product.specs.Covering.{covers_zero, places_by, covers_relations, uncopied, byte_in, covers_cells, values_in, covers}
-use Rattle.gb_product.specs.Meaning.{entered_with, IsSummarized, Means}
+use Rattle.gb_product.specs.Covering.{covers_zero, read_by, places_by, covers_relations, uncopied, byte_in, covers_cells, values_in, read_in, covers}
+use Rattle.gb_product.specs.Meaning.{entered_with, beside, IsSummarized, Means}
 use Rattle.gb_product.specs.Sound.{IsPartOf}
 use Rattle.gb_product.proofs.ControllerLaws.{windows_hold}
+use Rattle.gb_product.proofs.ReadLaws.{AreReadIn-read_by}
 
 zero_covered : (s t : Option WordPair) (x : Registers ℕ) (f : Flags) → covers_zero s t ≡ true → IsZero s x f → IsZero t x f
 zero_covered s None x f h z = tt
 zero_covered None (Some t) x f h z = cc
 zero_covered (Some s) (Some t) x f h z = subst (λ p. IsZero (Some p) x f) (same_pair s t h) z
 
--- registers among the places of the one byte hold it
+its_address : (a : ℕ) (o : Option ℕ) → is_some_address a o ≡ true → o ≡ Some a
+its_address a None h = cc
+its_address a (Some b) h = ap Some (sym (eqb-true a b h))
+
+-- what links read that is the one byte is that byte
+byte_read :
+    (b : OneByte) (o : Other) (was : Beside) (x : Registers ℕ) (f : Flags) (h : HoldOneByte b x was.memory f)
+    → is_byte b o ≡ true → other_of o was x ≡ h.byte
+byte_read b (other.Register r) was x f h e = h.registers r e
+byte_read b (other.Pair p) was x f h e = cc
+byte_read b (other.Cell a) was x f h e = h.address a (its_address a b.address e)
+byte_read b other.Nothing was x f h e = cc
+
 one_byte :
-    (whole : Bool) (s : Relations) (x : Registers ℕ) (memory : ℕ → ℕ) (f : Flags)
-    → HoldOneByte s.byte x memory f → AreOneByte (places_by whole s) x
-one_byte false s x memory f h = tt
-one_byte true s x memory f h = λ r q e g. h.registers r e ∙ sym (h.registers q g)
+    (whole : Bool) (s : Relations) (was : Beside) (x : Registers ℕ) (f : Flags)
+    → HoldOneByte s.byte x was.memory f → AreOneByte (places_by whole s) was x
+one_byte false s was x f h = tt
+one_byte true s was x f h = λ o p e g. byte_read s.byte o was x f h e ∙ sym (byte_read s.byte p was x f h g)
 
 -- a register's copy is what the register held as the procedure was entered
 pub AreCopies-core : (core : Core) (entry : Activation) (x : MState) → MeansCore core entry x → AreCopies core.registers (entered_with entry) x.processor.registers
 AreCopies-core core entry x m = record { each = λ r s e. (m.registers r).origin (origin_of_register s) e ∙ origin_value-of_register s entry }
 
 pub HoldRelations-covered :
-    (whole : Bool) (registers : Registers Val) (s t : Relations) (was x : Registers ℕ) (memory : ℕ → ℕ) (f : Flags)
-    → covers_relations whole registers s t ≡ true → ((r : Register) → In (get r registers) (get r x)) → AreCopies registers was x
+    (program : Program) (registers : Registers Val) (cells : List Cell) (n : SummaryParts) (s t : Relations) (was x : Registers ℕ) (memory : ℕ → ℕ)
+    (y : Pointers ℕ) (f : Flags)
+    → covers_relations program registers cells n s t ≡ true → ((r : Register) → In (get r registers) (get r x)) → AreCopies registers was x
+    → HoldsState (take n.level program.facts) cells n.fills (pointer_bounds (values_of registers s.pairs)) memory y
     → HoldRelations s was x memory f → HoldRelations t was x memory f
 unfolding covers_relations
-HoldRelations-covered whole registers s t was x memory f h in_registers copies m =
+HoldRelations-covered program registers cells n s t was x memory y f h in_registers copies state m =
+    let v = values_of registers s.pairs in
     let pairs = and_parts _ _ h in
     let zero = and_parts _ _ pairs.0 in
     record {
       byte = (covers_byte_sound s.byte t.byte _ refl zero.0).gives x memory f m.byte;
       zero = zero_covered s.zero t.zero x f zero.1 m.zero;
       pairs =
-          (covers_pairs_sound (places_by whole s) (values_of registers s.pairs) t.pairs _ refl pairs.1).gives was x
-          (one_byte whole s x memory f m.byte) copies (record { registers = in_registers; pairs = m.pairs });
+          (covers_pairs_sound (places_by program.is_whole s) v (read_by program v cells n s.pairs) (read_by program v cells n t.pairs) t.pairs _ refl pairs.1).gives
+          (record { entered = was; memory = memory }) x
+          (one_byte program.is_whole s (record { entered = was; memory = memory }) x f m.byte) copies
+          (AreReadIn-read_by program v cells n s.pairs memory y state) (AreReadIn-read_by program v cells n t.pairs memory y state)
+          (record { registers = in_registers; pairs = m.pairs });
     }
 
 -- ---- bytes in RAM
@@ -153,7 +177,7 @@ AreCells-covered v cells s (c ∷ kept) entry x e memory h state =
 
 -- ---- all of it
 
-pub HoldValues-means : (s : AbsState) (entry : Activation) (base : ℕ) (x : MState) → Means s entry base x → HoldValues (values_in s) (entered_with entry) x.processor.registers
+pub HoldValues-means : (s : AbsState) (entry : Activation) (base : ℕ) (x : MState) → Means s entry base x → HoldValues (values_in s) (beside entry x) x.processor.registers
 HoldValues-means s entry base x m =
     record {
       registers = λ r. In-from (get r s.core.registers) entry (get r x.processor.registers) (m.parts.core.registers r);
@@ -165,7 +189,7 @@ pub HoldsKnown-means :
     → HoldsKnown entry.program (values_in s) s.core.ctl s.cells s.summary x.processor (peek x.storage) x.storage.banks
 HoldsKnown-means s entry base x m =
     record {
-      was = entered_with entry;
+      was = beside entry x;
       values = HoldValues-means s entry base x m;
       windows = windows_hold s.core.ctl entry x.storage.banks m.parts.core.controller;
       bytes = λ a. let small = m.parts.memory.bytes a in omega arith;
@@ -173,10 +197,17 @@ HoldsKnown-means s entry base x m =
       summary = m.summary;
     }
 
+-- the bytes that its links read lie within the bounds that are known of them
+pub AreReadIn-means :
+    (s : AbsState) (entry : Activation) (base : ℕ) (x : MState) → Means s entry base x → AreReadIn s.relations.pairs (read_in entry.program s) (peek x.storage)
+AreReadIn-means s entry base x m =
+    AreReadIn-read_by entry.program (values_in s) s.cells s.summary s.relations.pairs (peek x.storage) (pointers_of x.processor)
+    (HoldsState-known entry.program (values_in s) s.core.ctl s.cells s.summary x.processor (peek x.storage) x.storage.banks (HoldsKnown-means s entry base x m))
+
 -- what a state knows of a byte holds of it, with values that its registers and pairs have
 pub Holds-byte_in_state :
     (v : Values) (s : AbsState) (a : ℕ) (entry : Activation) (base : ℕ) (x : MState)
-    → MeansParts s entry base x → IsSummarized s entry x → HoldValues v (entered_with entry) x.processor.registers
+    → MeansParts s entry base x → IsSummarized s entry x → HoldValues v (beside entry x) x.processor.registers
     → Holds (byte_in entry.program v s.cells s.summary a) entry (peek x.storage a)
 Holds-byte_in_state v s a entry base x m said values =
     Holds-byte_in v s.cells s.summary a entry x m.memory m.cells
@@ -185,7 +216,7 @@ Holds-byte_in_state v s a entry base x m said values =
       cells_hold = HoldCells-means s.cells entry x m.cells;
       facts_hold = said.facts;
       fills_hold = said.fills;
-      pointers = PointersIn-known v (entered_with entry) x.processor values;
+      pointers = PointersIn-known v (beside entry x) x.processor values;
     })
 
 -- what a state knows of a byte holds of each machine state that it means
@@ -214,7 +245,7 @@ without_cells-covered k s t h = and_true _ h
 record AreCovered (program : Program) (s t : AbsState) : Type 0 where
   parts : (covers_core program.kind s.core t.core && covers_items s.items t.items) ≡ true
   cells : covers_cells program (values_in s) s.cells s.summary t.cells ≡ true
-  relations : covers_relations program.is_whole s.core.registers s.relations t.relations ≡ true
+  relations : covers_relations program s.core.registers s.cells s.summary s.relations t.relations ≡ true
   said : covers_summary program (values_in s) s.core.ctl s.cells s.summary t.cells t.summary ≡ true
 
 AreCovered-all : (program : Program) (s t : AbsState) → covers program s t ≡ true → AreCovered program s t
@@ -258,8 +289,8 @@ Means-covered s t entry base x h m =
         items = parts.items;
         cells = AreCells-covered (values_in s) s.cells s.summary t.cells entry x all.cells m.parts.memory m.parts.cells state;
       };
-      related = HoldRelations-covered entry.program.is_whole s.core.registers s.relations t.relations _ _ _ _ all.relations known.values.registers
-          (AreCopies-core s.core entry x m.parts.core) m.related;
+      related = HoldRelations-covered entry.program s.core.registers s.cells s.summary s.relations t.relations _ _ _ _ _ all.relations known.values.registers
+          (AreCopies-core s.core entry x m.parts.core) state m.related;
       summary = (covers_summary_sound entry.program (values_in s) s.core.ctl s.cells s.summary t.cells t.summary _ refl all.said).gives
           x.processor (peek x.storage) x.storage.banks known;
     }

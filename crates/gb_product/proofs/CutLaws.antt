@@ -1,5 +1,5 @@
 -- Cores whose registers are cut, one after another.
-use Rattle.std.proofs.Common.{◌≡◌, ◌≤◌, true, refl, ◌∙◌, arith}
+use Rattle.std.proofs.Common.{◌≡◌, ◌≤◌, true, refl, ◌∙◌, arith, ℕ, Bool}
 use Rattle.gb_ops.specs.declared.op.Register.{Register}
 use Rattle.gb_ops.specs.declared.registers.Registers.{Registers}
 use Rattle.gb_ops.specs.Registers.{get}
@@ -93,5 +93,5 @@ IsCore-cut s vals h is = IsCore-changed s vals s.flags s.ime (λ r. val r) is.fl
         let hi = old.hi in
         record { order = h.order r old.order; hi = omega arith; strided = h.strided r old.strided }
 
-pub IsCutTogether-pairs : (r : Relations) (s : Pairs) → (ArePairs r.pairs → ArePairs s) → IsCutTogether r (record r { pairs = s })
+pub IsCutTogether-pairs : (r : Relations) (s : Pairs) → ((may_be : ℕ → Bool) → ArePairs may_be r.pairs → ArePairs may_be s) → IsCutTogether r (record r { pairs = s })
 IsCutTogether-pairs r s h = record { byte = refl; zero = refl; pairs = h }

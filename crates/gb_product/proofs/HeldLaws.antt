@@ -9,7 +9,7 @@ use Rattle.gb_domain.specs.declared.places.OneByte.{OneByte}
 use Rattle.gb_domain.specs.declared.places.StackBytes.{StackBytes}
 use Rattle.gb_domain.specs.declared.relations.Relations.{Relations}
 use Rattle.gb_domain.specs.declared.setting.Setting.{Setting}
-use Rattle.gb_domain.specs.Areas.{are_in_ram, meets, is_item, is_place_at}
+use Rattle.gb_domain.specs.Areas.{are_in_ram, is_area, meets, is_free_byte, is_item, is_place_at}
 use Rattle.gb_domain.specs.Settings.{known_base, IsBase}
 use Rattle.gb_abs_effects.specs.Below.gb_abs.Storage.{peek}
 use Rattle.gb_summaries.specs.Below.gb_copies.Sound.{IsPartOf}
@@ -22,7 +22,7 @@ use Rattle.gb_summaries.proofs.Below.gb_relations_laws.ItemLaws.{held_places_par
 use Rattle.gb_product.specs.Held.{stack_held, held_relations, relations_outside}
 use Rattle.gb_abs_effects.specs.Below.gb_abs.Meaning.{Activation}
 use Rattle.gb_summaries.proofs.Below.gb_pairs_laws.WrittenLaws.{without_bases_sound}
-use Rattle.gb_product.specs.Meaning.{entered_with, AreRelated}
+use Rattle.gb_product.specs.Meaning.{entered_with, beside, AreRelated}
 
 -- it lies below the base, and not below the items
 pub record IsAmongItems (base count a : ℕ) : Type 0 where
@@ -63,6 +63,16 @@ pub free_held : (z : Setting) (region : Region) (count : ℕ) (o : Option ℕ) �
 free_held z region count None h = tt
 free_held z region count (Some a) h = free_at z region count a h
 
+-- so may what links read
+pub free_byte_at : (z : Setting) (region : Region) (count a : ℕ) → is_free_byte region a ≡ true → is_place_at (stack_held z region count) a ≡ true
+unfolding stack_held
+free_byte_at z region count a h = or_held (is_area a a) (not (meets region a a)) _ h
+  where
+    or_held : (x y w : Bool) → (x && y) ≡ true → (x && (y || w)) ≡ true
+    or_held true true w e = refl
+    or_held true false w e = cc
+    or_held false y w e = cc
+
 -- ---- what holds of a byte holds of fewer places
 
 HoldRelations-fewer :
@@ -80,7 +90,7 @@ related_outside region r entry begun y h =
     record {
       byte = (places_outside_part region r.byte _ refl).gives y.processor.registers (peek y.storage) y.processor.flags h.byte;
       zero = h.zero;
-      pairs = (without_bases_sound r.pairs _ refl).gives (entered_with entry) (entered_with begun) y.processor.registers h.pairs;
+      pairs = (without_bases_sound r.pairs _ refl).gives (beside entry y) (entered_with begun) y.processor.registers h.pairs;
     }
 
 -- ---- where they lie then

@@ -1,6 +1,7 @@
 pub mod HeldLaws
 pub mod MeaningLaws
 pub mod SummaryLaws
+pub mod ReadLaws
 pub mod CoveringLaws
 pub mod ByteLaws
 pub mod NothingLaws

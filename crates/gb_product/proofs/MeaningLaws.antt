@@ -1,5 +1,5 @@
 -- What nothing known together means, and what holds where registers and pairs are cut.
-use Rattle.std.proofs.Common.{◌≡◌, ℕ, ◌<◌, sym, ◌∙◌, arith}
+use Rattle.std.proofs.Common.{◌≡◌, ℕ, ◌<◌, Bool, sym, ◌∙◌, arith}
 use Rattle.gb_ops.specs.declared.op.Register.{Register}
 use Rattle.gb_ops.specs.declared.registers.Registers.{Registers}
 use Rattle.gb_ops.specs.declared.registers.Flags.{Flags}
@@ -21,11 +21,11 @@ use Rattle.gb_summaries.specs.Below.gb_pairs.Meaning.{AreBytes, HoldPairs}
 use Rattle.gb_summaries.specs.Below.gb_relations.Meaning.{HoldRelations}
 use Rattle.gb_summaries.proofs.Below.gb_relations_laws.ComparedLaws.{HoldOneByte-nothing}
 use Rattle.gb_summaries.proofs.Below.gb_relations_laws.TransferLaws.{HoldPairs-nothing}
-use Rattle.gb_product.specs.Meaning.{entered_with, AreRelated}
+use Rattle.gb_product.specs.Meaning.{beside, AreRelated}
 
 -- nothing is known together of any machine state
 pub HoldRelations-nothing : (was x : Registers ℕ) (memory : ℕ → ℕ) (f : Flags) → AreBytes x → HoldRelations no_relations was x memory f
-HoldRelations-nothing was x memory f bytes = record { byte = HoldOneByte-nothing x memory f; zero = tt; pairs = HoldPairs-nothing was x bytes }
+HoldRelations-nothing was x memory f bytes = record { byte = HoldOneByte-nothing x memory f; zero = tt; pairs = HoldPairs-nothing (record { entered = was; memory = memory }) x bytes }
 
 -- the registers of a machine state that a core means are bytes
 pub AreBytes-core : (c : Core) (entry : Activation) (x : MState) → IsCore c → MeansCore c entry x → AreBytes x.processor.registers
@@ -56,15 +56,15 @@ MeansCore-cut core vals entry x in_vals origin m =
 
 pub AreRelated-cut :
     (r : Relations) (s : Pairs) (entry : Activation) (x : MState)
-    → HoldPairs s (entered_with entry) x.processor.registers → AreRelated r entry x → AreRelated (record r { pairs = s }) entry x
+    → HoldPairs s (beside entry x) x.processor.registers → AreRelated r entry x → AreRelated (record r { pairs = s }) entry x
 AreRelated-cut r s entry x pairs m = record { byte = m.byte; zero = m.zero; pairs = pairs }
 
 -- pairs whose bounds are words, whatever their links are
 pub record AreWords (s : Pairs) : Type 0 where
   pub each : (p : WordPair) → (facts_of p s).bounds.last < 65536
 
-pub AreWords-pairs : (s : Pairs) → ArePairs s → AreWords s
-AreWords-pairs s h = record { each = λ p. (h.each p).last }
+pub AreWords-pairs : (may_be : ℕ → Bool) (s : Pairs) → ArePairs may_be s → AreWords s
+AreWords-pairs may_be s h = record { each = λ p. (h.each p).last }
 
 pub are_words : (s : Pairs) → s.bc.bounds.last < 65536 → s.de.bounds.last < 65536 → s.hl.bounds.last < 65536 → AreWords s
 are_words s b d h = record { each = each }

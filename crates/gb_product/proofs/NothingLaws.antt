@@ -1,5 +1,5 @@
 -- Where nothing is known together, all states have that.
-use Rattle.std.proofs.Common.{◌≡◌, ℕ, ◌<◌, Bool, true, false, not, ◌&&◌, ◌||◌, ◌==◌, nat_le, Option, Some, None, is_some, is_none, refl, arith}
+use Rattle.std.proofs.Common.{◌≡◌, ℕ, ◌<◌, Bool, true, false, not, ◌&&◌, ◌||◌, ◌==◌, nat_le, List, Option, Some, None, is_some, is_none, refl, arith}
 use Rattle.std.proofs.lemmas.Bool.{and_parts, or_parts, eqb-true, not-true}
 use Rattle.std.proofs.lemmas.Bool.Decides.{nat_tests}
 use Rattle.gb_ops.specs.declared.registers.Registers.{Registers}
@@ -11,7 +11,9 @@ use Rattle.gb_domain.specs.declared.pairs.PairFacts.{PairFacts}
 use Rattle.gb_domain.specs.declared.places.Test.{Test}
 use Rattle.gb_domain.specs.declared.places.OneByte.{OneByte}
 use Rattle.gb_domain.specs.declared.relations.Relations.{Relations}
+use Rattle.gb_domain.specs.declared.types.Cell.{Cell}
 use Rattle.gb_domain.specs.declared.types.Val.{Val}
+use Rattle.gb_domain.specs.Summaries.{SummaryParts, Program}
 use Rattle.gb_domain.specs.Pairs.{facts_of}
 use Rattle.gb_domain.specs.RelationRules.{is_some_register, has_address, has_place, is_known}
 use Rattle.gb_summaries.specs.Below.gb_pairs.declared.values.Values.{Values}
@@ -66,9 +68,9 @@ zero_covered s (Some q) h = cc
 
 -- ---- pairs of which nothing is known
 
-link_covered : (by : Option (Registers Bool)) (p : WordPair) (v : Values) (l : Option Link) → is_some l ≡ false → covers_link by p v l ≡ true
-link_covered by p v None h = refl
-link_covered by p v (Some l) h = cc
+link_covered : (by : Option OneByte) (p : WordPair) (v : Values) (m n : Bounds) (l : Option Link) → is_some l ≡ false → covers_link by p v m n l ≡ true
+link_covered by p v m n None h = refl
+link_covered by p v m n (Some l) h = cc
 
 bounds_covered : (s t : Bounds) → (t.first == 0 && t.last == 0xFFFF) ≡ true → s.last < 65536 → covers_bounds s t ≡ true
 bounds_covered s t h k =
@@ -82,20 +84,20 @@ is_true true h = refl
 is_true false h = cc
 
 pair_covered :
-    (by : Option (Registers Bool)) (p : WordPair) (v : Values) (f : PairFacts)
-    → (facts_of p v.pairs).bounds.last < 65536 → not (is_known f) ≡ true → covers_pair by p v f ≡ true
-pair_covered by p v f below h =
+    (by : Option OneByte) (p : WordPair) (v : Values) (m n : Bounds) (f : PairFacts)
+    → (facts_of p v.pairs).bounds.last < 65536 → not (is_known f) ≡ true → covers_pair by p v m n f ≡ true
+pair_covered by p v m n f below h =
     let parts = or_parts (is_some f.link) (not (f.bounds.first == 0 && f.bounds.last == 0xFFFF)) (not-true _ h) in
     let most = (IsPart-bounds_of p v).last in
-    both _ _ (bounds_covered (bounds_of p v) f.bounds (is_true _ parts.1) (omega arith)) (link_covered by p v f.link parts.0)
+    both _ _ (bounds_covered (bounds_of p v) f.bounds (is_true _ parts.1) (omega arith)) (link_covered by p v m n f.link parts.0)
 
 pub nothing_covered :
-    (whole : Bool) (registers : Registers Val) (s t : Relations)
+    (program : Program) (registers : Registers Val) (cells : List Cell) (m : SummaryParts) (s t : Relations)
     → is_nothing t ≡ true → s.pairs.bc.bounds.last < 65536 → s.pairs.de.bounds.last < 65536 → s.pairs.hl.bounds.last < 65536
-    → covers_relations whole registers s t ≡ true
+    → covers_relations program registers cells m s t ≡ true
 unfolding covers_relations covers_pairs
-nothing_covered whole registers s t h bc de hl =
-    let by = places_by whole s in
+nothing_covered program registers cells m s t h bc de hl =
+    let by = places_by program.is_whole s in
     let v = values_of registers s.pairs in
     let pairs = and_parts _ _ h in
     let zero = and_parts _ _ pairs.0 in
@@ -103,4 +105,4 @@ nothing_covered whole registers s t h bc de hl =
     let first = and_parts _ _ pairs.1 in
     let others = and_parts _ _ first.1 in
     both _ _ (both _ _ (byte_covered s.byte t.byte byte.0 byte.1) (zero_covered s.zero t.zero zero.1))
-    (both _ _ (both _ _ (pair_covered by pair.Bc v t.pairs.bc bc first.0) (pair_covered by pair.De v t.pairs.de de others.0)) (pair_covered by pair.Hl v t.pairs.hl hl others.1))
+    (both _ _ (both _ _ (pair_covered by pair.Bc v _ _ t.pairs.bc bc first.0) (pair_covered by pair.De v _ _ t.pairs.de de others.0)) (pair_covered by pair.Hl v _ _ t.pairs.hl hl others.1))

@@ -1,5 +1,5 @@
 -- Reducing a core and what is known together loses no machine state, and cuts nothing but bounds.
-use Rattle.std.proofs.Common.{◌≡◌, Bool, true, false, Option, Some, None, refl, sym, subst}
+use Rattle.std.proofs.Common.{◌≡◌, ℕ, Bool, true, false, Option, Some, None, refl, sym, subst}
 use Rattle.std.specs.Prelude.{IfSome}
 use Rattle.gb_ops.specs.declared.registers.Registers.{Registers}
 use Rattle.gb_ops.specs.Registers.{get}
@@ -25,7 +25,7 @@ use Rattle.gb_summaries.proofs.Below.gb_pairs_laws.ReducedLaws as pair_laws
 use Rattle.gb_summaries.specs.Below.gb_relations.Transfer.{values_of}
 use Rattle.gb_product.specs.declared.parts.Product.{Product}
 use Rattle.gb_domain.specs.declared.pairs.PairBounds.{PairBounds}
-use Rattle.gb_product.specs.Meaning.{entered_with, AreRelated}
+use Rattle.gb_product.specs.Meaning.{beside, AreRelated}
 use Rattle.gb_product.specs.Reduced.{product_of, product_if, with_values_if, reduced_together, reduced}
 use Rattle.gb_product.specs.Sound.{IsReduced, IsMeantProduct, IsSoundReducing}
 use Rattle.gb_product.proofs.CutLaws.{AreCut, IsCutCore-registers, IsCutCore-itself, IsCore-cut, IsCutTogether-pairs}
@@ -33,13 +33,13 @@ use Rattle.gb_product.proofs.MeaningLaws.{MeansCore-cut, AreRelated-cut}
 
 -- ---- what is meant
 
-pub Holds-values : (core : Core) (r : Relations) (entry : Activation) (x : MState) → MeansCore core entry x → AreRelated r entry x → Holds (values_of core.registers r.pairs) (entered_with entry) x.processor.registers
+pub Holds-values : (core : Core) (r : Relations) (entry : Activation) (x : MState) → MeansCore core entry x → AreRelated r entry x → Holds (values_of core.registers r.pairs) (beside entry x) x.processor.registers
 Holds-values core r entry x m n =
     record { registers = λ q. In-from (get q core.registers) entry (get q x.processor.registers) (m.registers q); pairs = n.pairs }
 
 IsMeantProduct-with_values :
     (core : Core) (r : Relations) (o : Option Values) (entry : Activation) (x : MState)
-    → HoldsIn o (entered_with entry) x.processor.registers → IfSome o (IsCut (values_of core.registers r.pairs)) → MeansCore core entry x → AreRelated r entry x
+    → HoldsIn o (beside entry x) x.processor.registers → IfSome o (IsCut (values_of core.registers r.pairs)) → MeansCore core entry x → AreRelated r entry x
     → IsMeantProduct (with_values_if core r o) entry x
 IsMeantProduct-with_values core r None entry x holds cut m n = holds
 IsMeantProduct-with_values core r (Some v) entry x holds cut m n =
@@ -48,20 +48,20 @@ IsMeantProduct-with_values core r (Some v) entry x holds cut m n =
       related = AreRelated-cut r v.pairs entry x holds.pairs n;
     }
 
-pub same_sound : (entered : PairBounds) (core : Core) (r : Relations) → IsSoundReducing entered core r (Some (product_of core r))
-same_sound entered core r = record { gives = λ entry x within bytes m n. record { core = m; related = n } }
+pub same_sound : (entered read : PairBounds) (core : Core) (r : Relations) → IsSoundReducing entered read core r (Some (product_of core r))
+same_sound entered read core r = record { gives = λ entry x within reads bytes m n. record { core = m; related = n } }
 
 -- by what the reduced values are
 pub with_values_sound :
-    (entered : PairBounds) (core : Core) (r : Relations) (o : Option Values) (p : Option Product)
-    → p ≡ with_values_if core r o → o ≡ Pairwise.reduced entered (values_of core.registers r.pairs)
-    → pairs.IsSoundReducing entered (values_of core.registers r.pairs) o → IsSoundReducing entered core r p
-with_values_sound entered core r o p e f h =
-    subst (λ q. IsSoundReducing entered core r q) (sym e)
+    (entered read : PairBounds) (core : Core) (r : Relations) (o : Option Values) (p : Option Product)
+    → p ≡ with_values_if core r o → o ≡ Pairwise.reduced entered read (values_of core.registers r.pairs)
+    → pairs.IsSoundReducing entered read (values_of core.registers r.pairs) o → IsSoundReducing entered read core r p
+with_values_sound entered read core r o p e f h =
+    subst (λ q. IsSoundReducing entered read core r q) (sym e)
     (record {
-      gives = λ entry x within bytes m n.
-          IsMeantProduct-with_values core r o entry x (h.gives (entered_with entry) x.processor.registers within bytes (Holds-values core r entry x m n))
-          (pair_cuts.reduced_cuts entered _ o f) m n;
+      gives = λ entry x within reads bytes m n.
+          IsMeantProduct-with_values core r o entry x (h.gives (beside entry x) x.processor.registers within reads bytes (Holds-values core r entry x m n))
+          (pair_cuts.reduced_cuts entered read _ o f) m n;
     })
 
 -- in place
@@ -72,24 +72,27 @@ product-values core r false x s = refl
 product-values core r true x s = refl
 
 pub reduced_in_place :
-    (entered : PairBounds) (core : Core) (r : Relations) (b : Bool) (x : Registers Val) (s : Pairs)
-    → Pairwise.reduced entered (values_of core.registers r.pairs) ≡ values_if b (values_of x s)
-    → reduced_together entered core r ≡ product_if b (record core { registers = x }) (record r { pairs = s })
-reduced_in_place entered core r b x s e =
+    (entered read : PairBounds) (core : Core) (r : Relations) (b : Bool) (x : Registers Val) (s : Pairs)
+    → Pairwise.reduced entered read (values_of core.registers r.pairs) ≡ values_if b (values_of x s)
+    → reduced_together entered read core r ≡ product_if b (record core { registers = x }) (record r { pairs = s })
+reduced_in_place entered read core r b x s e =
     subst (λ o. with_values_if core r o ≡ product_if b (record core { registers = x }) (record r { pairs = s })) (sym e)
     (sym (product-values core r b x s))
 
 pub reduced_in_place_sound :
-    (entered : PairBounds) (core : Core) (r : Relations) (b : Bool) (x : Registers Val) (s : Pairs)
-    → Pairwise.reduced entered (values_of core.registers r.pairs) ≡ values_if b (values_of x s)
-    → pairs.IsSoundReducing entered (values_of core.registers r.pairs) (values_if b (values_of x s))
-    → IsSoundReducing entered core r (product_if b (record core { registers = x }) (record r { pairs = s }))
-reduced_in_place_sound entered core r b x s e h = with_values_sound entered core r _ _ (product-values core r b x s) (sym e) h
+    (entered read : PairBounds) (core : Core) (r : Relations) (b : Bool) (x : Registers Val) (s : Pairs)
+    → Pairwise.reduced entered read (values_of core.registers r.pairs) ≡ values_if b (values_of x s)
+    → pairs.IsSoundReducing entered read (values_of core.registers r.pairs) (values_if b (values_of x s))
+    → IsSoundReducing entered read core r (product_if b (record core { registers = x }) (record r { pairs = s }))
+reduced_in_place_sound entered read core r b x s e h = with_values_sound entered read core r _ _ (product-values core r b x s) (sym e) h
 
-pub reduced_sound : (rules : Rules) (entered : PairBounds) (core : Core) (r : Relations) (o : Option Product) → o ≡ reduced rules entered core r → ArePairs r.pairs → IsSoundReducing entered core r o
+pub reduced_sound :
+    (may_be : ℕ → Bool) (rules : Rules) (entered read : PairBounds) (core : Core) (r : Relations) (o : Option Product)
+    → o ≡ reduced rules entered read core r → ArePairs may_be r.pairs → IsSoundReducing entered read core r o
 unfolding reduced
-reduced_sound Simple entered core r o e are = subst (λ p. IsSoundReducing entered core r p) (sym e) (same_sound entered core r)
-reduced_sound Extended entered core r o e are = with_values_sound entered core r _ o e refl (pair_laws.reduced_sound entered (values_of core.registers r.pairs) _ refl are)
+reduced_sound may_be Simple entered read core r o e are = subst (λ p. IsSoundReducing entered read core r p) (sym e) (same_sound entered read core r)
+reduced_sound may_be Extended entered read core r o e are =
+    with_values_sound entered read core r _ o e refl (pair_laws.reduced_sound may_be entered read (values_of core.registers r.pairs) _ refl are)
 
 -- ---- what is cut
 
@@ -104,21 +107,24 @@ IsReduced-with_values core r (Some v) cut =
     record {
       core = IsCutCore-registers core v.registers registers;
       flags = refl;
-      relations = IsCutTogether-pairs r v.pairs (ArePairs-cut _ v cut);
+      relations = IsCutTogether-pairs r v.pairs (λ may_be. ArePairs-cut may_be _ v cut);
       inhabited = IsCore-cut core v.registers registers;
     }
 
 IsReduced-itself : (core : Core) (r : Relations) → IsReduced core r (product_of core r)
 IsReduced-itself core r =
-    record { core = IsCutCore-itself core; flags = refl; relations = IsCutTogether-pairs r r.pairs (λ h. h); inhabited = λ h. h }
+    record { core = IsCutCore-itself core; flags = refl; relations = IsCutTogether-pairs r r.pairs (λ may_be h. h); inhabited = λ h. h }
 
-IfSome-reduced : (rules : Rules) (entered : PairBounds) (core : Core) (r : Relations) → IfSome (reduced rules entered core r) (IsReduced core r)
+IfSome-reduced : (rules : Rules) (entered read : PairBounds) (core : Core) (r : Relations) → IfSome (reduced rules entered read core r) (IsReduced core r)
 unfolding reduced
-IfSome-reduced Simple entered core r = IsReduced-itself core r
-IfSome-reduced Extended entered core r = IsReduced-with_values core r _ (pair_cuts.reduced_cuts entered (values_of core.registers r.pairs) _ refl)
+IfSome-reduced Simple entered read core r = IsReduced-itself core r
+IfSome-reduced Extended entered read core r = IsReduced-with_values core r _ (pair_cuts.reduced_cuts entered read (values_of core.registers r.pairs) _ refl)
 
-pub reduced_cuts : (rules : Rules) (entered : PairBounds) (core : Core) (r : Relations) (o : Option Product) → o ≡ reduced rules entered core r → IfSome o (IsReduced core r)
-reduced_cuts rules entered core r o e = subst (λ p. IfSome p (IsReduced core r)) (sym e) (IfSome-reduced rules entered core r)
+pub reduced_cuts :
+    (rules : Rules) (entered read : PairBounds) (core : Core) (r : Relations) (o : Option Product)
+    → o ≡ reduced rules entered read core r → IfSome o (IsReduced core r)
+reduced_cuts rules entered read core r o e = subst (λ p. IfSome p (IsReduced core r)) (sym e) (IfSome-reduced rules entered read core r)
 
-pub reduced_to_cuts : (rules : Rules) (entered : PairBounds) (core : Core) (r : Relations) (p : Product) → reduced rules entered core r ≡ Some p → IsReduced core r p
-reduced_to_cuts rules entered core r p e = reduced_cuts rules entered core r (Some p) (sym e)
+pub reduced_to_cuts :
+    (rules : Rules) (entered read : PairBounds) (core : Core) (r : Relations) (p : Product) → reduced rules entered read core r ≡ Some p → IsReduced core r p
+reduced_to_cuts rules entered read core r p e = reduced_cuts rules entered read core r (Some p) (sym e)

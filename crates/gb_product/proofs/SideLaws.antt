@@ -25,7 +25,7 @@ use Rattle.gb_domain.specs.Rules.{IsVal, IsCore}
 use Rattle.gb_abs_effects.specs.Below.gb_vals.Meaning.{In}
 use Rattle.gb_abs_effects.specs.Below.gb_vals.Tests.{side, IsKept}
 use Rattle.gb_abs_effects.proofs.Below.gb_vals_laws.BranchLaws.{side_kept}
-use Rattle.gb_product.specs.Meaning.{entered_with, AreRelated}
+use Rattle.gb_product.specs.Meaning.{beside, AreRelated}
 use Rattle.gb_abs_effects.specs.Below.gb_abs.Meaning.{Activation, Holds, MeansCore}
 use Rattle.gb_abs_effects.specs.Below.gb_abs.Storage.{peek}
 use Rattle.gb_abs_effects.specs.Sides as Flags
@@ -33,7 +33,7 @@ use Rattle.gb_abs_effects.specs.Sound.{side_by, IsMeant}
 use Rattle.gb_abs_effects.proofs.CoreLaws.{In-from}
 use Rattle.gb_abs_effects.proofs.SideLaws as flag_sides
 use Rattle.gb_summaries.specs.Below.gb_pairs.declared.values.Values.{Values}
-use Rattle.gb_summaries.specs.Below.gb_pairs.Meaning.{word_of}
+use Rattle.gb_summaries.specs.Below.gb_pairs.Meaning.{Beside, word_of}
 use Rattle.gb_summaries.specs.Below.gb_pairs.Meaning as pairs
 use Rattle.gb_summaries.specs.Below.gb_pairs.Reduced.{restricted}
 use Rattle.gb_summaries.specs.Below.gb_pairs.Sound.{HoldsIn}
@@ -62,7 +62,7 @@ use Rattle.gb_product.proofs.ReducedLaws.{AreCut-values}
 -- ---- a pair of which Z says whether it is 0
 
 HoldsIn-restricted :
-    (p : WordPair) (first last : ℕ) (v : Values) (was x : Registers ℕ)
+    (p : WordPair) (first last : ℕ) (v : Values) (was : Beside) (x : Registers ℕ)
     → first ≤ word_of p x → word_of p x ≤ last → pairs.Holds v was x → HoldsIn (restricted p (record { first = first; last = last }) v) was x
 HoldsIn-restricted p first last v was x least most h = (restricted_sound p _ v _ refl).gives was x (record { least = least; most = most }) h
 
@@ -73,7 +73,7 @@ is_above_zero : (w : ℕ) (b : Bool) → not b ≡ true → b ≡ (w == 0) → 1
 is_above_zero w b h e = grind (arith, nat_tests)
 
 HoldsIn-without_others :
-    (z : Option WordPair) (k : Condition) (v : Values) (was x : Registers ℕ) (f : Flags)
+    (z : Option WordPair) (k : Condition) (v : Values) (was : Beside) (x : Registers ℕ) (f : Flags)
     → AreWords v.pairs → is_met k f ≡ true → IsZero z x f → pairs.Holds v was x → HoldsIn (without_others z k v) was x
 unfolding is_met
 HoldsIn-without_others None k v was x f are met zero h = h
@@ -145,7 +145,7 @@ AreCut-contents b c left h =
 
 IsMeantBranch-with_values :
     (core : Core) (r : Relations) (vals : Registers Val) (cell : Option Cell) (o : Option Values) (entry : Activation) (x : MState)
-    → HoldsIn o (entered_with entry) x.processor.registers → AreCut core.registers vals → IfSome o (pair_sound.IsCut (values_of vals r.pairs))
+    → HoldsIn o (beside entry x) x.processor.registers → AreCut core.registers vals → IfSome o (pair_sound.IsCut (values_of vals r.pairs))
     → MeansCore core entry x → AreRelated r entry x → IfSome cell (λ c. HoldsCell entry x c)
     → IsMeantBranch (with_values_if core r cell o) entry x
 IsMeantBranch-with_values core r vals cell None entry x holds byte cut m n held = holds
@@ -165,7 +165,7 @@ IsMeantBranch-with_contents k memory core r None entry x are met known m in_o cu
 IsMeantBranch-with_contents k memory core r (Some left) entry x are met known m in_o cut =
     let v = values_of left.registers r.pairs in
     IsMeantBranch-with_values core r left.registers (known_cell r.byte.address left.memory) (without_others r.zero k v) entry x
-    (HoldsIn-without_others r.zero k v (entered_with entry) x.processor.registers x.processor.flags are met known.related.zero
+    (HoldsIn-without_others r.zero k v (beside entry x) x.processor.registers x.processor.flags are met known.related.zero
     (record { registers = in_o.0; pairs = known.related.pairs }))
     (AreCut-contents r.byte (contents_of core memory) left cut)
     (without_others_cuts r.zero k v) m known.related
@@ -249,33 +249,33 @@ unfolding sides_of
 AreSoundSides-sides_of o memory core r are = record { taken = IsSoundSide-taken o memory core r are; not_taken = IsSoundSide-not_taken o memory core r are }
 
 pub taken_side_sound :
-    (o : Op) (memory : Val) (core : Core) (r : Relations) (side : Option Branch)
-    → side ≡ taken_side o memory core r → ArePairs r.pairs → IsSoundSide true o memory core r side
-taken_side_sound o memory core r side e are =
-    subst (λ s. IsSoundSide true o memory core r s) (sym e) (IsSoundSide-taken o memory core r (AreWords-pairs r.pairs are))
+    (may_be : ℕ → Bool) (o : Op) (memory : Val) (core : Core) (r : Relations) (side : Option Branch)
+    → side ≡ taken_side o memory core r → ArePairs may_be r.pairs → IsSoundSide true o memory core r side
+taken_side_sound may_be o memory core r side e are =
+    subst (λ s. IsSoundSide true o memory core r s) (sym e) (IsSoundSide-taken o memory core r (AreWords-pairs may_be r.pairs are))
 
 pub not_taken_side_sound :
-    (o : Op) (memory : Val) (core : Core) (r : Relations) (side : Option Branch)
-    → side ≡ not_taken_side o memory core r → ArePairs r.pairs → IsSoundSide false o memory core r side
-not_taken_side_sound o memory core r side e are =
-    subst (λ s. IsSoundSide false o memory core r s) (sym e) (IsSoundSide-not_taken o memory core r (AreWords-pairs r.pairs are))
+    (may_be : ℕ → Bool) (o : Op) (memory : Val) (core : Core) (r : Relations) (side : Option Branch)
+    → side ≡ not_taken_side o memory core r → ArePairs may_be r.pairs → IsSoundSide false o memory core r side
+not_taken_side_sound may_be o memory core r side e are =
+    subst (λ s. IsSoundSide false o memory core r s) (sym e) (IsSoundSide-not_taken o memory core r (AreWords-pairs may_be r.pairs are))
 
 pub sides_of_sound :
-    (o : Op) (memory : Val) (core : Core) (r : Relations) (sides : Branches)
-    → sides ≡ sides_of o memory core r → ArePairs r.pairs → AreSoundSides o memory core r sides
-sides_of_sound o memory core r sides e are =
-    subst (λ s. AreSoundSides o memory core r s) (sym e) (AreSoundSides-sides_of o memory core r (AreWords-pairs r.pairs are))
+    (may_be : ℕ → Bool) (o : Op) (memory : Val) (core : Core) (r : Relations) (sides : Branches)
+    → sides ≡ sides_of o memory core r → ArePairs may_be r.pairs → AreSoundSides o memory core r sides
+sides_of_sound may_be o memory core r sides e are =
+    subst (λ s. AreSoundSides o memory core r s) (sym e) (AreSoundSides-sides_of o memory core r (AreWords-pairs may_be r.pairs are))
 
 -- where no side is possible, no machine state is meant
 pub no_side :
-    (o : Op) (memory : Val) (core : Core) (r : Relations) (entry : Activation) (x : MState)
-    → ArePairs r.pairs → taken_side o memory core r ≡ None → not_taken_side o memory core r ≡ None
+    (may_be : ℕ → Bool) (o : Op) (memory : Val) (core : Core) (r : Relations) (entry : Activation) (x : MState)
+    → ArePairs may_be r.pairs → taken_side o memory core r ≡ None → not_taken_side o memory core r ≡ None
     → IsKnown memory r entry x → MeansCore core entry x → ⊥
-no_side o memory core r entry x are e f known m = choose (effect_of o x.processor 0 0).is_taken refl
+no_side may_be o memory core r entry x are e f known m = choose (effect_of o x.processor 0 0).is_taken refl
   where
     choose : (b : Bool) → (effect_of o x.processor 0 0).is_taken ≡ b → ⊥
-    choose true is = (taken_side_sound o memory core r None (sym e) are).gives entry x 0 0 known m is
-    choose false is = (not_taken_side_sound o memory core r None (sym f) are).gives entry x 0 0 known m is
+    choose true is = (taken_side_sound may_be o memory core r None (sym e) are).gives entry x 0 0 known m is
+    choose false is = (not_taken_side_sound may_be o memory core r None (sym f) are).gives entry x 0 0 known m is
 
 -- the clauses of functions, whose types say that bounds are words
 pub taken_side_sound_of_words :
@@ -312,7 +312,7 @@ IsSideOf-with_values memory core r left (Some v) byte cut =
     (AreCut-values (values_of left.registers r.pairs) v cut) in
     record {
       core = IsCutCore-registers core v.registers registers;
-      relations = IsCutTogether-pairs r v.pairs (ArePairs-cut (values_of left.registers r.pairs) v cut);
+      relations = IsCutTogether-pairs r v.pairs (λ may_be. ArePairs-cut may_be (values_of left.registers r.pairs) v cut);
       inhabited = IsCore-cut core v.registers registers;
       address = known_cell_at r.byte.address left.memory;
       val = λ h. known_cell_val r.byte.address left.memory (IsVal-cut _ left.memory byte.memory h);
@@ -353,7 +353,7 @@ IsSideOf-side_where (Some k) memory core r None h = tt
 IsSideOf-side_where None memory core r (Some t) h =
     record {
       core = h.core;
-      relations = IsCutTogether-pairs r r.pairs (λ are. are);
+      relations = IsCutTogether-pairs r r.pairs (λ may_be are. are);
       inhabited = h.inhabited;
       address = tt;
       val = λ are. tt;

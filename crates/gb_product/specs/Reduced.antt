@@ -20,6 +20,7 @@ use Rattle.gb_summaries.specs.Below.gb_copies.declared.windows.BankWindow.TheVar
 use Rattle.gb_summaries.specs.Known.{window_bounds}
 use Rattle.gb_summaries.specs.Reducing.{shadows_of, has_shadow, reduced_window}
 use Rattle.gb_product.specs.declared.parts.Product.{Product}
+use Rattle.gb_product.specs.Covering.{read_by}
 
 abbrev pub product_of : Core → Relations → Product
 product_of core r = record { core = core; relations = r }
@@ -33,14 +34,14 @@ abbrev pub with_values_if : Core → Relations → Option Values → Option Prod
 with_values_if core r None = None
 with_values_if core r (Some v) = Some (product_of (record core { registers = v.registers }) (record r { pairs = v.pairs }))
 
--- by the rules of version 3, where the pairs lay in these bounds as the procedure was entered
-abbrev pub reduced_together : PairBounds → Core → Relations → Option Product
-reduced_together entered core r = with_values_if core r (Pairs.reduced entered (values_of core.registers r.pairs))
+-- by the rules of version 3, where the pairs lay in these bounds as the procedure was entered, and links read memory within others
+abbrev pub reduced_together : PairBounds → PairBounds → Core → Relations → Option Product
+reduced_together entered read core r = with_values_if core r (Pairs.reduced entered read (values_of core.registers r.pairs))
 
 -- the same, cut: none where nothing is meant; versions 1 and 2 leave it as it stands
-unfoldable pub reduced : Rules → PairBounds → Core → Relations → Option Product
-reduced Simple entered core r = Some (product_of core r)
-reduced Extended entered core r = reduced_together entered core r
+unfoldable pub reduced : Rules → PairBounds → PairBounds → Core → Relations → Option Product
+reduced Simple entered read core r = Some (product_of core r)
+reduced Extended entered read core r = reduced_together entered read core r
 
 -- ---- the controller's registers
 
@@ -85,5 +86,7 @@ with_banks_cut program cells s p =
 
 -- registers and pairs are cut, and then the controller's registers; none where nothing is meant. Versions 1 and 2 leave all as it stands.
 unfoldable pub reduced_wholly : Program → Rules → PairBounds → Core → Relations → List Cell → SummaryParts → Option Product
-reduced_wholly program Simple entered core r cells s = reduced Simple entered core r
-reduced_wholly program Extended entered core r cells s = option_and_then (with_banks_cut program cells s) (reduced Extended entered core r)
+reduced_wholly program Simple entered core r cells s = Some (product_of core r)
+reduced_wholly program Extended entered core r cells s =
+    option_and_then (with_banks_cut program cells s)
+    (reduced Extended entered (read_by program (values_of core.registers r.pairs) cells s r.pairs) core r)

@@ -7,7 +7,6 @@ use Rattle.gb_ops.specs.declared.registers.Processor.{Processor}
 use Rattle.gb_ops.specs.Effects as Effects
 use Rattle.gb_ops.specs.Play.{MState}
 use Rattle.gb_ops.specs.Registers.{get}
-use Rattle.gb_ops.specs.declared.registers.Registers.{Registers}
 use Rattle.gb_domain.specs.declared.relations.Relations.{Relations}
 use Rattle.gb_domain.specs.declared.types.Cell.{Cell}
 use Rattle.gb_domain.specs.declared.types.Core.{Core}
@@ -21,7 +20,7 @@ use Rattle.gb_domain.specs.Values.{is_strided}
 use Rattle.gb_abs_effects.specs.Below.gb_abs.Meaning.{Activation, Holds, HoldsController, MeansCore}
 use Rattle.gb_abs_effects.specs.Below.gb_abs.Storage.{peek}
 use Rattle.gb_summaries.specs.Below.gb_pairs.declared.values.Values.{Values}
-use Rattle.gb_summaries.specs.Below.gb_pairs.Meaning.{AreBytes, Holds as HoldValues}
+use Rattle.gb_summaries.specs.Below.gb_pairs.Meaning.{Beside, AreBytes, AreReadIn, Holds as HoldValues}
 use Rattle.gb_summaries.specs.Below.gb_pairs.Sound.{AreWithin}
 use Rattle.gb_summaries.specs.Below.gb_ram_bounds.Meaning.{HoldCells}
 use Rattle.gb_summaries.specs.Meaning.{HoldSummary}
@@ -57,7 +56,7 @@ pub record IsCutCore (s t : Core) : Type 0 where
 pub record IsCutTogether (s t : Relations) : Type 0 where
   pub byte : t.byte ≡ s.byte
   pub zero : t.zero ≡ s.zero
-  pub pairs : ArePairs s.pairs → ArePairs t.pairs
+  pub pairs : (may_be : ℕ → Bool) → ArePairs may_be s.pairs → ArePairs may_be t.pairs
 
 -- ---- reducing
 
@@ -70,12 +69,12 @@ abbrev pub IsMeantProduct : Option Product → Activation → MState → Type 0
 IsMeantProduct None entry x = ⊥
 IsMeantProduct (Some p) entry x = MeansProduct p entry x
 
--- no machine state is lost, where the pairs lay in these bounds as the procedure was entered
-pub record IsSoundReducing (entered : PairBounds) (core : Core) (r : Relations) (o : Option Product) : Type 0 where
+-- no machine state is lost, where the pairs lay in these bounds as the procedure was entered, and links read memory within others
+pub record IsSoundReducing (entered read : PairBounds) (core : Core) (r : Relations) (o : Option Product) : Type 0 where
   pub gives :
       (entry : Activation) (x : MState)
-      → AreWithin entered (entered_with entry) → AreBytes x.processor.registers → MeansCore core entry x → AreRelated r entry x
-      → IsMeantProduct o entry x
+      → AreWithin entered (entered_with entry) → AreReadIn r.pairs read (peek x.storage) → AreBytes x.processor.registers → MeansCore core entry x
+      → AreRelated r entry x → IsMeantProduct o entry x
 
 -- nothing but bounds changes
 pub record IsReduced (s : Core) (r : Relations) (p : Product) : Type 0 where
@@ -93,7 +92,7 @@ HoldsControllerIf (Some c) entry r = HoldsController c entry r
 -- where what a state knows holds, its controller is cut to one that holds too
 pub record IsSoundController (program : Program) (v : Values) (cells : List Cell) (s : SummaryParts) (c : Ctl) (o : Option Ctl) : Type 0 where
   pub gives :
-      (entry : Activation) (was : Registers ℕ) (p : Processor) (memory : ℕ → ℕ) (r : Banks)
+      (entry : Activation) (was : Beside) (p : Processor) (memory : ℕ → ℕ) (r : Banks)
       → entry.program ≡ program → AreBytes p.registers → HoldValues v was p.registers → ((a : ℕ) → memory a < 256) → HoldCells cells memory
       → HoldSummary program cells s p memory r → HoldsController c entry r → HoldsControllerIf o entry r
 

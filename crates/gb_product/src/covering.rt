@@ -9,16 +9,17 @@ ghost use Rattle.gb_summaries.specs.Covering.{covers_summary};
 
 use crate::bytes::covers_lists;
 use crate::parts::holds_words;
+use crate::read::read_in;
 use crate::states::States;
 use gb_abs_effects::covers_core;
 use gb_domain::pairs::{PairFacts, Pairs, WordPair};
+use gb_domain::places::OneByte;
 use gb_domain::program::Program;
 use gb_domain::relations::Relations;
 use gb_domain::summary::Summary;
-use gb_domain::types::{Abs, Cell, Val};
-use gb_ops::registers::Registers;
+use gb_domain::types::{Abs, Cell};
 use gb_summaries::covering::covers_summary;
-use gb_summaries::{Values, covers_byte, covers_pairs, has_cell, has_place, is_same_pair};
+use gb_summaries::{covers_byte, covers_pairs, has_cell, has_place, is_same_pair};
 
 fn covers_zero(s: Option<WordPair>, t: Option<WordPair>) -> bool
     ensures { result ≡ Covering.covers_zero s t }
@@ -53,45 +54,36 @@ fn is_nothing(relations: &Relations) -> bool
         && are_unknown(relations.pairs)
 }
 
-/// The registers that hold one byte, where covering asks for them.
-fn places_by(is_whole: bool, relations: &Relations) -> Option<Registers<bool>>
+/// The places that hold one byte, where covering asks for them.
+fn places_by(is_whole: bool, relations: &Relations) -> Option<OneByte>
     ensures { result ≡ Covering.places_by is_whole relations.now }
 {
-    if is_whole {
-        Some(relations.byte.registers)
-    } else {
-        None
-    }
+    if is_whole { Some(relations.byte) } else { None }
 }
 
 #[tactic(auto, unfolding(crate::specs::Covering::covers_relations))]
-fn covers_each(is_whole: bool, registers: &Registers<Val>, s: &Relations, t: &Relations) -> bool
-    ensures { result ≡ Covering.covers_relations is_whole registers.now s.now t.now }
+fn covers_each(program: &Program<'_>, states: &States<'_>, claimed: &Relations) -> bool
+    ensures { result ≡ Covering.covers_relations program.now states.now.core.now.registers states.now.lists.now.cells states.now.summary.now states.now.relations.now claimed.now }
 {
-    covers_byte(&s.byte, &t.byte)
-        && covers_zero(s.zero, t.zero)
+    let known = states.relations;
+    covers_byte(&known.byte, &claimed.byte)
+        && covers_zero(known.zero, claimed.zero)
         && covers_pairs(
-            places_by(is_whole, s),
-            &Values {
-                registers: *registers,
-                pairs: s.pairs,
-            },
-            &t.pairs,
+            places_by(program.is_whole, known),
+            &states.values(),
+            &read_in(program, states, &known.pairs),
+            &read_in(program, states, &claimed.pairs),
+            &claimed.pairs,
         )
 }
 
-/// Whether all that is known together of t is known of s, whose registers these are.
+/// Whether all that is claimed together is known of states.
 #[tactic(auto, using(crate::proofs::NothingLaws::nothing_covered))]
-pub fn covers_relations(
-    is_whole: bool,
-    registers: &Registers<Val>,
-    s: &Relations,
-    t: &Relations,
-) -> bool
-    ensures { result ≡ Covering.covers_relations is_whole registers.now s.now t.now }
+pub fn covers_relations(program: &Program<'_>, states: &States<'_>, claimed: &Relations) -> bool
+    ensures { result ≡ Covering.covers_relations program.now states.now.core.now.registers states.now.lists.now.cells states.now.summary.now states.now.relations.now claimed.now }
 {
-    holds_words(s.pairs);
-    is_nothing(t) || covers_each(is_whole, registers, s, t)
+    holds_words(states.relations.pairs);
+    is_nothing(claimed) || covers_each(program, states, claimed)
 }
 
 /// Whether nothing is said but that facts hold which hold by another summary too, by which the stack isn't put aside.
@@ -144,12 +136,7 @@ fn covers_all(program: &Program<'_>, s: &Abs, t: &Abs) -> bool
     let states = States::of(s);
     covers_core(program.kind, s.core(), t.core())
         && covers_lists(program, &states, t)
-        && covers_relations(
-            program.is_whole,
-            &s.core().registers,
-            s.relations(),
-            t.relations(),
-        )
+        && covers_relations(program, &states, t.relations())
         && covers_said(program, &states, t.cells(), t.summary())
 }
 

@@ -3,13 +3,14 @@
 //! does, `reduced` cuts registers and pairs to what they leave of each other, and `sides_of` gives what a conditional instruction
 //! learns from its condition (each `exact`, `sound`).
 //!
-//! Read `covering`, which asks `bytes` what is known of RAM, then `parts`, `reduced` and `sides`.
+//! Read `covering`, which asks `bytes` what is known of RAM, `read`, what links read there, then `parts`, `reduced` and `sides`.
 #![tactic(auto)]
 
 pub mod bytes;
 pub mod covering;
 pub mod held;
 pub mod parts;
+pub mod read;
 pub mod reduced;
 pub mod sides;
 pub mod states;
@@ -17,6 +18,7 @@ pub mod states;
 pub use bytes::{byte_in, byte_of, covers_cells, covers_lists, uncopied};
 pub use held::{held_relations, relations_outside, stack_held};
 pub use parts::{Branch, Branches, Product};
+pub use read::{read_by, read_in};
 pub use states::States;
 
 // What lies below, for the crates above.
@@ -36,6 +38,6 @@ pub use gb_domain::program::Program;
 pub use gb_summaries::instruction::{InstructionStore, summary_after};
 pub use gb_summaries::returning::{GivenBack, KnownRam, is_byte_kept, summary_returned};
 pub use gb_summaries::{
-    AddressSet, Kept, Values, bounds_of, gb_ram_bounds, is_in, known_bits, known_carry, only_of_a,
-    places_outside, pointed_bits, pointer_bounds, reduce, relations_after, returned,
+    AddressSet, Kept, ReadKept, Values, bounds_of, gb_ram_bounds, is_in, known_bits, known_carry,
+    only_of_a, places_outside, pointed_bits, pointer_bounds, reduce, relations_after, returned,
 };

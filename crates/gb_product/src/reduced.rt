@@ -2,11 +2,15 @@
 
 ghost use Rattle.std.specs.Prelude.{◌≡◌, ◌≤◌, IfSome, option_and_then};
 ghost use Rattle.gb_domain.specs.declared.rules.Rules.TheVariants.{Extended};
+ghost use Rattle.gb_product.specs.Covering.{read_by};
 ghost use Rattle.gb_product.specs.Reduced as Reducing;
 ghost use Rattle.gb_product.specs.Sound.{IsSoundReducing, IsReduced, IsSoundController, IsSoundWhole};
 ghost use Rattle.gb_summaries.specs.Known.{window_bounds as bounds_of_window};
+ghost use Rattle.gb_summaries.specs.Below.gb_relations.Transfer.{values_of};
 
 use crate::parts::Product;
+use crate::read::read_in;
+use crate::states::States;
 use gb_domain::pairs::{Bounds, PairBounds};
 use gb_domain::program::Program;
 use gb_domain::relations::Relations;
@@ -20,29 +24,35 @@ use gb_summaries::{BankWindow, Values};
 /// By the rules of version 3.
 #[inline(always)]
 #[tactic(auto, using(crate::proofs::ReducedLaws::reduced_in_place, crate::proofs::ReducedLaws::reduced_in_place_sound))]
-fn reduce_together(entered: &PairBounds, core: &mut Core, relations: &mut Relations) -> bool
-    ensures exact { Reducing.reduced_together entered.now core.old relations.old ≡ Reducing.product_if result core.new relations.new }
-    ensures sound { IsSoundReducing entered.now core.old relations.old (Reducing.product_if result core.new relations.new) }
+fn reduce_together(
+    entered: &PairBounds,
+    read: &PairBounds,
+    core: &mut Core,
+    relations: &mut Relations,
+) -> bool
+    ensures exact { Reducing.reduced_together entered.now read.now core.old relations.old ≡ Reducing.product_if result core.new relations.new }
+    ensures sound { IsSoundReducing entered.now read.now core.old relations.old (Reducing.product_if result core.new relations.new) }
 {
-    gb_summaries::reduce(entered, &mut core.registers, &mut relations.pairs)
+    gb_summaries::reduce(entered, read, &mut core.registers, &mut relations.pairs)
 }
 
-/// A core and what is known together are cut in place to what registers, pairs and links leave of each other; whether they then
-/// mean something. By the rules of versions 1 and 2 they stay as they stand.
+/// A core and what is known together are cut in place to what registers, pairs and links leave of each other, where links read memory
+/// within bounds; whether they then mean something. By the rules of versions 1 and 2 they stay as they stand.
 #[inline(always)]
 #[tactic(auto, using(crate::proofs::ReducedLaws::same_sound), unfolding(crate::specs::Reduced::reduced))]
 pub fn reduce(
     rules: Rules,
     entered: &PairBounds,
+    read: &PairBounds,
     core: &mut Core,
     relations: &mut Relations,
 ) -> bool
-    ensures exact { Reducing.reduced rules entered.now core.old relations.old ≡ Reducing.product_if result core.new relations.new }
-    ensures sound { IsSoundReducing entered.now core.old relations.old (Reducing.product_if result core.new relations.new) }
+    ensures exact { Reducing.reduced rules entered.now read.now core.old relations.old ≡ Reducing.product_if result core.new relations.new }
+    ensures sound { IsSoundReducing entered.now read.now core.old relations.old (Reducing.product_if result core.new relations.new) }
 {
     match rules {
         Rules::Simple => true,
-        Rules::Extended => reduce_together(entered, core, relations),
+        Rules::Extended => reduce_together(entered, read, core, relations),
     }
 }
 
@@ -51,18 +61,20 @@ pub fn reduce(
 pub fn reduced(
     rules: Rules,
     entered: &PairBounds,
+    read: &PairBounds,
     core: &Core,
     relations: &Relations,
 ) -> Option<Product>
-    ensures exact { result ≡ Reducing.reduced rules entered.now core.now relations.now }
-    ensures sound { IsSoundReducing entered.now core.now relations.now result }
+    ensures exact { result ≡ Reducing.reduced rules entered.now read.now core.now relations.now }
+    ensures sound { IsSoundReducing entered.now read.now core.now relations.now result }
     ensures kept { IfSome result (IsReduced core.now relations.now) }
 {
     let mut product = Product {
         core: *core,
         relations: *relations,
     };
-    if reduce(rules, entered, &mut product.core, &mut product.relations) {
+    let (core, relations) = (&mut product.core, &mut product.relations);
+    if reduce(rules, entered, read, core, relations) {
         Some(product)
     } else {
         None
@@ -192,21 +204,26 @@ pub fn reduced_controller(
 fn reduced_with_banks(
     program: &Program<'_>,
     entered: &PairBounds,
-    core: &Core,
-    relations: &Relations,
-    cells: &[Cell],
-    summary: &Summary,
+    states: &States<'_>,
 ) -> Option<Product>
-    ensures exact { result ≡ option_and_then (Reducing.with_banks_cut program.now cells.now summary.now) (Reducing.reduced Extended entered.now core.now relations.now) }
-    ensures sound { IsSoundWhole program.now entered.now cells.now summary.now core.now relations.now result }
-    ensures stack { IfSome result (λ p. p.core.stack_set ≡ core.now.stack_set) }
+    ensures exact { result ≡ option_and_then (Reducing.with_banks_cut program.now states.now.lists.now.cells states.now.summary.now) (Reducing.reduced Extended entered.now (read_by program.now (values_of states.now.core.now.registers states.now.relations.now.pairs) states.now.lists.now.cells states.now.summary.now states.now.relations.now.pairs) states.now.core.now states.now.relations.now) }
+    ensures sound { IsSoundWhole program.now entered.now states.now.lists.now.cells states.now.summary.now states.now.core.now states.now.relations.now result }
+    ensures stack { IfSome result (λ p. p.core.stack_set ≡ states.now.core.now.stack_set) }
 {
-    let product = reduced(Rules::Extended, entered, core, relations)?;
+    let read = read_in(program, states, &states.relations.pairs);
+    let product = reduced(
+        Rules::Extended,
+        entered,
+        &read,
+        states.core,
+        states.relations,
+    )?;
     let values = Values {
         registers: product.core.registers,
         pairs: product.relations.pairs,
     };
-    let ctl = reduced_controller(program, &values, cells, summary, &product.core.ctl)?;
+    let cells = states.lists.cells();
+    let ctl = reduced_controller(program, &values, cells, states.summary, &product.core.ctl)?;
     Some(Product {
         core: Core {
             ctl,
@@ -216,27 +233,24 @@ fn reduced_with_banks(
     })
 }
 
-/// A core and relations, cut to what registers, pairs and links leave of each other, and then the controller's registers, cut to
-/// what the places of its windows leave: none where they mean nothing. By the rules of versions 1 and 2 they stay as they are.
+/// The core and relations of states, cut to what registers, pairs and links leave of each other, and then the controller's registers,
+/// cut to what the places of its windows leave: none where they mean nothing. By the rules of versions 1 and 2 they stay as they are.
 #[tactic(auto, using(crate::proofs::ControllerLaws::same_whole), unfolding(crate::specs::Reduced::reduced_wholly, crate::specs::Reduced::reduced))]
 pub fn reduced_wholly(
     program: &Program<'_>,
     rules: Rules,
     entered: &PairBounds,
-    core: &Core,
-    relations: &Relations,
-    cells: &[Cell],
-    summary: &Summary,
+    states: &States<'_>,
 ) -> Option<Product>
-    ensures exact { result ≡ Reducing.reduced_wholly program.now rules entered.now core.now relations.now cells.now summary.now }
-    ensures sound { IsSoundWhole program.now entered.now cells.now summary.now core.now relations.now result }
-    ensures stack { IfSome result (λ p. p.core.stack_set ≡ core.now.stack_set) }
+    ensures exact { result ≡ Reducing.reduced_wholly program.now rules entered.now states.now.core.now states.now.relations.now states.now.lists.now.cells states.now.summary.now }
+    ensures sound { IsSoundWhole program.now entered.now states.now.lists.now.cells states.now.summary.now states.now.core.now states.now.relations.now result }
+    ensures stack { IfSome result (λ p. p.core.stack_set ≡ states.now.core.now.stack_set) }
 {
     match rules {
         Rules::Simple => Some(Product {
-            core: *core,
-            relations: *relations,
+            core: *states.core,
+            relations: *states.relations,
         }),
-        Rules::Extended => reduced_with_banks(program, entered, core, relations, cells, summary),
+        Rules::Extended => reduced_with_banks(program, entered, states),
     }
 }

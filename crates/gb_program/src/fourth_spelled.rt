@@ -117,7 +117,7 @@ fn push_items(state: &StateRef<'_>, is_entered: bool, out: &mut Text)
 /// Adds cells after their number.
 fn push_cells(state: &StateRef<'_>, out: &mut Text)
     requires older { IsOlder false state.now }
-    requires room { array_vec_len out.old ≤ 890 }
+    requires room { array_vec_len out.old ≤ 896 }
     ensures text { out.new.items ≡ out.old.items ++ spelled.counted whole.cell state.now.cells }
     ensures room { array_vec_len out.new ≤ array_vec_len out.old + 321 }
 {

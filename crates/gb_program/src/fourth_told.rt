@@ -14,11 +14,11 @@ use gb_ops::op::Register;
 use gb_ops::registers::Registers;
 
 /// The bytes of a node or a procedure.
-pub type Text = ArrayVec<u8, 1211>;
+pub type Text = ArrayVec<u8, 1217>;
 
 /// Adds bytes, for which there is room.
 pub fn push(bytes: &[u8], out: &mut Text)
-    requires { array_vec_len out.old + length bytes.now ≤ 1211 }
+    requires { array_vec_len out.old + length bytes.now ≤ 1217 }
     ensures text { out.new.items ≡ out.old.items ++ bytes.now }
     ensures long { array_vec_len out.new ≡ array_vec_len out.old + length bytes.now }
 {
@@ -146,7 +146,7 @@ fn pair_number(pair: WordPair) -> u8
 
 /// Adds the pair that is 0 where Z is set, or a link's base, where there is one.
 fn push_pair(pair: Option<WordPair>, out: &mut Text)
-    requires { array_vec_len out.old ≤ 1210 }
+    requires { array_vec_len out.old ≤ 1216 }
     ensures text { out.new.items ≡ out.old.items ++ told.optional told.pair pair }
     ensures room { array_vec_len out.new ≤ array_vec_len out.old + 1 }
 {
@@ -168,13 +168,25 @@ fn other_number(other: Other) -> u8
         Other::Register(Register::H) => 5,
         Other::Register(Register::L) => 6,
         Other::Pair(pair) => 7 + pair_number(pair),
+        Other::Cell(_) => 10,
         Other::Nothing => 12,
+    }
+}
+
+/// Adds the address of a byte of RAM, where one is read.
+fn push_argument(other: Other, out: &mut Text)
+    requires { array_vec_len out.old ≤ 1215 }
+    ensures text { out.new.items ≡ out.old.items ++ told.argument other }
+    ensures room { array_vec_len out.new ≤ array_vec_len out.old + 2 }
+{
+    if let Other::Cell(address) = other {
+        push(&word(address), out);
     }
 }
 
 /// Adds a width, where it is one.
 fn push_width(width: u16, out: &mut Text)
-    requires { array_vec_len out.old ≤ 1209 }
+    requires { array_vec_len out.old ≤ 1215 }
     ensures text { out.new.items ≡ out.old.items ++ told.width width }
     ensures room { array_vec_len out.new ≤ array_vec_len out.old + 2 }
 {
@@ -185,7 +197,7 @@ fn push_width(width: u16, out: &mut Text)
 
 /// Adds the factor of what is read, where that is something.
 fn push_factor(other: Other, factor: u16, out: &mut Text)
-    requires { array_vec_len out.old ≤ 1210 }
+    requires { array_vec_len out.old ≤ 1216 }
     ensures text { out.new.items ≡ out.old.items ++ told.factor other factor }
     ensures room { array_vec_len out.new ≤ array_vec_len out.old + 1 }
 {
@@ -201,16 +213,17 @@ fn form_number(link: &Link) -> u8
     128 * flag(link.width != 0) + (64 * flag(link.base.is_some()) + (1 + other_number(link.other)))
 }
 
-/// Adds a link's form, its factor, its base, its sum and its width; 0 where there is none.
+/// Adds a link's form, the address of what it reads of RAM, its factor, its base, its sum and its width; 0 where there is none.
 fn push_link(link: Option<Link>, out: &mut Text)
-    requires { array_vec_len out.old ≤ 1204 }
+    requires { array_vec_len out.old ≤ 1208 }
     ensures text { out.new.items ≡ out.old.items ++ told.link link }
-    ensures room { array_vec_len out.new ≤ array_vec_len out.old + 7 }
+    ensures room { array_vec_len out.new ≤ array_vec_len out.old + 9 }
 {
     match link {
         None => push(&[0], out),
         Some(link) => {
             push(&[form_number(&link)], out);
+            push_argument(link.other, out);
             push_factor(link.other, link.factor, out);
             push_pair(link.base, out);
             push(&word(link.sum), out);
@@ -221,9 +234,9 @@ fn push_link(link: Option<Link>, out: &mut Text)
 
 #[tactic(auto, unfolding(crate::specs::Opened::facts))]
 fn push_facts(facts: &PairFacts, out: &mut Text)
-    requires { array_vec_len out.old ≤ 1200 }
+    requires { array_vec_len out.old ≤ 1204 }
     ensures text { out.new.items ≡ out.old.items ++ told.facts facts.now }
-    ensures room { array_vec_len out.new ≤ array_vec_len out.old + 11 }
+    ensures room { array_vec_len out.new ≤ array_vec_len out.old + 13 }
 {
     push(&word(facts.bounds.first), out);
     push(&word(facts.bounds.last), out);
@@ -232,9 +245,9 @@ fn push_facts(facts: &PairFacts, out: &mut Text)
 
 /// Adds what is known of a pair, where it is something.
 fn push_known(facts: &PairFacts, out: &mut Text)
-    requires { array_vec_len out.old ≤ 1200 }
+    requires { array_vec_len out.old ≤ 1204 }
     ensures text { out.new.items ≡ out.old.items ++ told.known_facts facts.now }
-    ensures room { array_vec_len out.new ≤ array_vec_len out.old + 11 }
+    ensures room { array_vec_len out.new ≤ array_vec_len out.old + 13 }
 {
     if is_known(facts) {
         push_facts(facts, out);
@@ -245,7 +258,7 @@ fn push_known(facts: &PairFacts, out: &mut Text)
 fn push_pairs(pairs: &Pairs, out: &mut Text)
     requires { array_vec_len out.old ≤ 1178 }
     ensures text { out.new.items ≡ out.old.items ++ told.pairs pairs.now }
-    ensures room { array_vec_len out.new ≤ array_vec_len out.old + 33 }
+    ensures room { array_vec_len out.new ≤ array_vec_len out.old + 39 }
 {
     push_known(&pairs.bc, out);
     push_known(&pairs.de, out);
@@ -258,7 +271,7 @@ fn push_pairs(pairs: &Pairs, out: &mut Text)
 fn push_parts(relations: &Relations, out: &mut Text)
     requires { array_vec_len out.old ≤ 1173 }
     ensures text { out.new.items ≡ out.old.items ++ told.parts relations.now }
-    ensures room { array_vec_len out.new ≤ array_vec_len out.old + 38 }
+    ensures room { array_vec_len out.new ≤ array_vec_len out.old + 44 }
 {
     push_byte(&relations.byte, out);
     push_pair(relations.zero, out);
@@ -269,7 +282,7 @@ fn push_parts(relations: &Relations, out: &mut Text)
 pub fn push_told(relations: &Relations, out: &mut Text)
     requires { array_vec_len out.old ≤ 1171 }
     ensures text { out.new.items ≡ out.old.items ++ told.present_number (told.present_in relations.now) ∷ 0 ∷ told.parts relations.now }
-    ensures room { array_vec_len out.new ≤ array_vec_len out.old + 40 }
+    ensures room { array_vec_len out.new ≤ array_vec_len out.old + 46 }
 {
     push(&[present_number(relations), 0], out);
     push_parts(relations, out);

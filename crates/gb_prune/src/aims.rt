@@ -7,8 +7,8 @@ use crate::parts::{
     parts_of_pair, told_in, weakened,
 };
 use gb_draft::{
-    Abs, AbsRead, AbsWrite, Bounds, Cell, PairBounds, REGISTERS, Resumed, Rules, Span, Successor,
-    Successors, WORD_PAIRS, WordPair, covers, enter, kept_of, taken_by,
+    Abs, AbsRead, AbsWrite, Bounds, Cell, Other, PairBounds, REGISTERS, Resumed, Rules, Span,
+    Successor, Successors, WORD_PAIRS, WordPair, covers, enter, facts_of, kept_of, taken_by,
 };
 
 /// What has to stand for what comes out on a way.
@@ -128,10 +128,26 @@ impl Asked<'_> {
             })
     }
 
-    /// The cells and items that one instruction may look at: what it loads or pops, and the one whose byte is known to be a
-    /// register's.
+    /// The cells that links read, of the state and of what has to stand for what comes out.
+    fn read_by_links(&self) -> u64 {
+        let cells = self.state.cells();
+        let mut read = read_in_cells(self.state, cells);
+        for aimed in self.aims {
+            read |= match &aimed.aim {
+                Aim::Covered(state) => read_in_cells(state, cells),
+                Aim::Entered { entry, .. } => read_in_cells(entry, cells),
+                Aim::Resumed { exit, back, .. } => {
+                    read_in_cells(exit, cells) | read_in_cells(back, cells)
+                }
+            };
+        }
+        read
+    }
+
+    /// The cells and items that one instruction may look at: what it loads or pops, the one whose byte is known to be a
+    /// register's, and what links read.
     pub(crate) fn at_hand(&self) -> Wanted {
-        let mut wanted = Wanted::nothing();
+        let mut wanted = Wanted::of_cells(self.read_by_links());
         if let Some(address) = self.state.relations().byte.address {
             wanted.cells |= bit_at(self.state.cells(), address);
         }
@@ -303,6 +319,25 @@ fn echoed(address: u16) -> u16 {
     } else {
         address
     }
+}
+
+/// The address in RAM that a pair's link reads in a state, if it reads one.
+pub(crate) fn read_by(pair: WordPair, state: &Abs) -> Option<u16> {
+    match facts_of(pair, &state.relations().pairs).link?.other {
+        Other::Cell(address) => Some(address),
+        Other::Register(_) | Other::Pair(_) | Other::Nothing => None,
+    }
+}
+
+/// The bits of the cells that the links of a state read.
+fn read_in_cells(state: &Abs, cells: &[Cell]) -> u64 {
+    let mut read = 0;
+    for pair in WORD_PAIRS {
+        if let Some(address) = read_by(pair, state) {
+            read |= bit_at(cells, address);
+        }
+    }
+    read
 }
 
 /// The bit of the cell at an address, if there is one.

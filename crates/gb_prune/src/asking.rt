@@ -1,8 +1,8 @@
 //! What the ways from a node ask of its state: what they pass on is wanted at once, and what has to come out is kept as aims.
 
-use crate::aims::{Aim, WayAim, is_stored, untouched};
+use crate::aims::{Aim, WayAim, is_stored, read_by, untouched};
 use crate::parts::{BANK, BOUNDS, Wanted, cell_number};
-use gb_draft::{Abs, AbsWrite, Cell, Origin, Range};
+use gb_draft::{Abs, AbsWrite, Cell, Origin, Range, WORD_PAIRS};
 use std::alloc::{AllocError, Global};
 
 /// A way from a node: what it writes, and the states before it and after it.
@@ -114,13 +114,19 @@ impl Asking {
         let state = passage.state;
         let mut of_exit = Wanted::nothing();
         for cell in back.cells() {
-            if is_inside(ranges, cell.address) {
+            let is_written = is_inside(ranges, cell.address);
+            if is_written {
                 want_at(exit.cells(), cell.address, &mut of_exit);
-                if is_given_back(exit.cells(), cell.address) {
-                    want_at(state.cells(), cell.address, &mut self.wanted);
-                }
-            } else {
+            }
+            if !is_written || is_given_back(exit.cells(), cell.address) {
                 want_at(state.cells(), cell.address, &mut self.wanted);
+            }
+        }
+        for pair in WORD_PAIRS {
+            if let Some(address) = read_by(pair, back)
+                && is_inside(ranges, address)
+            {
+                want_at(exit.cells(), address, &mut of_exit);
             }
         }
         let waiting = passage.waiting_below(count);

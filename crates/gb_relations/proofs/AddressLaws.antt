@@ -36,7 +36,7 @@ IsAt-place_if may_be a = choose (may_be a) refl
     choose true e = (refl, e)
     choose false e = tt
 
-only_one : (addresses : Bounds) (a : ℕ) → addresses.first ≤ a → a ≤ addresses.last → is_one addresses ≡ true → addresses.first ≡ a
+pub only_one : (addresses : Bounds) (a : ℕ) → addresses.first ≤ a → a ≤ addresses.last → is_one addresses ≡ true → addresses.first ≡ a
 only_one addresses a low high e =
     let same : addresses.first ≡ addresses.last = eqb-true addresses.first addresses.last e in
     omega arith

@@ -27,7 +27,7 @@ use Rattle.gb_domain.specs.declared.places.OneByte.{OneByte}
 use Rattle.gb_domain.specs.declared.relations.Relations.{Relations}
 use Rattle.gb_pairs.specs.Below.gb_vals.Meaning.{In}
 use Rattle.gb_pairs.specs.declared.values.Values.{Values}
-use Rattle.gb_pairs.specs.Meaning.{AreBytes, Holds}
+use Rattle.gb_pairs.specs.Meaning.{Beside, AreBytes, Holds}
 use Rattle.gb_pairs.specs.Sound.{Within}
 use Rattle.gb_pairs.proofs.BoundsLaws.{bounds_of_sound}
 use Rattle.gb_copies.specs.Meaning.{HoldOneByte}
@@ -46,14 +46,14 @@ use Rattle.gb_relations.proofs.AluLaws.{HoldOneByte-of_a, HoldOneByte-of_a_with}
 
 pub Holds-begun :
     {stack : StackBytes} {o : Op} {sp : Bounds} {vals : Registers Val} {low : Val} {r : Relations} {was : Registers ℕ} {p : Processor} {memory : ℕ → ℕ} {l h : ℕ}
-    → Begins stack o sp vals low r was p memory l h → Holds (values_of vals r.pairs) was p.registers
+    → Begins stack o sp vals low r was p memory l h → Holds (values_of vals r.pairs) (record { entered = was; memory = memory }) p.registers
 Holds-begun b = record { registers = b.registers; pairs = b.relations.pairs }
 
-pub Within-hl : (v : Values) (was : Registers ℕ) (p : Processor) → Holds v was p.registers → Within (bytes.at_hl v) (hl p)
+pub Within-hl : (v : Values) (was : Beside) (p : Processor) → Holds v was p.registers → Within (bytes.at_hl v) (hl p)
 unfolding pair_value
 Within-hl v was p m = (bounds_of_sound words.Hl v _ refl).gives was p.registers m
 
-pub Within-indirect : (which : Indirect) (v : Values) (was : Registers ℕ) (p : Processor) → Holds v was p.registers → Within (bytes.at_indirect which v) (indirect_address p which)
+pub Within-indirect : (which : Indirect) (v : Values) (was : Beside) (p : Processor) → Holds v was p.registers → Within (bytes.at_indirect which v) (indirect_address p which)
 unfolding indirect_address pair_value
 Within-indirect indirect.Bc v was p m = (bounds_of_sound words.Bc v _ refl).gives was p.registers m
 Within-indirect indirect.De v was p m = (bounds_of_sound words.De v _ refl).gives was p.registers m
@@ -113,10 +113,10 @@ HoldOneByte-counted_beside_a which l b p memory h =
 -- ---- two bytes
 
 -- memory with the first byte of a word written
-first_written : ℕ → (ℕ → ℕ) → (ℕ → ℕ) → ℕ → ℕ
+pub first_written : ℕ → (ℕ → ℕ) → (ℕ → ℕ) → ℕ → ℕ
 first_written a memory after b = cond (b == a) (after b) (memory b)
 
-first-kept : (a : ℕ) (memory after : ℕ → ℕ) → IsKeptBut a memory (first_written a memory after)
+pub first-kept : (a : ℕ) (memory after : ℕ → ℕ) → IsKeptBut a memory (first_written a memory after)
 unfolding first_written
 first-kept a memory after b other = choose (b == a) refl
   where
@@ -127,7 +127,7 @@ first-kept a memory after b other = choose (b == a) refl
 unlike : (b a : ℕ) → (b == a) ≡ false → b ≡ a → ⊥
 unlike b a e same = grind (arith, nat_tests)
 
-second-kept :
+pub second-kept :
     (a c : ℕ) (memory after : ℕ → ℕ)
     → ((b : ℕ) → (b ≡ a → ⊥) → (b ≡ c → ⊥) → after b ≡ memory b) → IsKeptBut c (first_written a memory after) after
 unfolding first_written
@@ -176,20 +176,20 @@ pub HoldOneByte-byte_after :
 unfolding bytes.byte_after effect_of read_of store_operand update_a
 HoldOneByte-byte_after bits stack (op.StoreA to) sp vals low r was p memory after l h at has b w =
     HoldOneByte-counted to _ p after
-    (HoldOneByte-stored_a bits stack (bytes.at_indirect to (values_of vals r.pairs)) (indirect_address p to) r.byte p memory after at (Within-indirect to _ was p (Holds-begun b)) b.bytes w b.relations.byte)
+    (HoldOneByte-stored_a bits stack (bytes.at_indirect to (values_of vals r.pairs)) (indirect_address p to) r.byte p memory after at (Within-indirect to _ _ p (Holds-begun b)) b.bytes w b.relations.byte)
 HoldOneByte-byte_after bits stack (op.LoadA from) sp vals low r was p memory after l h at has b w =
     HoldOneByte-counted_beside_a from l _ p after
-    (HoldOneByte-loaded_a stack (bytes.at_indirect from (values_of vals r.pairs)) (indirect_address p from) l r.byte p memory after (Within-indirect from _ was p (Holds-begun b)) b.low_small b.reads w b.relations.byte)
+    (HoldOneByte-loaded_a stack (bytes.at_indirect from (values_of vals r.pairs)) (indirect_address p from) l r.byte p memory after (Within-indirect from _ _ p (Holds-begun b)) b.low_small b.reads w b.relations.byte)
 HoldOneByte-byte_after bits stack (op.Increment which) sp vals low r was p memory after l h at has b w =
-    HoldOneByte-computed bits stack which (values_of vals r.pairs) r.byte p (incremented (operand_value p which l) p.flags) memory after at (Within-hl _ was p (Holds-begun b)) (incremented-byte _ _) (incremented-zero _ _) w b.relations.byte
+    HoldOneByte-computed bits stack which (values_of vals r.pairs) r.byte p (incremented (operand_value p which l) p.flags) memory after at (Within-hl _ _ p (Holds-begun b)) (incremented-byte _ _) (incremented-zero _ _) w b.relations.byte
 HoldOneByte-byte_after bits stack (op.Decrement which) sp vals low r was p memory after l h at has b w =
-    HoldOneByte-computed bits stack which (values_of vals r.pairs) r.byte p (decremented (operand_value p which l) p.flags) memory after at (Within-hl _ was p (Holds-begun b)) (decremented-byte _ _) (decremented-zero _ _) w b.relations.byte
+    HoldOneByte-computed bits stack which (values_of vals r.pairs) r.byte p (decremented (operand_value p which l) p.flags) memory after at (Within-hl _ _ p (Holds-begun b)) (decremented-byte _ _) (decremented-zero _ _) w b.relations.byte
 HoldOneByte-byte_after bits stack (op.LoadImmediate operand.AtHl n) sp vals low r was p memory after l h at has b w =
-    HoldOneByte-without_all bits (bytes.at_hl (values_of vals r.pairs)) (hl p) r.byte p.registers memory after p.flags at (Within-hl _ was p (Holds-begun b)) w.1 b.relations.byte
+    HoldOneByte-without_all bits (bytes.at_hl (values_of vals r.pairs)) (hl p) r.byte p.registers memory after p.flags at (Within-hl _ _ p (Holds-begun b)) w.1 b.relations.byte
 HoldOneByte-byte_after bits stack (op.StoreSp n) sp vals low r was p memory after l h at has b w =
     HoldOneByte-word n r.byte p.registers memory after p.flags w b.relations.byte
 HoldOneByte-byte_after bits stack (op.Load to from) sp vals low r was p memory after l h at has b w =
-    HoldOneByte-moved bits stack to from (values_of vals r.pairs) r.byte p memory after l at (Within-hl _ was p (Holds-begun b)) b.bytes b.low_small b.reads w b.relations.byte
+    HoldOneByte-moved bits stack to from (values_of vals r.pairs) r.byte p memory after l at (Within-hl _ _ p (Holds-begun b)) b.bytes b.low_small b.reads w b.relations.byte
 HoldOneByte-byte_after bits stack (op.Alu how from) sp vals low r was p memory after l h at has b w =
     HoldOneByte-elsewhere _ _ memory after _ (λ a e. w a)
     (HoldOneByte-of_a_with how from (values_of vals r.pairs) low l r.byte p memory b.registers b.low_read b.low_small b.bytes b.relations.byte)
@@ -209,14 +209,14 @@ HoldOneByte-byte_after bits stack (op.StoreAbsolute n) sp vals low r was p memor
 HoldOneByte-byte_after bits stack (op.LoadAbsolute n) sp vals low r was p memory after l h at has b w =
     HoldOneByte-loaded_a stack (bytes.one n) n l r.byte p memory after (Within-one n) b.low_small b.reads w b.relations.byte
 HoldOneByte-byte_after bits stack (op.Shift how which) sp vals low r was p memory after l h at has b w =
-    HoldOneByte-computed bits stack which (values_of vals r.pairs) r.byte p (shifted how (operand_value p which l) p.flags.carry) memory after at (Within-hl _ was p (Holds-begun b)) (shift-byte how _ _ (operand-byte which p l b.low_small b.bytes)) (shifted-zero how _ _) w b.relations.byte
+    HoldOneByte-computed bits stack which (values_of vals r.pairs) r.byte p (shifted how (operand_value p which l) p.flags.carry) memory after at (Within-hl _ _ p (Holds-begun b)) (shift-byte how _ _ (operand-byte which p l b.low_small b.bytes)) (shifted-zero how _ _) w b.relations.byte
 HoldOneByte-byte_after bits stack (op.Bit n which) sp vals low r was p memory after l h at has b w =
     HoldOneByte-elsewhere _ _ memory after _ (λ a e. w a)
-    (HoldOneByte-bit stack n which (values_of vals r.pairs) r.byte p memory l (Within-hl _ was p (Holds-begun b)) b.bytes b.low_small b.reads b.relations.byte)
+    (HoldOneByte-bit stack n which (values_of vals r.pairs) r.byte p memory l (Within-hl _ _ p (Holds-begun b)) b.bytes b.low_small b.reads b.relations.byte)
 HoldOneByte-byte_after bits stack (op.Reset n operand.AtHl) sp vals low r was p memory after l h at has b w =
-    HoldOneByte-without_all bits (bytes.at_hl (values_of vals r.pairs)) (hl p) r.byte p.registers memory after p.flags at (Within-hl _ was p (Holds-begun b)) w.1 b.relations.byte
+    HoldOneByte-without_all bits (bytes.at_hl (values_of vals r.pairs)) (hl p) r.byte p.registers memory after p.flags at (Within-hl _ _ p (Holds-begun b)) w.1 b.relations.byte
 HoldOneByte-byte_after bits stack (op.Set n operand.AtHl) sp vals low r was p memory after l h at has b w =
-    HoldOneByte-without_all bits (bytes.at_hl (values_of vals r.pairs)) (hl p) r.byte p.registers memory after p.flags at (Within-hl _ was p (Holds-begun b)) w.1 b.relations.byte
+    HoldOneByte-without_all bits (bytes.at_hl (values_of vals r.pairs)) (hl p) r.byte p.registers memory after p.flags at (Within-hl _ _ p (Holds-begun b)) w.1 b.relations.byte
 HoldOneByte-byte_after bits stack o sp vals low r was p memory after l h at has b w =
     HoldOneByte-forgotten stack o r.byte p memory after l h
     (places-stay stack (effect_of o p l h).write r.byte.address memory after (effect_of-outside o p l h refl) w b.placed) b.relations.byte

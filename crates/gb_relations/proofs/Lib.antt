@@ -11,6 +11,7 @@ pub mod PlacedLaws
 pub mod ZeroLaws
 pub mod PairLaws
 pub mod PairCopyLaws
+pub mod CellLinkLaws
 pub mod TransferLaws
 pub mod PointerLaws
 pub mod ReturnLaws

@@ -19,7 +19,7 @@ use Rattle.gb_domain.specs.declared.pairs.Pairs.{Pairs}
 use Rattle.gb_domain.specs.declared.places.OneByte.{OneByte}
 use Rattle.gb_domain.specs.Pairs.{facts_of, IsPairFacts, ArePairs}
 use Rattle.gb_pairs.specs.declared.values.Values.{Values}
-use Rattle.gb_pairs.specs.Meaning.{word_of, HoldsPair, HoldPairs, Holds}
+use Rattle.gb_pairs.specs.Meaning.{Beside, word_of, HoldsPair, HoldPairs, Holds}
 use Rattle.gb_pairs.specs.Sound.{Within}
 use Rattle.gb_pairs.specs.Reduced.{with_facts}
 use Rattle.gb_pairs.specs.Written.{is_half, is_same_pair}
@@ -81,11 +81,11 @@ are-equal high to from x y b z memory f i j e h =
 -- ---- what is known of the pair that becomes equal
 
 HoldPairs-with_facts :
-    (p : WordPair) (f : PairFacts) (s : Pairs) (was x : Registers ℕ) → HoldsPair f p was x → HoldPairs s was x → HoldPairs (with_facts p f s) was x
+    (p : WordPair) (f : PairFacts) (s : Pairs) (was : Beside) (x : Registers ℕ) → HoldsPair f p was x → HoldPairs s was x → HoldPairs (with_facts p f s) was x
 HoldPairs-with_facts p f s was x h k = record { each = each_facts (λ q f. HoldsPair f q was x) p f s h k.each }
 
-ArePairs-with_facts : (p : WordPair) (f : PairFacts) (s : Pairs) → IsPairFacts f → ArePairs s → ArePairs (with_facts p f s)
-ArePairs-with_facts p f s is h = record { each = each_facts (λ q f. IsPairFacts f) p f s is h.each }
+ArePairs-with_facts : (may_be : ℕ → Bool) (p : WordPair) (f : PairFacts) (s : Pairs) → IsPairFacts may_be f → ArePairs may_be s → ArePairs may_be (with_facts p f s)
+ArePairs-with_facts may_be p f s is h = record { each = each_facts (λ q f. IsPairFacts may_be f) p f s is h.each }
 
 Within-equal : (b : Bounds) (n m : ℕ) → n ≡ m → Within b m → Within b n
 Within-equal b n m e h = subst (λ k. Within b k) (sym e) h
@@ -93,7 +93,7 @@ Within-equal b n m e h = subst (λ k. Within b k) (sym e) h
 -- ---- the copy
 
 -- what is known before it, and of its two pairs
-record IsCopied (to from : Register) (b : OneByte) (v : Values) (s : Pairs) (was z : Registers ℕ) (memory : ℕ → ℕ) (f : Flags) : Type 0 where
+record IsCopied (to from : Register) (b : OneByte) (v : Values) (s : Pairs) (was : Beside) (z : Registers ℕ) (memory : ℕ → ℕ) (f : Flags) : Type 0 where
   byte : HoldOneByte b z memory f
   values : Holds v was z
   pairs : HoldPairs s was (set to (get from z) z)
@@ -116,7 +116,7 @@ half_of H x h = subst (λ y. is_half H y.1 ≡ true) (same_Some _ _ h) refl
 half_of L x h = subst (λ y. is_half L y.1 ≡ true) (same_Some _ _ h) refl
 
 HoldPairs-equal :
-    (high : Bool) (to from : Register) (b : OneByte) (v : Values) (s : Pairs) (was z : Registers ℕ) (memory : ℕ → ℕ) (f : Flags) (x y : Register × WordPair)
+    (high : Bool) (to from : Register) (b : OneByte) (v : Values) (s : Pairs) (was : Beside) (z : Registers ℕ) (memory : ℕ → ℕ) (f : Flags) (x y : Register × WordPair)
     → IsCopied to from b v s was z memory f → IsHalf high to x.0 x.1 → IsHalf high from y.0 y.1 → hold_one_byte x.0 y.0 b ≡ true
     → is_half to x.1 ≡ true → is_same_pair x.1 y.1 ≡ false
     → HoldPairs (with_facts x.1 (facts_copied (record { to = x.1; from = y.1 }) v) s) was (set to (get from z) z)
@@ -135,7 +135,7 @@ HoldPairs-equal high to from b v s was z memory f x y k i j e half apart =
 
 -- either byte
 HoldPairs-halves :
-    (to from : Register) (b : OneByte) (v : Values) (s : Pairs) (was z : Registers ℕ) (memory : ℕ → ℕ) (f : Flags) (x y : Register × WordPair)
+    (to from : Register) (b : OneByte) (v : Values) (s : Pairs) (was : Beside) (z : Registers ℕ) (memory : ℕ → ℕ) (f : Flags) (x y : Register × WordPair)
     → IsCopied to from b v s was z memory f → are_same_halves to from ≡ true → hold_one_byte x.0 y.0 b ≡ true → is_same_pair x.1 y.1 ≡ false
     → other_half to ≡ Some x → other_half from ≡ Some y
     → HoldPairs (with_facts x.1 (facts_copied (record { to = x.1; from = y.1 }) v) s) was (set to (get from z) z)
@@ -160,7 +160,7 @@ not_true true h = cc
 not_true false h = refl
 
 HoldPairs-copy_by :
-    (is_whole : Bool) (to from : Register) (b : OneByte) (v : Values) (s : Pairs) (was z : Registers ℕ) (memory : ℕ → ℕ) (f : Flags) (x y : Option (Register × WordPair))
+    (is_whole : Bool) (to from : Register) (b : OneByte) (v : Values) (s : Pairs) (was : Beside) (z : Registers ℕ) (memory : ℕ → ℕ) (f : Flags) (x y : Option (Register × WordPair))
     → IsCopied to from b v s was z memory f → other_half to ≡ x → other_half from ≡ y
     → HoldPairs (with_copy (copy_by is_whole to from b x y) v s) was (set to (get from z) z)
 HoldPairs-copy_by is_whole to from b v s was z memory f None y k is other = k.pairs
@@ -177,7 +177,7 @@ HoldPairs-copy_by is_whole to from b v s was z memory f (Some x) (Some y) k is o
         HoldPairs-halves to from b v s was z memory f x y k first.0 last.1 (not_true _ first.1) is other
 
 HoldPairs-load :
-    (is_whole : Bool) (to from : Register) (b : OneByte) (v : Values) (s : Pairs) (was : Registers ℕ) (p : Processor) (memory : ℕ → ℕ) (l h : ℕ)
+    (is_whole : Bool) (to from : Register) (b : OneByte) (v : Values) (s : Pairs) (was : Beside) (p : Processor) (memory : ℕ → ℕ) (l h : ℕ)
     → HoldOneByte b p.registers memory p.flags → Holds v was p.registers
     → HoldPairs s was (effect_of (op.Load (operand.Register to) (operand.Register from)) p l h).processor.registers
     → HoldPairs (with_copy (copy_by is_whole to from b (other_half to) (other_half from)) v s) was (effect_of (op.Load (operand.Register to) (operand.Register from)) p l h).processor.registers
@@ -186,7 +186,7 @@ HoldPairs-load is_whole to from b v s was p memory l h byte values pairs =
     HoldPairs-copy_by is_whole to from b v s was p.registers memory p.flags _ _ (record { byte = byte; values = values; pairs = pairs }) refl refl
 
 pub HoldPairs-with_pair_copied :
-    (is_whole : Bool) (o : Op) (b : OneByte) (v : Values) (s : Pairs) (was : Registers ℕ) (p : Processor) (memory : ℕ → ℕ) (l h : ℕ)
+    (is_whole : Bool) (o : Op) (b : OneByte) (v : Values) (s : Pairs) (was : Beside) (p : Processor) (memory : ℕ → ℕ) (l h : ℕ)
     → HoldOneByte b p.registers memory p.flags → Holds v was p.registers → HoldPairs s was (effect_of o p l h).processor.registers
     → HoldPairs (with_pair_copied is_whole o b v s) was (effect_of o p l h).processor.registers
 unfolding pair_copy
@@ -196,11 +196,11 @@ HoldPairs-with_pair_copied is_whole o b v s was p memory l h byte values pairs =
 
 -- ---- what may be known of pairs
 
-with_copy-kept : (c : Option PairCopy) (v : Values) (s : Pairs) → ArePairs v.pairs → ArePairs s → ArePairs (with_copy c v s)
-with_copy-kept None v s before h = h
-with_copy-kept (Some c) v s before h =
-    ArePairs-with_facts c.to (facts_copied c v) s
-    (record { last = bounds_of_below c.from v before; link = IsLink-copied c.to c.from (facts_of c.from v.pairs).link (before.each c.from).link }) h
+with_copy-kept : (may_be : ℕ → Bool) (c : Option PairCopy) (v : Values) (s : Pairs) → ArePairs may_be v.pairs → ArePairs may_be s → ArePairs may_be (with_copy c v s)
+with_copy-kept may_be None v s before h = h
+with_copy-kept may_be (Some c) v s before h =
+    ArePairs-with_facts may_be c.to (facts_copied c v) s
+    (record { last = bounds_of_below may_be c.from v before; link = IsLink-copied may_be c.to c.from (facts_of c.from v.pairs).link (before.each c.from).link }) h
 
-pub with_pair_copied-kept : (is_whole : Bool) (o : Op) (b : OneByte) (v : Values) (s : Pairs) → ArePairs v.pairs → ArePairs s → ArePairs (with_pair_copied is_whole o b v s)
-with_pair_copied-kept is_whole o b v s before h = with_copy-kept (pair_copy is_whole o b) v s before h
+pub with_pair_copied-kept : (may_be : ℕ → Bool) (is_whole : Bool) (o : Op) (b : OneByte) (v : Values) (s : Pairs) → ArePairs may_be v.pairs → ArePairs may_be s → ArePairs may_be (with_pair_copied is_whole o b v s)
+with_pair_copied-kept may_be is_whole o b v s before h = with_copy-kept may_be (pair_copy is_whole o b) v s before h

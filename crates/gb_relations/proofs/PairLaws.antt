@@ -22,7 +22,7 @@ use Rattle.gb_domain.specs.declared.pairs.Pairs.{Pairs}
 use Rattle.gb_domain.specs.Pairs.{facts_of, ArePairs}
 use Rattle.gb_pairs.specs.declared.values.Values.{Values}
 use Rattle.gb_pairs.specs.Bounds.{bounds_of}
-use Rattle.gb_pairs.specs.Meaning.{HoldPairs, AreBytes, Holds}
+use Rattle.gb_pairs.specs.Meaning.{Beside, HoldPairs, AreBytes, Holds}
 use Rattle.gb_pairs.specs.Written.{without_register}
 use Rattle.gb_pairs.specs.Moved as moved
 use Rattle.gb_pairs.specs.Sound.{Within, IsWordOf}
@@ -42,7 +42,7 @@ use Rattle.gb_relations.proofs.MachineLaws.{Overwrites, overwritten, AreBytes-in
 -- ---- forgetting
 
 HoldPairs-overwritten :
-    (rs : List Register) (s : Pairs) (was x y : Registers ℕ)
+    (rs : List Register) (s : Pairs) (was : Beside) (x y : Registers ℕ)
     → AreBytes x → AreBytes y → HoldPairs s was x → HoldPairs (without_registers rs s) was (overwritten rs x y)
 HoldPairs-overwritten [] s was x y p q h = h
 HoldPairs-overwritten (r ∷ rest) s was x y p q h =
@@ -51,7 +51,7 @@ HoldPairs-overwritten (r ∷ rest) s was x y p q h =
     (HoldPairs-without r s (get r y) was x (omega arith) p h)
 
 HoldPairs-left :
-    (rs : List Register) (s : Pairs) (was x y : Registers ℕ)
+    (rs : List Register) (s : Pairs) (was : Beside) (x y : Registers ℕ)
     → Overwrites rs x y → AreBytes x → AreBytes y → HoldPairs s was x → HoldPairs (without_registers rs s) was y
 HoldPairs-left rs s was x y over p q h =
     subst (λ z. HoldPairs (without_registers rs s) was z) (sym over) (HoldPairs-overwritten rs s was x y p q h)
@@ -59,7 +59,7 @@ HoldPairs-left rs s was x y over p q h =
 -- ---- steps
 
 HoldPairs-incremented :
-    (which : Pair) (v : Values) (was : Registers ℕ) (p : Processor)
+    (which : Pair) (v : Values) (was : Beside) (p : Processor)
     → AreBytes p.registers → Holds v was p.registers
     → HoldPairs (after_increment (pair_of which) v) was (with_pair p which ((pair_value p which + 1) % 65536)).registers
 unfolding with_pair pair_value
@@ -69,7 +69,7 @@ HoldPairs-incremented pair.Hl v was p bytes h = (incremented_sound words.Hl v _ 
 HoldPairs-incremented pair.Sp v was p bytes h = h.pairs
 
 HoldPairs-decremented :
-    (which : Pair) (v : Values) (was : Registers ℕ) (p : Processor)
+    (which : Pair) (v : Values) (was : Beside) (p : Processor)
     → AreBytes p.registers → Holds v was p.registers
     → HoldPairs (after_decrement (pair_of which) v) was (with_pair p which ((pair_value p which + 65535) % 65536)).registers
 unfolding with_pair pair_value
@@ -79,7 +79,7 @@ HoldPairs-decremented pair.Hl v was p bytes h = (decremented_sound words.Hl v _ 
 HoldPairs-decremented pair.Sp v was p bytes h = h.pairs
 
 HoldPairs-indirect :
-    (which : Indirect) (v : Values) (was : Registers ℕ) (p : Processor)
+    (which : Indirect) (v : Values) (was : Beside) (p : Processor)
     → AreBytes p.registers → Holds v was p.registers → HoldPairs (after_indirect which v) was (with_indirect p which).registers
 unfolding with_indirect
 HoldPairs-indirect indirect.Bc v was p bytes h = h.pairs
@@ -100,7 +100,7 @@ bounds-below p v h =
     omega arith
 
 pub Within-addend :
-    (which : Pair) (sp : Bounds) (v : Values) (was : Registers ℕ) (p : Processor)
+    (which : Pair) (sp : Bounds) (v : Values) (was : Beside) (p : Processor)
     → sp.first ≤ p.sp → p.sp ≤ sp.last → Holds v was p.registers → Within (addend which sp v) (pair_value p which)
 unfolding pair_value
 Within-addend pair.Bc sp v was p low high h = (bounds_of_sound words.Bc v _ refl).gives was p.registers h
@@ -115,7 +115,7 @@ addend-below pair.Hl sp v small h = bounds-below words.Hl v h
 addend-below pair.Sp sp v small h = small
 
 HoldPairs-added_word :
-    (y : Bounds) (itself : Bool) (from : Option WordPair) (n : ℕ) (v : Values) (was : Registers ℕ) (p : Processor)
+    (y : Bounds) (itself : Bool) (from : Option WordPair) (n : ℕ) (v : Values) (was : Beside) (p : Processor)
     → Within y n → y.last < 65536 → AreWords v.pairs → AreBytes p.registers → Holds v was p.registers → IsWordOf from n p.registers
     → HoldPairs (moved.added y itself from v).pairs was (with_pair p pair.Hl ((hl p + n) % 65536)).registers
 unfolding with_pair pair_value
@@ -131,7 +131,7 @@ IsWordOf-added true pair.Hl p = refl
 IsWordOf-added true pair.Sp p = tt
 
 HoldPairs-added :
-    (is_whole : Bool) (which : Pair) (sp : Bounds) (v : Values) (was : Registers ℕ) (p : Processor)
+    (is_whole : Bool) (which : Pair) (sp : Bounds) (v : Values) (was : Beside) (p : Processor)
     → sp.first ≤ p.sp → p.sp ≤ sp.last → sp.last < 65536 → AreWords v.pairs → AreBytes p.registers → Holds v was p.registers
     → HoldPairs (moved.added (addend which sp v) (is_hl which) (added_pair is_whole which) v).pairs was (with_pair p pair.Hl ((hl p + pair_value p which) % 65536)).registers
 HoldPairs-added is_whole which sp v was p low high small are bytes h =
@@ -142,13 +142,13 @@ HoldPairs-added is_whole which sp v was p low high small are bytes h =
 -- ---- instructions
 
 HoldPairs-stored :
-    (to : Indirect) (v : Values) (was : Registers ℕ) (p : Processor) (l h : ℕ)
+    (to : Indirect) (v : Values) (was : Beside) (p : Processor) (l h : ℕ)
     → AreBytes p.registers → Holds v was p.registers → HoldPairs (after_indirect to v) was (effect_of (op.StoreA to) p l h).processor.registers
 unfolding effect_of
 HoldPairs-stored to v was p l h bytes m = HoldPairs-indirect to v was p bytes m
 
 HoldPairs-loaded :
-    (from : Indirect) (v : Values) (was : Registers ℕ) (p : Processor) (l h : ℕ)
+    (from : Indirect) (v : Values) (was : Beside) (p : Processor) (l h : ℕ)
     → l < 256 → AreBytes p.registers → Holds v was p.registers
     → HoldPairs (without_registers (A ∷ []) (after_indirect from v)) was (effect_of (op.LoadA from) p l h).processor.registers
 unfolding effect_of
@@ -156,38 +156,38 @@ HoldPairs-loaded from v was p l h small bytes m =
     HoldPairs-without A (after_indirect from v) l was (with_indirect p from).registers (omega arith) (AreBytes-indirect from p bytes) (HoldPairs-indirect from v was p bytes m)
 
 HoldPairs-increment_pair :
-    (which : Pair) (v : Values) (was : Registers ℕ) (p : Processor) (l h : ℕ)
+    (which : Pair) (v : Values) (was : Beside) (p : Processor) (l h : ℕ)
     → AreBytes p.registers → Holds v was p.registers → HoldPairs (after_increment (pair_of which) v) was (effect_of (op.IncrementPair which) p l h).processor.registers
 unfolding effect_of
 HoldPairs-increment_pair which v was p l h bytes m = HoldPairs-incremented which v was p bytes m
 
 HoldPairs-decrement_pair :
-    (which : Pair) (v : Values) (was : Registers ℕ) (p : Processor) (l h : ℕ)
+    (which : Pair) (v : Values) (was : Beside) (p : Processor) (l h : ℕ)
     → AreBytes p.registers → Holds v was p.registers → HoldPairs (after_decrement (pair_of which) v) was (effect_of (op.DecrementPair which) p l h).processor.registers
 unfolding effect_of
 HoldPairs-decrement_pair which v was p l h bytes m = HoldPairs-decremented which v was p bytes m
 
 HoldPairs-increment :
-    (r : Register) (v : Values) (was : Registers ℕ) (p : Processor) (l h : ℕ)
+    (r : Register) (v : Values) (was : Beside) (p : Processor) (l h : ℕ)
     → AreBytes p.registers → Holds v was p.registers → HoldPairs (moved.byte_incremented r v) was (effect_of (op.Increment (operand.Register r)) p l h).processor.registers
 unfolding effect_of update_operand store_operand operand_value incremented
 HoldPairs-increment r v was p l h bytes m = (byte_incremented_sound r v _ refl).gives was p.registers bytes m
 
 HoldPairs-decrement :
-    (r : Register) (v : Values) (was : Registers ℕ) (p : Processor) (l h : ℕ)
+    (r : Register) (v : Values) (was : Beside) (p : Processor) (l h : ℕ)
     → AreBytes p.registers → Holds v was p.registers → HoldPairs (moved.byte_decremented r v) was (effect_of (op.Decrement (operand.Register r)) p l h).processor.registers
 unfolding effect_of update_operand store_operand operand_value decremented
 HoldPairs-decrement r v was p l h bytes m = (byte_decremented_sound r v _ refl).gives was p.registers bytes m
 
 HoldPairs-add_hl :
-    (is_whole : Bool) (which : Pair) (sp : Bounds) (v : Values) (was : Registers ℕ) (p : Processor) (l h : ℕ)
+    (is_whole : Bool) (which : Pair) (sp : Bounds) (v : Values) (was : Beside) (p : Processor) (l h : ℕ)
     → sp.first ≤ p.sp → p.sp ≤ sp.last → sp.last < 65536 → AreWords v.pairs → AreBytes p.registers → Holds v was p.registers
     → HoldPairs (moved.added (addend which sp v) (is_hl which) (added_pair is_whole which) v).pairs was (effect_of (op.AddHl which) p l h).processor.registers
 unfolding effect_of
 HoldPairs-add_hl is_whole which sp v was p l h low high small are bytes m = HoldPairs-added is_whole which sp v was p low high small are bytes m
 
 pub HoldPairs-pairs_after :
-    (is_whole : Bool) (o : Op) (sp : Bounds) (v : Values) (was : Registers ℕ) (p : Processor) (l h : ℕ)
+    (is_whole : Bool) (o : Op) (sp : Bounds) (v : Values) (was : Beside) (p : Processor) (l h : ℕ)
     → HasBytes o → sp.first ≤ p.sp → p.sp ≤ sp.last → sp.last < 65536 → AreWords v.pairs → l < 256 → h < 256
     → AreBytes p.registers → Holds v was p.registers
     → HoldPairs (pairs_after is_whole o sp v) was (effect_of o p l h).processor.registers
@@ -204,35 +204,35 @@ HoldPairs-pairs_after is_whole o sp v was p l h has low high small are q r bytes
 
 -- ---- what may be known of pairs
 
-without_registers-kept : (rs : List Register) (s : Pairs) → ArePairs s → ArePairs (without_registers rs s)
-without_registers-kept [] s h = h
-without_registers-kept (r ∷ rest) s h = without_registers-kept rest _ (without_register_kept r s _ refl h)
+without_registers-kept : (may_be : ℕ → Bool) (rs : List Register) (s : Pairs) → ArePairs may_be s → ArePairs may_be (without_registers rs s)
+without_registers-kept may_be [] s h = h
+without_registers-kept may_be (r ∷ rest) s h = without_registers-kept may_be rest _ (without_register_kept may_be r s _ refl h)
 
-after_increment-kept : (which : Pair) (v : Values) → ArePairs v.pairs → ArePairs (after_increment (pair_of which) v)
-after_increment-kept pair.Bc v h = incremented_kept words.Bc v _ refl h
-after_increment-kept pair.De v h = incremented_kept words.De v _ refl h
-after_increment-kept pair.Hl v h = incremented_kept words.Hl v _ refl h
-after_increment-kept pair.Sp v h = h
+after_increment-kept : (may_be : ℕ → Bool) (which : Pair) (v : Values) → ArePairs may_be v.pairs → ArePairs may_be (after_increment (pair_of which) v)
+after_increment-kept may_be pair.Bc v h = incremented_kept may_be words.Bc v _ refl h
+after_increment-kept may_be pair.De v h = incremented_kept may_be words.De v _ refl h
+after_increment-kept may_be pair.Hl v h = incremented_kept may_be words.Hl v _ refl h
+after_increment-kept may_be pair.Sp v h = h
 
-after_decrement-kept : (which : Pair) (v : Values) → ArePairs v.pairs → ArePairs (after_decrement (pair_of which) v)
-after_decrement-kept pair.Bc v h = decremented_kept words.Bc v _ refl h
-after_decrement-kept pair.De v h = decremented_kept words.De v _ refl h
-after_decrement-kept pair.Hl v h = decremented_kept words.Hl v _ refl h
-after_decrement-kept pair.Sp v h = h
+after_decrement-kept : (may_be : ℕ → Bool) (which : Pair) (v : Values) → ArePairs may_be v.pairs → ArePairs may_be (after_decrement (pair_of which) v)
+after_decrement-kept may_be pair.Bc v h = decremented_kept may_be words.Bc v _ refl h
+after_decrement-kept may_be pair.De v h = decremented_kept may_be words.De v _ refl h
+after_decrement-kept may_be pair.Hl v h = decremented_kept may_be words.Hl v _ refl h
+after_decrement-kept may_be pair.Sp v h = h
 
-after_indirect-kept : (which : Indirect) (v : Values) → ArePairs v.pairs → ArePairs (after_indirect which v)
-after_indirect-kept indirect.Bc v h = h
-after_indirect-kept indirect.De v h = h
-after_indirect-kept indirect.HlIncrement v h = incremented_kept words.Hl v _ refl h
-after_indirect-kept indirect.HlDecrement v h = decremented_kept words.Hl v _ refl h
+after_indirect-kept : (may_be : ℕ → Bool) (which : Indirect) (v : Values) → ArePairs may_be v.pairs → ArePairs may_be (after_indirect which v)
+after_indirect-kept may_be indirect.Bc v h = h
+after_indirect-kept may_be indirect.De v h = h
+after_indirect-kept may_be indirect.HlIncrement v h = incremented_kept may_be words.Hl v _ refl h
+after_indirect-kept may_be indirect.HlDecrement v h = decremented_kept may_be words.Hl v _ refl h
 
-pub pairs_after-kept : (is_whole : Bool) (o : Op) (sp : Bounds) (v : Values) → ArePairs v.pairs → ArePairs (pairs_after is_whole o sp v)
+pub pairs_after-kept : (may_be : ℕ → Bool) (is_whole : Bool) (o : Op) (sp : Bounds) (v : Values) → ArePairs may_be v.pairs → ArePairs may_be (pairs_after is_whole o sp v)
 unfolding pairs_after
-pairs_after-kept is_whole (op.StoreA to) sp v h = after_indirect-kept to v h
-pairs_after-kept is_whole (op.LoadA from) sp v h = without_registers-kept (A ∷ []) (after_indirect from v) (after_indirect-kept from v h)
-pairs_after-kept is_whole (op.IncrementPair which) sp v h = after_increment-kept which v h
-pairs_after-kept is_whole (op.DecrementPair which) sp v h = after_decrement-kept which v h
-pairs_after-kept is_whole (op.Increment (operand.Register r)) sp v h = byte_incremented_kept r v _ refl h
-pairs_after-kept is_whole (op.Decrement (operand.Register r)) sp v h = byte_decremented_kept r v _ refl h
-pairs_after-kept is_whole (op.AddHl which) sp v h = added_kept (addend which sp v) (is_hl which) (added_pair is_whole which) v _ refl h
-pairs_after-kept is_whole o sp v h = without_registers-kept (written o) v.pairs h
+pairs_after-kept may_be is_whole (op.StoreA to) sp v h = after_indirect-kept may_be to v h
+pairs_after-kept may_be is_whole (op.LoadA from) sp v h = without_registers-kept may_be (A ∷ []) (after_indirect from v) (after_indirect-kept may_be from v h)
+pairs_after-kept may_be is_whole (op.IncrementPair which) sp v h = after_increment-kept may_be which v h
+pairs_after-kept may_be is_whole (op.DecrementPair which) sp v h = after_decrement-kept may_be which v h
+pairs_after-kept may_be is_whole (op.Increment (operand.Register r)) sp v h = byte_incremented_kept may_be r v _ refl h
+pairs_after-kept may_be is_whole (op.Decrement (operand.Register r)) sp v h = byte_decremented_kept may_be r v _ refl h
+pairs_after-kept may_be is_whole (op.AddHl which) sp v h = added_kept may_be (addend which sp v) (is_hl which) (added_pair is_whole which) v _ refl h
+pairs_after-kept may_be is_whole o sp v h = without_registers-kept may_be (written o) v.pairs h

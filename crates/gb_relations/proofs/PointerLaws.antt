@@ -26,7 +26,7 @@ use Rattle.gb_domain.specs.declared.pairs.Pairs.{Pairs}
 use Rattle.gb_domain.specs.declared.rules.Rules.{Rules}
 use Rattle.gb_domain.specs.declared.rules.Rules.TheVariants.{Simple, Extended}
 use Rattle.gb_pairs.specs.declared.values.Values.{Values}
-use Rattle.gb_pairs.specs.Meaning.{AreBytes, Holds}
+use Rattle.gb_pairs.specs.Meaning.{Beside, AreBytes, Holds}
 use Rattle.gb_pairs.specs.Moved.{added}
 use Rattle.gb_pairs.specs.Sound.{IsCarry}
 use Rattle.gb_pairs.proofs.BoundsLaws.{Within-bounds_of}
@@ -40,7 +40,7 @@ use Rattle.gb_relations.proofs.TransferLaws.{are_words}
 -- ---- addresses
 
 -- the pair of a pointer holds the address that it points to
-Within-pointed : (q : Pointer) (v : Values) (was : Registers ℕ) (p : Processor) → Holds v was p.registers → WithinIf (bounds_if (pair_at q) v) (pointed p q)
+Within-pointed : (q : Pointer) (v : Values) (was : Beside) (p : Processor) → Holds v was p.registers → WithinIf (bounds_if (pair_at q) v) (pointed p q)
 unfolding pointed high_register low_register byte_or_page
 Within-pointed at.Bc v was p m = Within-bounds_of words.Bc v was p.registers m
 Within-pointed at.De v was p m = Within-bounds_of words.De v was p.registers m
@@ -63,7 +63,7 @@ writes-anywhere w = tt
 
 -- and where a pair is known
 
-PointsWithin-bounds_if : (o : Option WordPair) (v : Values) (was x : Registers ℕ) → Holds v was x → PointsWithin (bounds_if o v) o x
+PointsWithin-bounds_if : (o : Option WordPair) (v : Values) (was : Beside) (x : Registers ℕ) → Holds v was x → PointsWithin (bounds_if o v) o x
 PointsWithin-bounds_if None v was x m = tt
 PointsWithin-bounds_if (Some p) v was x m = Within-bounds_of p v was x m
 
@@ -82,25 +82,25 @@ abbrev Follows : Option Pointer → Processor → Read → Write → Type 0
 Follows q p r w = IfSome q (λ pointer. ReadsAt (pointed p pointer) r × WritesAt (pointed p pointer) w)
 
 ReadsWithin-followed :
-    (q : Option Pointer) (v : Values) (was : Registers ℕ) (p : Processor) (r : Read) (w : Write)
+    (q : Option Pointer) (v : Values) (was : Beside) (p : Processor) (r : Read) (w : Write)
     → Holds v was p.registers → Follows q p r w → ReadsWithin (bounds_if (pair_pointed q) v) r
 ReadsWithin-followed None v was p r w m h = reads-anywhere r
 ReadsWithin-followed (Some q) v was p r w m h = ReadsWithin-at _ _ r h.0 (Within-pointed q v was p m)
 
 WritesWithin-followed :
-    (q : Option Pointer) (v : Values) (was : Registers ℕ) (p : Processor) (r : Read) (w : Write)
+    (q : Option Pointer) (v : Values) (was : Beside) (p : Processor) (r : Read) (w : Write)
     → Holds v was p.registers → Follows q p r w → WritesWithin (bounds_if (pair_pointed q) v) w
 WritesWithin-followed None v was p r w m h = writes-anywhere w
 WritesWithin-followed (Some q) v was p r w m h = WritesWithin-at _ _ w h.1 (Within-pointed q v was p m)
 
-ReadsWithin-pointer : (o : Op) (v : Values) (was : Registers ℕ) (p : Processor) → Holds v was p.registers → ReadsWithin (bounds_if (pointer_of o) v) (read_of o p)
+ReadsWithin-pointer : (o : Op) (v : Values) (was : Beside) (p : Processor) → Holds v was p.registers → ReadsWithin (bounds_if (pointer_of o) v) (read_of o p)
 unfolding pointer_of read_of
 ReadsWithin-pointer op.JumpHl v was p m = tt
 ReadsWithin-pointer op.LoadSpHl v was p m = tt
 ReadsWithin-pointer o v was p m = ReadsWithin-followed (Pointers.pointer_of o) v was p (read_of o p) (effect_of o p 0 0).write m (follows o p 0 0)
 
 WritesWithin-pointer :
-    (o : Op) (v : Values) (was : Registers ℕ) (p : Processor) (l h : ℕ) → Holds v was p.registers → WritesWithin (bounds_if (pointer_of o) v) (effect_of o p l h).write
+    (o : Op) (v : Values) (was : Beside) (p : Processor) (l h : ℕ) → Holds v was p.registers → WritesWithin (bounds_if (pointer_of o) v) (effect_of o p l h).write
 unfolding pointer_of effect_of Effects.jump
 WritesWithin-pointer op.JumpHl v was p l h m = tt
 WritesWithin-pointer op.LoadSpHl v was p l h m = tt
@@ -131,7 +131,7 @@ IsIfKnown-carry (Some known) n h = h
 
 -- the carry of a sum of HL and a word
 IsCarry-added :
-    (which : Pair) (sp : Bounds) (v : Values) (was : Registers ℕ) (p : Processor)
+    (which : Pair) (sp : Bounds) (v : Values) (was : Beside) (p : Processor)
     → sp.last < 65536 → AreWords v.pairs → AreBytes p.registers → Holds v was p.registers → sp.first ≤ p.sp → p.sp ≤ sp.last
     → IsCarry (added (addend which sp v) (is_hl which) None v).carry (hl p + pair_value p which)
 unfolding pair_value
@@ -141,7 +141,7 @@ IsCarry-added which sp v was p small are bytes m low high =
     was p.registers (pair_value p which) bytes m in_it.least in_it.most
 
 IsIfKnown-after :
-    (o : Op) (sp : Bounds) (v : Values) (was : Registers ℕ) (p : Processor) (l h : ℕ)
+    (o : Op) (sp : Bounds) (v : Values) (was : Beside) (p : Processor) (l h : ℕ)
     → sp.last < 65536 → AreWords v.pairs → AreBytes p.registers → Holds v was p.registers → sp.first ≤ p.sp → p.sp ≤ sp.last
     → IsIfKnown (carry_after o sp v) (effect_of o p l h).processor.flags.carry
 unfolding effect_of word_sum_flags

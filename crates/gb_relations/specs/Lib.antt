@@ -5,6 +5,7 @@ pub mod Pairs
 pub mod PointedBits
 pub mod PairCopies
 pub mod Bytes
+pub mod CellLinks
 pub mod Compared
 pub mod Items
 pub mod Transfer

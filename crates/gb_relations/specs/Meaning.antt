@@ -17,4 +17,4 @@ IsZero (Some p) x f = f.zero ≡ (word_of p x == 0)
 pub record HoldRelations (r : Relations) (was x : Registers ℕ) (memory : ℕ → ℕ) (f : Flags) : Type 0 where
   pub byte : HoldOneByte r.byte x memory f
   pub zero : IsZero r.zero x f
-  pub pairs : HoldPairs r.pairs was x
+  pub pairs : HoldPairs r.pairs (record { entered = was; memory = memory }) x

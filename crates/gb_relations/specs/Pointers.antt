@@ -22,7 +22,7 @@ use Rattle.gb_domain.specs.declared.rules.Rules.{Rules}
 use Rattle.gb_domain.specs.declared.rules.Rules.TheVariants.{Simple, Extended}
 use Rattle.gb_pairs.specs.declared.values.Values.{Values}
 use Rattle.gb_pairs.specs.Bounds.{bounds_of}
-use Rattle.gb_pairs.specs.Meaning.{AreBytes, Holds, word_of}
+use Rattle.gb_pairs.specs.Meaning.{Beside, AreBytes, Holds, word_of}
 use Rattle.gb_pairs.specs.Moved.{added}
 use Rattle.gb_pairs.specs.Sound.{Within}
 use Rattle.gb_relations.specs.Pairs.{addend, is_hl}
@@ -90,9 +90,9 @@ PointsWithin b (Some p) x = WithinIf b (word_of p x)
 
 -- where registers and pairs hold of the machine's, the instruction reads and writes its byte within the bounds
 pub record IsSoundPointer (o : Op) (registers : Registers Val) (s : Pairs) (b : Option Bounds) : Type 0 where
-  pub word : (was x : Registers ℕ) → Holds (values_of registers s) was x → PointsWithin b (pointer_of o) x
-  pub reads : (was : Registers ℕ) (p : Processor) → Holds (values_of registers s) was p.registers → ReadsWithin b (Effects.read_of o p)
-  pub writes : (was : Registers ℕ) (p : Processor) (l h : ℕ) → Holds (values_of registers s) was p.registers → WritesWithin b (Effects.effect_of o p l h).write
+  pub word : (was : Beside) (x : Registers ℕ) → Holds (values_of registers s) was x → PointsWithin b (pointer_of o) x
+  pub reads : (was : Beside) (p : Processor) → Holds (values_of registers s) was p.registers → ReadsWithin b (Effects.read_of o p)
+  pub writes : (was : Beside) (p : Processor) (l h : ℕ) → Holds (values_of registers s) was p.registers → WritesWithin b (Effects.effect_of o p l h).write
 
 abbrev pub IsIfKnown : Option Bool → Bool → Type 0
 IsIfKnown None c = Unit {0}
@@ -101,6 +101,6 @@ IsIfKnown (Some known) c = c ≡ known
 -- where SP's bounds hold too, the machine's C behind the instruction is as it is known
 pub record IsSoundCarry (o : Op) (sp : Bounds) (registers : Registers Val) (s : Pairs) (c : Option Bool) : Type 0 where
   pub gives :
-      (was : Registers ℕ) (p : Processor) (l h : ℕ)
+      (was : Beside) (p : Processor) (l h : ℕ)
       → AreBytes p.registers → Holds (values_of registers s) was p.registers → sp.first ≤ p.sp → p.sp ≤ sp.last
       → IsIfKnown c (Effects.effect_of o p l h).processor.flags.carry

@@ -31,10 +31,18 @@ use Rattle.gb_relations.specs.Meaning.{HoldRelations}
 abbrev pub is_pair_kept : WordPair → Kept → Bool
 is_pair_kept p k = get (high_of p) k.registers && get (low_of p) k.registers
 
-abbrev pub is_other_kept : Other → Kept → Bool
-is_other_kept (other.Register r) k = get r k.registers
-is_other_kept (other.Pair p) k = is_pair_kept p k
-is_other_kept other.Nothing k = true
+-- the byte of memory that a pair's link reads is kept
+abbrev pub is_read_kept : WordPair → Kept → Bool
+is_read_kept pair.Bc k = k.read.bc
+is_read_kept pair.De k = k.read.de
+is_read_kept pair.Hl k = k.read.hl
+
+-- what p's link reads is kept
+abbrev pub is_other_kept : WordPair → Other → Kept → Bool
+is_other_kept p (other.Register r) k = get r k.registers
+is_other_kept p (other.Pair q) k = is_pair_kept q k
+is_other_kept p (other.Cell a) k = is_read_kept p k
+is_other_kept p other.Nothing k = true
 
 abbrev pub both : Registers Bool → Registers Bool → Registers Bool
 both r s = record { a = r.a && s.a; b = r.b && s.b; c = r.c && s.c; d = r.d && s.d; e = r.e && s.e; h = r.h && s.h; l = r.l && s.l }
@@ -58,7 +66,7 @@ zero_returned k s x = if k.flags then pair_if_kept k s else x
 
 abbrev pub link_if_kept : WordPair → Kept → Option Link → Option Link
 link_if_kept p k None = None
-link_if_kept p k (Some l) = if is_pair_kept p k && is_other_kept l.other k then Some l else None
+link_if_kept p k (Some l) = if is_pair_kept p k && is_other_kept p l.other k then Some l else None
 
 -- ---- the base of an exit's link, which is what the caller's pair was as it called
 
@@ -81,13 +89,13 @@ with_sums l g =
       width = l.width + g.width;
     }
 
--- what g reads is kept, not both read something, and not all sums are some
-abbrev pub is_fit : Kept → Link → Link → Bool
-is_fit k l g = is_other_kept g.other k && (is_nothing l.other || is_nothing g.other) && nat_le (l.width + g.width) 65535
+-- what b's link g reads is kept, not both read something, and not all sums are some
+abbrev pub is_fit : Kept → WordPair → Link → Link → Bool
+is_fit k b l g = is_other_kept b g.other k && (is_nothing l.other || is_nothing g.other) && nat_le (l.width + g.width) 65535
 
-abbrev pub told_by_link : Kept → Link → Option Link → Option Link
-told_by_link k l None = None
-told_by_link k l (Some g) = if is_fit k l g then Some (with_sums l g) else None
+abbrev pub told_by_link : Kept → WordPair → Link → Option Link → Option Link
+told_by_link k b l None = None
+told_by_link k b l (Some g) = if is_fit k b l g then Some (with_sums l g) else None
 
 -- which pair's word as the caller was entered p's is
 abbrev pub pair_entered : WordPair → Values → Option WordPair
@@ -110,7 +118,7 @@ told_by_bounds l b = if is_nothing l.other then None else without_base b l
 abbrev pub told_link : Kept → Values → Link → Option WordPair → Option Link
 told_link k v l None = Some l
 told_link k v l (Some b) =
-    either (told_by_link k l (facts_of b v.pairs).link) (either (told_by_entry l (pair_entered b v)) (told_by_bounds l (bounds_of b v)))
+    either (told_by_link k b l (facts_of b v.pairs).link) (either (told_by_entry l (pair_entered b v)) (told_by_bounds l (bounds_of b v)))
 
 -- the exit's link, or if it has none the caller's where all that it reads is kept
 abbrev pub link_returned : WordPair → Kept → Values → Option Link → Option Link
@@ -154,10 +162,20 @@ returned k registers s x =
       };
     }
 
--- from registers x, memory and flags f to others: what is kept is as it was
-pub record IsKept (k : Kept) (address : Option ℕ) (x y : Registers ℕ) (before after : ℕ → ℕ) (f g : Flags) : Type 0 where
+abbrev pub IsOtherSame : Other → (ℕ → ℕ) → (ℕ → ℕ) → Type 0
+IsOtherSame (other.Cell a) before after = after a ≡ before a
+IsOtherSame _ before after = Unit {0}
+
+-- the byte of memory that a link reads is as it was
+abbrev pub IsReadSame : Option Link → (ℕ → ℕ) → (ℕ → ℕ) → Type 0
+IsReadSame None before after = Unit {0}
+IsReadSame (Some l) before after = IsOtherSame l.other before after
+
+-- from registers x, memory and flags f to others: what is kept of what s speaks of is as it was
+pub record IsKept (k : Kept) (s : Relations) (x y : Registers ℕ) (before after : ℕ → ℕ) (f g : Flags) : Type 0 where
   pub registers : (r : Register) → get r k.registers ≡ true → get r y ≡ get r x
-  pub memory : k.address ≡ true → (a : ℕ) → address ≡ Some a → after a ≡ before a
+  pub memory : k.address ≡ true → (a : ℕ) → s.byte.address ≡ Some a → after a ≡ before a
+  pub read : (p : WordPair) → is_read_kept p k ≡ true → IsReadSame (facts_of p s.pairs).link before after
   pub flags : k.flags ≡ true → g ≡ f
 
 -- registers are among the values, and are copies where these say so of what they were as the procedure was entered
@@ -169,6 +187,6 @@ pub record AreAmong (registers : Registers Val) (was p : Registers ℕ) : Type 0
 pub record IsSoundReturn (k : Kept) (registers : Registers Val) (s x after : Relations) : Type 0 where
   pub gives :
       (was p q : Registers ℕ) (old new : ℕ → ℕ) (f g : Flags)
-      → IsKept k s.byte.address p q old new f g → AreBytes q → AreAmong registers was p
+      → IsKept k s p q old new f g → AreBytes q → AreAmong registers was p
       → HoldRelations s was p old f → HoldRelations x p q new g
       → HoldRelations after was q new g

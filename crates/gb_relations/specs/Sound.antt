@@ -5,7 +5,8 @@ use Rattle.gb_ops.specs.declared.op.Op.{Op}
 use Rattle.gb_ops.specs.declared.op.Op.TheVariants as op
 use Rattle.gb_ops.specs.declared.machine.Region.{Region}
 use Rattle.gb_domain.specs.declared.places.StackBytes.{StackBytes}
-use Rattle.gb_domain.specs.Areas.{is_place_at}
+use Rattle.gb_domain.specs.Areas.{is_place_at, is_free_byte}
+use Rattle.gb_domain.specs.Pairs.{ArePairs}
 use Rattle.gb_ops.specs.declared.machine.Read.{Read}
 use Rattle.gb_ops.specs.declared.machine.Read.TheVariants as read
 use Rattle.gb_ops.specs.declared.machine.Write.{Write}
@@ -68,6 +69,7 @@ pub record Begins (stack : StackBytes) (o : Op) (sp : Bounds) (vals : Registers 
   pub low_small : l < 256
   pub high_small : h < 256
   pub placed : IsBytePlaced stack r.byte.address
+  pub cells : ArePairs (is_free_byte stack.region) r.pairs
   pub relations : HoldRelations r was p.registers memory p.flags
   pub reads : Reads (Effects.read_of o p) memory l
 

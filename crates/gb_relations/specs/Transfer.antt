@@ -23,6 +23,7 @@ use Rattle.gb_relations.specs.Written.{written, writes_flags}
 use Rattle.gb_relations.specs.Pairs.{other_half, pairs_after}
 use Rattle.gb_relations.specs.PairCopies.{with_pair_copied}
 use Rattle.gb_relations.specs.Bytes.{byte_after}
+use Rattle.gb_relations.specs.CellLinks.{cells_after}
 use Rattle.gb_relations.specs.Compared.{compared_after}
 
 -- ---- a pair that is 0
@@ -48,7 +49,8 @@ zero_after o b zero = if writes_flags o then None else zero_without_registers (w
 
 -- what is known together behind a taken instruction; registers and relations are those before it, sp has SP's bounds, and low is
 -- what was read at an address; by the rules of versions 1 and 2 a comparison of A alone; by those of version 4, is_whole, pairs that
--- become equal share their bounds and links, and a store by a pointer whose low bits are known spares places with others
+-- become equal share their bounds and links, and a store by a pointer whose low bits are known spares places with others, and links
+-- that read bytes with others
 unfoldable pub relations_after : Rules → Bool → StackBytes → Op → Bounds → Registers Val → Val → Relations → Relations
 relations_after Simple is_whole stack o sp registers low r = record no_relations { byte = compared_after o r.byte }
 relations_after Extended is_whole stack o sp registers low r =
@@ -56,5 +58,5 @@ relations_after Extended is_whole stack o sp registers low r =
     record {
       byte = byte_after (known_bits Extended is_whole o registers) stack o v low r.byte;
       zero = zero_after o r.byte r.zero;
-      pairs = with_pair_copied is_whole o r.byte v (pairs_after is_whole o sp v);
+      pairs = cells_after (known_bits Extended is_whole o registers) o v low (with_pair_copied is_whole o r.byte v (pairs_after is_whole o sp v));
     }

@@ -55,7 +55,7 @@ pub fn at_indirect(indirect: Indirect, values: &Values) -> Bounds
 }
 
 /// An address of FF00 to FFFF by its low byte.
-fn high(low: u8) -> u16
+pub(crate) fn high(low: u8) -> u16
     ensures { result ≡ 0xFF00 + low }
 {
     0xFF00 + u16::from(low)

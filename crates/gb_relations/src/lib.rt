@@ -4,11 +4,12 @@
 //!
 //! Read `transfer`, whose `relations_after` is what its definition says and holds behind every effect of the instruction. It
 //! stands on `compared` (by the rules of versions 1 and 2), and on `written`, the registers that are overwritten, on `places`, where a byte is stored or read, and on `bytes` and
-//! `pairs`, what is left of each part. `pair_copies` are the copies by which two pairs become equal. `pointers` says where an instruction reads or writes by a pair, and the carry of ADD HL;
+//! `pairs`, what is left of each part; `cell_links` is what stores leave of links. `pair_copies` are the copies by which two pairs become equal. `pointers` says where an instruction reads or writes by a pair, and the carry of ADD HL;
 //! `pointed_bits` what low bits such an address has.
 #![tactic(auto)]
 
 pub mod bytes;
+mod cell_links;
 pub mod compared;
 pub mod items;
 pub mod pair_copies;
@@ -20,7 +21,7 @@ pub mod returned;
 pub mod transfer;
 pub mod written;
 
-pub use returned::Kept;
+pub use returned::{Kept, ReadKept};
 
 // What lies below, for the crates above.
 pub use gb_copies::bank_covering::covers as covers_shadows;

@@ -22,6 +22,16 @@ pub struct Kept {
     pub flags: bool,
     /// The address that is a place of the caller's byte.
     pub address: bool,
+    /// The bytes of memory that links of the caller read.
+    pub read: ReadKept,
+}
+
+/// Of each pair, whether the byte of memory that its link reads is given back as it was.
+#[derive(Clone, Copy)]
+pub struct ReadKept {
+    pub bc: bool,
+    pub de: bool,
+    pub hl: bool,
 }
 
 fn is_pair_kept(pair: WordPair, kept: &Kept) -> bool
@@ -30,12 +40,24 @@ fn is_pair_kept(pair: WordPair, kept: &Kept) -> bool
     kept.registers.get(high_of(pair)) && kept.registers.get(low_of(pair))
 }
 
-fn is_other_kept(other: Other, kept: &Kept) -> bool
-    ensures { result ≡ Returned.is_other_kept other kept.now }
+fn is_read_kept(pair: WordPair, kept: &Kept) -> bool
+    ensures { result ≡ Returned.is_read_kept pair kept.now }
+{
+    match pair {
+        WordPair::Bc => kept.read.bc,
+        WordPair::De => kept.read.de,
+        WordPair::Hl => kept.read.hl,
+    }
+}
+
+/// Whether what a pair's link reads is kept.
+fn is_other_kept(pair: WordPair, other: Other, kept: &Kept) -> bool
+    ensures { result ≡ Returned.is_other_kept pair other kept.now }
 {
     match other {
         Other::Register(register) => kept.registers.get(register),
-        Other::Pair(pair) => is_pair_kept(pair, kept),
+        Other::Pair(read) => is_pair_kept(read, kept),
+        Other::Cell(_) => is_read_kept(pair, kept),
         Other::Nothing => true,
     }
 }
@@ -109,7 +131,9 @@ fn link_if_kept(pair: WordPair, kept: &Kept, link: Option<Link>) -> Option<Link>
     ensures { result ≡ Returned.link_if_kept pair kept.now link }
 {
     match link {
-        Some(link) if is_pair_kept(pair, kept) && is_other_kept(link.other, kept) => Some(link),
+        Some(link) if is_pair_kept(pair, kept) && is_other_kept(pair, link.other, kept) => {
+            Some(link)
+        },
         _ => None,
     }
 }
@@ -137,20 +161,20 @@ fn with_sums(link: Link, base: Link) -> Link
     }
 }
 
-/// Whether what the caller's link reads is kept, not both read something, and not all sums are some.
-fn is_fit(kept: &Kept, link: Link, base: Link) -> bool
-    ensures { result ≡ Returned.is_fit kept.now link base }
+/// Whether what the caller's link of a pair reads is kept, not both read something, and not all sums are some.
+fn is_fit(kept: &Kept, pair: WordPair, link: Link, base: Link) -> bool
+    ensures { result ≡ Returned.is_fit kept.now pair link base }
 {
-    is_other_kept(base.other, kept)
+    is_other_kept(pair, base.other, kept)
         && (is_nothing(link.other) || is_nothing(base.other))
         && u32::from(link.width) + u32::from(base.width) <= 65_535
 }
 
-fn told_by_link(kept: &Kept, link: Link, base: Option<Link>) -> Option<Link>
-    ensures { result ≡ Returned.told_by_link kept.now link base }
+fn told_by_link(kept: &Kept, pair: WordPair, link: Link, base: Option<Link>) -> Option<Link>
+    ensures { result ≡ Returned.told_by_link kept.now pair link base }
 {
     match base {
-        Some(base) if is_fit(kept, link, base) => Some(with_sums(link, base)),
+        Some(base) if is_fit(kept, pair, link, base) => Some(with_sums(link, base)),
         _ => None,
     }
 }
@@ -196,7 +220,7 @@ fn told_link(kept: &Kept, caller: &Values, link: Link) -> Option<Link>
     let Some(base) = link.base else {
         return Some(link);
     };
-    if let Some(told) = told_by_link(kept, link, facts_of(base, &caller.pairs).link) {
+    if let Some(told) = told_by_link(kept, base, link, facts_of(base, &caller.pairs).link) {
         return Some(told);
     }
     if let Some(told) = told_by_entry(link, pair_entered(base, caller)) {

@@ -1,6 +1,6 @@
 //! What an instruction leaves of what is known of several parts together.
 
-ghost use Rattle.std.specs.Prelude.{◌≡◌, ◌<◌, Bool, true};
+ghost use Rattle.std.specs.Prelude.{◌≡◌, ◌<◌, ℕ, Bool, true};
 ghost use Rattle.gb_domain.specs.declared.rules.Rules.TheVariants.{Extended};
 ghost use Rattle.gb_domain.specs.Pairs.{ArePairs};
 ghost use Rattle.gb_pairs.specs.Written as Halves;
@@ -9,6 +9,7 @@ ghost use Rattle.gb_relations.specs.Transfer as Transfer;
 ghost use Rattle.gb_relations.specs.Sound.{HasBytes, IsSoundTransfer};
 
 use crate::bytes::byte_after;
+use crate::cell_links::cells_after;
 use crate::compared::compared_after;
 use crate::pair_copies::copy_pair;
 use crate::pairs::{other_half, pairs_after};
@@ -100,22 +101,18 @@ fn related_after(
     };
     let byte = &relations.byte;
     let bits = known_bits(Rules::Extended, is_whole, op, registers);
+    let pairs = pairs_after(is_whole, op, sp, &values);
+    let pairs = copy_pair(is_whole, op, byte, &values, pairs);
     Relations {
         byte: byte_after(bits, stack, op, &values, low, byte),
         zero: zero_after(op, byte, relations.zero),
-        pairs: copy_pair(
-            is_whole,
-            op,
-            byte,
-            &values,
-            pairs_after(is_whole, op, sp, &values),
-        ),
+        pairs: cells_after(bits, op, &values, low, pairs),
     }
 }
 
 /// Whether an instruction writes neither a register of those, nor a flag, nor a byte but on the stack: then all stays known.
 #[inline(always)]
-#[tactic(auto, unfolding(crate::specs::Transfer::relations_after, crate::specs::Bytes::byte_after, crate::specs::Transfer::zero_after, crate::specs::Pairs::pairs_after, crate::specs::PairCopies::pair_copy, crate::specs::Written::written, crate::specs::Written::writes_flags))]
+#[tactic(auto, unfolding(crate::specs::Transfer::relations_after, crate::specs::Bytes::byte_after, crate::specs::CellLinks::cells_after, crate::specs::Transfer::zero_after, crate::specs::Pairs::pairs_after, crate::specs::PairCopies::pair_copy, crate::specs::Written::written, crate::specs::Written::writes_flags))]
 fn leaves_all_known(op: Op) -> bool
     ensures { result ≡ true → (is_whole : Bool) (stack : StackBytes) (sp : Bounds) (registers : Registers Val) (low : Val) (r : Relations) → Transfer.relations_after Extended is_whole stack op sp registers low r ≡ r }
 {
@@ -184,7 +181,7 @@ pub fn relations_after(
 ) -> Relations
     ensures exact { result ≡ Transfer.relations_after rules is_whole stack op sp registers.now low relations.now }
     ensures sound { IsSoundTransfer stack op sp registers.now low relations.now result }
-    ensures kept { ArePairs relations.now.pairs → ArePairs result.pairs }
+    ensures kept { (may_be : ℕ → Bool) → ArePairs may_be relations.now.pairs → ArePairs may_be result.pairs }
 {
     holds_bytes(op);
     holds_words(relations.pairs);

@@ -127,7 +127,7 @@ pub record HasStateParts (rules : Rules) (of : Role) (region : Region) (s : AbsS
   pub items : AllByRecursion IsVal s.items
   pub placed : ArePlaced region s.cells
   pub vals : AreVals s.cells
-  pub pairs : ArePairs s.relations.pairs
+  pub pairs : ArePairs (is_free_byte region) s.relations.pairs
   pub quiet : rules ≡ Simple → s.summary ≡ no_summary
   pub apart : IsFree region s.summary
   pub aside : IfSome s.summary.aside (λ b. b.last < 65536)

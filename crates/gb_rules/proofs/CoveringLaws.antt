@@ -19,10 +19,11 @@ use Rattle.gb_successors.specs.Below.gb_domain.declared.types.Cell.{Cell}
 use Rattle.gb_successors.specs.Below.gb_domain.Limits.{cell_room}
 use Rattle.gb_successors.specs.Below.gb_domain.Values.{has_low_bits}
 use Rattle.gb_successors.specs.Below.gb_domain.declared.types.Val.{Val}
-use Rattle.gb_successors.specs.Below.gb_domain.Summaries.{Program}
+use Rattle.gb_successors.specs.Below.gb_domain.Summaries.{Program, SummaryParts}
 use Rattle.gb_successors.specs.Below.gb_domain.Types.{AbsState, Node}
 use Rattle.gb_successors.specs.Below.gb_domain.Certificate.{Certificate}
 use Rattle.std.specs.Prelude.{not, Option, Some, None, option_map, IfSome}
+use Rattle.gb_successors.specs.Below.gb_domain.Areas.{is_free_byte}
 use Rattle.gb_successors.specs.Below.gb_domain.Pairs.{ArePairs}
 use Rattle.gb_successors.specs.Below.gb_abs.Covering.{covers_items}
 use Rattle.gb_successors.specs.Below.gb_abs.Operations.{with_core}
@@ -73,9 +74,9 @@ address_among s None h = tt
 address_among None (Some a) h = cc
 address_among (Some b) (Some a) h = ap Some (eqb-true b a h)
 
-covered_byte : (whole : Bool) (registers : Registers Val) (s t : Relations) → covers_relations whole registers s t ≡ true → covers_byte s.byte t.byte ≡ true
+covered_byte : (program : Program) (registers : Registers Val) (cells : List Cell) (m : SummaryParts) (s t : Relations) → covers_relations program registers cells m s t ≡ true → covers_byte s.byte t.byte ≡ true
 unfolding covers_relations
-covered_byte whole registers s t h = first _ _ _ h
+covered_byte program registers cells m s t h = first _ _ _ h
   where
     first : (a b c : Bool) → (a && b && c) ≡ true → a ≡ true
     first true b c h = refl
@@ -90,7 +91,7 @@ covered_address s t h = second _ _ _ h
     second true false c h = cc
     second false false c h = cc
 
-covered_relations : (program : Program) (s t : AbsState) → covers program s t ≡ true → covers_relations program.is_whole s.core.registers s.relations t.relations ≡ true
+covered_relations : (program : Program) (s t : AbsState) → covers program s t ≡ true → covers_relations program s.core.registers s.cells s.summary s.relations t.relations ≡ true
 unfolding covers
 covered_relations program s t h =
     let p = and_parts _ _ h in
@@ -100,7 +101,7 @@ covered_relations program s t h =
 -- the place of what covers is among those that are covered
 pub covered_place : (program : Program) (s t : AbsState) → covers program s t ≡ true → IsAmong s.relations.byte.address t.relations.byte.address
 covered_place program s t h =
-    address_among s.relations.byte.address t.relations.byte.address (covered_address s.relations.byte t.relations.byte (covered_byte program.is_whole s.core.registers s.relations t.relations (covered_relations program s t h)))
+    address_among s.relations.byte.address t.relations.byte.address (covered_address s.relations.byte t.relations.byte (covered_byte program s.core.registers s.cells s.summary s.relations t.relations (covered_relations program s t h)))
 
 -- where one may lie the other does
 pub IsBytePlaced-among : (k : StackBytes) (s t : Option ℕ) → IsAmong s t → IsBytePlaced k s → IsBytePlaced k t
@@ -155,17 +156,14 @@ one_of_them test first (suc n) v h le lt =
 
 -- what reducing asks of states and a machine state: by the rules of versions 1 and 2 nothing
 record CanReduce (entered : PairBounds) (s : AbsState) (entry : Activation) (y : MState) : Type 0 where
-  pairs : ArePairs s.relations.pairs
+  may_be : ℕ → Bool
+  pairs : ArePairs may_be s.relations.pairs
   bytes : AreBytes y.processor.registers
   within : AreWithin entered (entered_with entry)
 
 abbrev IsReducible : Rules → PairBounds → AbsState → Activation → MState → Type 0
 IsReducible Simple entered s entry y = Unit {0}
 IsReducible Extended entered s entry y = CanReduce entered s entry y
-
-pairs_of : (rules : Rules) (entered : PairBounds) (s : AbsState) (entry : Activation) (y : MState) → IsReducible rules entered s entry y → rules ≡ Extended → ArePairs s.relations.pairs
-pairs_of Simple entered s entry y can e = cc
-pairs_of Extended entered s entry y can e = can.pairs
 
 left_is_meant :
     (rules : Rules) (entered : PairBounds) (s : AbsState) (entry : Activation) (base : ℕ) (y : MState) → IsReducible rules entered s entry y → Means s entry base y
@@ -174,7 +172,7 @@ unfolding reduced_wholly reduced
 left_is_meant Simple entered s entry base y can m = record { core = m.parts.core; related = m.related }
 left_is_meant Extended entered s entry base y can m =
     let known = HoldsKnown-means s entry base y m in
-    (reduced_wholly_sound entry.program Extended entered s.core s.relations s.cells s.summary (pairs_of Extended entered s entry y can)).gives entry y refl can.within can.bytes known.bytes known.cells_hold known.summary m.parts.core m.related
+    (reduced_wholly_sound can.may_be entry.program Extended entered s.core s.relations s.cells s.summary (λ e. can.pairs)).gives entry y refl can.within can.bytes known.bytes known.cells_hold known.summary m.parts.core m.related
 
 MeansParts-with_product : (s : AbsState) (p : Product) (entry : Activation) (base : ℕ) (y : MState) → p.core.stack_set ≡ s.core.stack_set → MeansProduct p entry y → MeansParts s entry base y
     → MeansParts (with_core s p.core) entry base y
@@ -247,7 +245,7 @@ same_items (parted.Byte at v) s n = refl
 reducible_one : (rules : Rules) (entered : PairBounds) (by : Parted) (s : AbsState) (n : ℕ) (entry : Activation) (y : MState) → IsReducible rules entered s entry y → IsReducible rules entered (with_one by s n) entry y
 reducible_one Simple entered by s n entry y can = tt
 reducible_one Extended entered by s n entry y can =
-    record { pairs = subst (λ (r : Relations). ArePairs r.pairs) (sym (same_relations by s n)) can.pairs; bytes = can.bytes; within = can.within }
+    record { may_be = can.may_be; pairs = subst (λ (r : Relations). ArePairs can.may_be r.pairs) (sym (same_relations by s n)) can.pairs; bytes = can.bytes; within = can.within }
 
 asked : (b c : Bool) → b ≡ true → (not b || c) ≡ true → c ≡ true
 asked true c e h = h
@@ -317,7 +315,7 @@ pub found_at : (cert : Certificate) (procedure a : ℕ) (s : AbsState) (entry : 
 found_at cert procedure a s entry base y h m = found_where Simple cert procedure a s entry base y tt h m
 
 -- by any rules
-pub found_by : (rules : Rules) (cert : Certificate) (procedure a : ℕ) (s : AbsState) (entry : Activation) (base : ℕ) (y : MState) → ArePairs s.relations.pairs → AreBytes y.processor.registers → AreWithin (entered_of cert procedure) (entered_with entry)
+pub found_by : (rules : Rules) (cert : Certificate) (procedure a : ℕ) (s : AbsState) (entry : Activation) (base : ℕ) (y : MState) → ArePairs (is_free_byte cert.region) s.relations.pairs → AreBytes y.processor.registers → AreWithin (entered_of cert procedure) (entered_with entry)
     → covered_at entry.program rules cert procedure a s ≡ true → Means s entry base y → IsFoundAt cert procedure a (length s.items) s.relations.byte.address entry base y
 found_by Simple cert procedure a s entry base y pairs bytes within h m = found_where Simple cert procedure a s entry base y tt h m
-found_by Extended cert procedure a s entry base y pairs bytes within h m = found_where Extended cert procedure a s entry base y (record { pairs = pairs; bytes = bytes; within = within }) h m
+found_by Extended cert procedure a s entry base y pairs bytes within h m = found_where Extended cert procedure a s entry base y (record { may_be = is_free_byte cert.region; pairs = pairs; bytes = bytes; within = within }) h m

@@ -1,7 +1,7 @@
 -- An interrupt's dispatch: the procedure is left as by a call, and its handler is entered.
 use Rattle.gb_rules.proofs.EntryLaws.{entry_pairs}
 use Rattle.gb_successors.specs.Below.gb_product.Meaning.{entered_with}
-use Rattle.std.proofs.Common.{◌≡◌, ℕ, ◌+◌, ◌-◌, ◌/◌, ◌%◌, ◌≤◌, ◌<◌, Bool, true, false, not, ◌&&◌, nat_lt, ◌⊎◌, inl, inr, List, length, Option, Some, None, refl, sym, ◌∙◌, ap, subst, arith}
+use Rattle.std.proofs.Common.{◌≡◌, ℕ, ◌+◌, ◌-◌, ◌/◌, ◌%◌, ◌≤◌, ◌<◌, Bool, true, false, not, ◌&&◌, nat_lt, ◌⊎◌, inl, inr, List, length, Option, Some, None, refl, sym, ◌∙◌, ap, subst, arith, nat_le}
 use Rattle.std.proofs.lemmas.Bool.{and_parts, not-true}
 use Rattle.std.specs.Option.{IfSome}
 use Rattle.std.proofs.lemmas.Bool.Decides.{nat_tests}
@@ -28,7 +28,9 @@ use Rattle.gb_successors.specs.Below.gb_domain.declared.relations.Relations.{Rel
 use Rattle.gb_successors.specs.Below.gb_domain.declared.types.Cell.{Cell}
 use Rattle.gb_successors.specs.Below.gb_domain.declared.rules.Rules.TheVariants.{Simple}
 use Rattle.gb_successors.specs.Below.gb_domain.declared.types.Core.{Core}
-use Rattle.gb_successors.specs.Below.gb_domain.Areas.{meets, is_place_at}
+use Rattle.gb_successors.specs.Below.gb_domain.Areas.{are_in_ram, meets, is_free_byte, is_place_at}
+use Rattle.gb_successors.specs.Below.gb_domain.Pairs.{ArePairs}
+use Rattle.gb_successors.proofs.Below.gb_relations_laws.CellLinkLaws.{HoldPairs-elsewhere}
 use Rattle.gb_successors.specs.Below.gb_domain.Limits.{rules_of}
 use Rattle.gb_successors.specs.Below.gb_relations.Meaning.{HoldRelations}
 use Rattle.gb_successors.specs.Below.gb_relations.Places.{is_ram}
@@ -214,12 +216,22 @@ passed_banks : (m : View) (n : ℕ) → (passed m n).storage.banks ≡ m.storage
 unfolding passed
 passed_banks m n = refl
 
--- memory that stays where a byte of the places is
-HoldRelations-apart : (r : Relations) (was x : Registers ℕ) (memory after : ℕ → ℕ) (f : Flags) → ((a : ℕ) → r.byte.address ≡ Some a → after a ≡ memory a) → HoldRelations r was x memory f → HoldRelations r was x after f
-HoldRelations-apart r was x memory after f same h = record {
+as_free : (region : Region) (b : ℕ) → is_free_byte region b ≡ true → (is_ram b && not (meets region b b)) ≡ true
+as_free region b h = later (nat_le b b) (are_in_ram b b) _ h
+  where
+    later : (x y z : Bool) → ((x && y) && z) ≡ true → (y && z) ≡ true
+    later true y z e = e
+    later false y z e = cc
+
+-- memory that stays where a byte of the places is, and where links read it
+HoldRelations-apart :
+    (may_be : ℕ → Bool) (r : Relations) (was x : Registers ℕ) (memory after : ℕ → ℕ) (f : Flags)
+    → ((a : ℕ) → r.byte.address ≡ Some a → after a ≡ memory a) → ArePairs may_be r.pairs → ((a : ℕ) → may_be a ≡ true → after a ≡ memory a)
+    → HoldRelations r was x memory f → HoldRelations r was x after f
+HoldRelations-apart may_be r was x memory after f same are stay h = record {
   byte = record { byte = h.byte.byte; small = h.byte.small; registers = h.byte.registers; address = λ a e. same a e ∙ h.byte.address a e; test = h.byte.test };
   zero = h.zero;
-  pairs = h.pairs;
+  pairs = HoldPairs-elsewhere may_be r.pairs was x memory after are stay h.pairs;
 }
 
 not_so : {X : Type 0} → true ≡ false → X
@@ -295,9 +307,8 @@ is_dispatched rom cert n entry base x i at is_node certificate on set unlimited 
       means = dispatched_means n.state n.address entry base (left_by rom x i n.address) (subst (λ z. MeansParts z entry base (left_by rom x i n.address)) (pushed_ended n.state n.address)
           (MeansParts-related n.state.relations (ended false 5 (pushed (known_word n.address) (with_core n.state (masked n.state.core)))) entry base (left_by rom x i n.address)
           (MeansParts-ended rom (pushed (known_word n.address) (with_core n.state (masked n.state.core))) entry base (left_by rom x i n.address).processor (stored (view rom x false) (write.Push x.processor.sp n.address)) false 5 done.starting done.means)))
-          (HoldRelations-apart n.state.relations (entered_with entry) x.processor.registers (peek x.storage) (peek (left_by rom x i n.address).storage) x.processor.flags
-          held
-          at.means.related)
+          (HoldRelations-apart (is_free_byte cert.region) n.state.relations (entered_with entry) x.processor.registers (peek x.storage)
+          (peek (left_by rom x i n.address).storage) x.processor.flags held s.pairs (λ b free. left b (as_free cert.region b free)) at.means.related)
           (IsSummarized-dispatched rom cert.region n.state entry x i n.address facts s.apart on
           (passed_banks (stored (view rom x false) (write.Push x.processor.sp n.address)) 5 ∙ done.banks) left at.means.summary);
       faults = done.faults;

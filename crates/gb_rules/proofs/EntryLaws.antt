@@ -10,11 +10,11 @@ use Rattle.gb_successors.specs.Below.gb_domain.Certificate.{Certificate}
 use Rattle.gb_successors.specs.Below.gb_domain.Pairs.{any_pairs, bounds_in}
 use Rattle.gb_successors.specs.Below.gb_domain.Rules.{IsCore}
 use Rattle.gb_successors.specs.Below.gb_domain.Types.{ProcedureParts, Node}
-use Rattle.gb_successors.specs.Below.gb_pairs.Meaning.{word_of, AreBytes, Holds}
+use Rattle.gb_successors.specs.Below.gb_pairs.Meaning.{Beside, word_of, AreBytes, Holds}
 use Rattle.gb_successors.specs.Below.gb_pairs.Sound.{Within, AreWithin}
 use Rattle.gb_successors.specs.Below.gb_abs.Meaning.{Activation}
 use Rattle.gb_successors.specs.Below.gb_product.Covering.{values_in}
-use Rattle.gb_successors.specs.Below.gb_product.Meaning.{entered_with, Means}
+use Rattle.gb_successors.specs.Below.gb_product.Meaning.{entered_with, beside, Means}
 use Rattle.gb_successors.proofs.Below.gb_product_laws.CoveringLaws.{HoldValues-means}
 use Rattle.gb_successors.proofs.Below.gb_product_laws.MeaningLaws.{AreBytes-core}
 use Rattle.gb_successors.proofs.Below.gb_pairs_laws.BoundsLaws.{Within-bounds_of, word_below}
@@ -35,7 +35,7 @@ AreWithin-any x bytes = record { each = each }
     each pair.De = let small = word_below pair.De x bytes in record { least = omega arith; most = omega arith }
     each pair.Hl = let small = word_below pair.Hl x bytes in record { least = omega arith; most = omega arith }
 
-AreWithin-node : (n : Node) (was x : Registers ℕ) → Holds (values_in n.state) was x → AreWithin (pairs_at (Some n)) x
+AreWithin-node : (n : Node) (was : Beside) (x : Registers ℕ) → Holds (values_in n.state) was x → AreWithin (pairs_at (Some n)) x
 AreWithin-node n was x h = record { each = each }
   where
     each : (p : WordPair) → Within (bounds_in p (pairs_at (Some n))) (word_of p x)
@@ -52,7 +52,7 @@ AreWithin-entered cert n entry base x enters core m = by (is_fourth cert)
     by : (b : Bool) → AreWithin (cond b (pairs_in cert (slice_get cert.procedures n.procedure)) any_pairs) x.processor.registers
     by true =
         subst (λ b. AreWithin b x.processor.registers) (sym enters)
-        (AreWithin-node n (entered_with entry) x.processor.registers (HoldValues-means n.state entry base x m))
+        (AreWithin-node n (beside entry x) x.processor.registers (HoldValues-means n.state entry base x m))
     by false = AreWithin-any x.processor.registers (AreBytes-core n.state.core entry x core m.parts.core)
 
 -- ---- main waits for all others

@@ -21,6 +21,7 @@ use Rattle.gb_successors.specs.Below.gb_domain.Settings.{known_base, IsBase}
 use Rattle.gb_calls.specs.Below.gb_states.declared.role.Role.TheVariants as role
 use Rattle.gb_calls.specs.Below.gb_states.WholeRules.{IsCertificate}
 use Rattle.gb_successors.specs.Below.gb_abs.Stack.{AreInRegion}
+use Rattle.gb_successors.specs.Below.gb_domain.Areas.{is_free_byte}
 use Rattle.gb_successors.specs.Below.gb_product.Covering.{covers}
 use Rattle.gb_successors.specs.Below.gb_product.Meaning.{Means, IsApart}
 use Rattle.gb_successors.proofs.Below.gb_product_laws.CoveringLaws.{Means-covered}
@@ -189,7 +190,7 @@ Keeps-below cert f procedure above base s t extended w keeps =
 -- the rules leave where its items lie
 apart_widely : (z : Setting) (region : Region) (s : AbsState) → IsApart z region s → IsApart (record z { rules = Extended }) region s
 unfolding stack_held
-apart_widely z region s h = record { cells = h.cells; byte = h.byte; summary = h.summary }
+apart_widely z region s h = record { cells = h.cells; byte = h.byte; links = h.links; summary = h.summary }
 
 within_widely : (cert : Certificate) (procedure : ℕ) (was : Registers ℕ) → AreWithin (entered_of cert procedure) was → AreWithin (setting_by Extended cert procedure).entered was
 unfolding setting_of
@@ -238,7 +239,7 @@ record IsFoundBack (cert : Certificate) (waiting : StackBytes) (procedure a item
 
 -- where something is left, it is covered, and means the machine's state, a node stands for it
 found_if : (cert : Certificate) (waiting : StackBytes) (procedure a : ℕ) (k : ℕ) (s x : AbsState) (entry called : Activation) (base : ℕ) (y : MState) (o : Option AbsState) → AreWithin (entered_of cert procedure) (entered_with entry) → HasStateParts Extended role.Exit cert.region x → Means x called base y
-    → (top : ℕ) → MeansIf o entry top y → IfSome o (λ after. covered_at entry.program Extended cert procedure a after ≡ true) → IfSome o (IsGivenBack waiting k s x)
+    → (top : ℕ) → MeansIf o entry top y → IfSome o (λ after. covered_at entry.program Extended cert procedure a after ≡ true) → IfSome o (IsGivenBack (is_free_byte cert.region) waiting k s x)
     → IsFoundBack cert waiting procedure a (length (given_back_items k s.items x.items)) entry top y
 found_if cert waiting procedure a k s x entry called base y None within is exits top m covered given = absurd m
 found_if cert waiting procedure a k s x entry called base y (Some after) within is exits top m covered given = record {
@@ -265,8 +266,8 @@ goes_on rom cert f procedure entry base s t certificate extended program names w
     subst (λ n. IfSome (resumed f.entry.program z cert.region (taken_by cert n) (ranges_of cert n) (kept_of cert n) c.state r.exit) (λ after. covered_at f.entry.program Extended cert f.procedure c.back after ≡ true)) w.callee
     (c.resumes r.exit (ap (exit_of cert) w.callee ∙ r.is_exit)) in
     found_if cert (waiting_stack z cert.region k c.state) f.procedure c.back k c.state r.exit f.entry entry base t (resumed f.entry.program z cert.region k (ranges_of cert procedure) kept c.state r.exit) w.within exit r.means f.base
-    (Means-resumed f.entry.program Extended z k cert.region (ranges_of cert procedure) kept c.state r.exit f.entry f.base entry t c.pairs pairs back) resumes
-    (IsGivenBack-resumed f.entry.program z cert.region k (ranges_of cert procedure) kept c.state r.exit c.pairs pairs back.placed.byte (exit.place (inr refl)))
+    (Means-resumed f.entry.program Extended z k cert.region (ranges_of cert procedure) kept c.state r.exit f.entry f.base entry t (is_free_byte cert.region) c.pairs pairs back) resumes
+    (IsGivenBack-resumed (is_free_byte cert.region) f.entry.program z cert.region k (ranges_of cert procedure) kept c.state r.exit c.pairs pairs back.placed.byte (exit.place (inr refl)))
 
 -- it holds no fewer than those that waited
 given_back_more : (k : ℕ) (items given : List Val) → k ≤ length items → length items - k ≤ length (given_back_items k items given)

@@ -14,6 +14,7 @@ use Rattle.gb_successors.specs.Below.gb_domain.declared.rules.Rules.{Rules}
 use Rattle.gb_successors.specs.Below.gb_domain.declared.rules.Rules.TheVariants.{Extended}
 use Rattle.gb_successors.specs.Below.gb_domain.declared.setting.Setting.{Setting}
 use Rattle.gb_successors.specs.Below.gb_domain.Limits.{rules_of, item_room}
+use Rattle.gb_successors.specs.Below.gb_domain.Areas.{is_free_byte}
 use Rattle.gb_successors.specs.Below.gb_domain.Pairs.{ArePairs}
 use Rattle.gb_successors.specs.Below.gb_domain.Summaries.{Program}
 use Rattle.gb_successors.specs.Below.gb_domain.Types.{AbsState, Node}
@@ -26,6 +27,9 @@ use Rattle.gb_successors.specs.Below.gb_abs.Stack.{AreInRegion, pushed}
 use Rattle.gb_successors.specs.Below.gb_abs.Storage.{peek}
 use Rattle.gb_successors.specs.Below.gb_relations.Sound.{IsBytePlaced}
 use Rattle.gb_successors.specs.Below.gb_product.Meaning.{Means}
+use Rattle.gb_successors.specs.Below.gb_product.Covering.{read_in}
+use Rattle.gb_successors.specs.Below.gb_pairs.Meaning.{AreReadIn}
+use Rattle.gb_successors.proofs.Below.gb_product_laws.CoveringLaws.{AreReadIn-means}
 use Rattle.gb_successors.specs.Below.gb_product.declared.parts.Product.{Product}
 use Rattle.gb_successors.specs.Below.gb_product.Reduced.{reduced}
 use Rattle.gb_successors.specs.Below.gb_product.Sound.{IsMeantProduct}
@@ -59,12 +63,17 @@ some_left None entry x h = absurd h
 some_left (Some p) entry x h = refl
 
 -- what is asked where something is meant before the instruction is asked wherever the machine stands
-pub is_possible-meant : (cert : Certificate) (n : Node) (entry : Activation) (base : ℕ) (x : MState) → IsNodeState cert n → AreWithin (entered_of cert n.procedure) (entered_with entry) → Means n.state entry base x → possible_at cert n ≡ true
+pub is_possible-meant :
+    (rom : List ℕ) (cert : Certificate) (n : Node) (entry : Activation) (base : ℕ) (x : MState)
+    → entry.program ≡ program_of rom cert → IsNodeState cert n → AreWithin (entered_of cert n.procedure) (entered_with entry) → Means n.state entry base x
+    → possible_at rom cert n ≡ true
 unfolding product_before
-is_possible-meant cert n entry base x s within m =
+is_possible-meant rom cert n entry base x program s within m =
     let y = moved x.processor.pc x in
-    some_left (reduced (rules_of cert.version) (entered_of cert n.procedure) (core_settle n.state.core) n.state.relations) entry y
-    ((reduced_sound (rules_of cert.version) (entered_of cert n.procedure) (core_settle n.state.core) n.state.relations _ refl s.pairs).gives entry y within (AreBytes-core n.state.core entry x s.core m.parts.core)
+    let read = read_in (program_of rom cert) n.state in
+    some_left (reduced (rules_of cert.version) (entered_of cert n.procedure) read (core_settle n.state.core) n.state.relations) entry y
+    ((reduced_sound (is_free_byte cert.region) (rules_of cert.version) (entered_of cert n.procedure) read (core_settle n.state.core) n.state.relations _ refl s.pairs).gives entry y within
+    (subst (λ q. AreReadIn n.state.relations.pairs (read_in q n.state) (peek x.storage)) program (AreReadIn-means n.state entry base x m)) (AreBytes-core n.state.core entry x s.core m.parts.core)
     (MeansCore-settle n.state.core entry x x.processor.pc m.parts.core) m.related)
 
 -- ---- what is left
@@ -160,7 +169,7 @@ is_calling rom cert n entry base x i o at s ready d mark =
         means = d.means;
         address = refl;
         bytes = AreBytes-core n.state.core entry x s.core at.means.parts.core;
-        pairs = subst (λ r. ArePairs r.pairs) related s.pairs;
+        pairs = subst (λ r. ArePairs (is_free_byte cert.region) r.pairs) related s.pairs;
         held = subst (λ m. AreInRegion cert.region base m) (sym (left_count n)) (fewer_bytes cert.region base (need_of cert n.procedure) (length n.state.items + 2) at.room ready.held);
         main = at.main;
         based = at.based;
@@ -172,6 +181,7 @@ is_calling rom cert n entry base x i o at s ready d mark =
       placed = record {
         cells = subst (λ cells. ArePlaced cert.region cells) (sym (left_cells n)) s.placed;
         byte = place;
+        links = subst (λ r. ArePairs (is_free_byte cert.region) r.pairs) related s.pairs;
         summary = left_apart cert.region n s.apart;
       };
       back_small = s.address;

@@ -41,7 +41,7 @@ interrupt_safe rom cert n entry base s i certificate is_node right handled at tr
         let k = subst (λ q. IsProvided q cert n i) (sym at.program) (IsProvided-passed rom cert n p i simple handled may.1 may.0) in
         IsSafeEvent-dispatch rom cert n entry base s i k.handler at is_node certificate simple possible k.stack_set (clear_stack cert.region n.state.core k.clear) k.is_handler k.inside k.depth k.resumes
     by Extended extended =
-        let meant = is_possible-meant cert n entry base s (IsNodeState-node cert n certificate is_node) at.within at.means in
+        let meant = is_possible-meant rom cert n entry base s at.program (IsNodeState-node cert n certificate is_node) at.within at.means in
         IsSafeEvent-dispatched rom cert n entry base s i extended certificate is_node ((shallow rom cert n p).handles meant) ((unlimited rom cert n p).dispatches meant) handled at possible
 interrupt_safe rom cert n entry base s i certificate is_node right handled at false impossible =
     IsSafeEvent-where rom cert n.procedure entry base s (event.Irq i) false impossible (record { node = n; is_node = is_node; procedure_is = refl; at = at }) (λ h. absurd (different h))

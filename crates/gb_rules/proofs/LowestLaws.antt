@@ -26,11 +26,13 @@ use Rattle.gb_successors.specs.Below.gb_product.Sides.{taken_side}
 use Rattle.gb_successors.specs.Way.{Successor}
 use Rattle.gb_successors.specs.declared.stacks.Stack.{Stack}
 use Rattle.gb_successors.specs.declared.successors.Successors.{Successors}
+use Rattle.gb_successors.specs.Below.gb_product.Covering.{read_by, read_in}
+use Rattle.gb_successors.specs.Below.gb_pairs.Reduced.{values_of}
 use Rattle.gb_successors.specs.Successors.{memory_before, product_before, settled_way, taken_by_side, taken_successor, reduced_successor, taken_from, not_taken_from, stays, successors_of, has, any_successor}
 use Rattle.gb_rules.specs.Procedures.{need_of, setting_of, stack_of, program_of}
 use Rattle.gb_rules.specs.Rules.{node_setting, calls_too_deep, handles_too_deep, is_dispatch_limited, is_possible, moves_too_deep, moves_alone_too_deep, taken_too_deep, ways_of, any_of, grows_too_deep, stores_outside, meets_ram, meets_transfer, leads_anywhere, leads_uncovered, calls_wrongly, returns_wrongly, applies_to_row, way_reasons}
 use Rattle.gb_rules.specs.Lowest.{lower, lowest, lowest_in, behind, applies_to_way, applies_to_taken, applies_alone}
-use Rattle.gb_successors.specs.Below.gb_domain.Summaries.{Program}
+use Rattle.gb_successors.specs.Below.gb_domain.Summaries.{Program, SummaryParts}
 use Rattle.gb_successors.specs.Settled.{branch_outside, told_by, told_successor, held_way}
 use Rattle.gb_successors.specs.Below.gb_domain.declared.types.Cell.{Cell}
 
@@ -251,8 +253,8 @@ depth rom cert n row =
     let ss = ways_of rom cert n row in
     let test = calls_too_deep (program_of rom cert) cert (node_setting cert n) (need_of cert n.procedure) in
     let deep = has (λ t. taken_too_deep (rules_of cert.version) (need_of cert n.procedure) n row.op) ss.taken in
-    ap (λ b. (b || any_successor test ss) || (handles_too_deep (program_of rom cert) cert n && is_possible cert n)) (moves-parts (rules_of cert.version) (need_of cert n.procedure) n row.op ss.taken)
-    ∙ deeper (moves_alone_too_deep (rules_of cert.version) (need_of cert n.procedure) n row.op) deep (handles_too_deep (program_of rom cert) cert n && is_possible cert n)
+    ap (λ b. (b || any_successor test ss) || (handles_too_deep (program_of rom cert) cert n && is_possible rom cert n)) (moves-parts (rules_of cert.version) (need_of cert n.procedure) n row.op ss.taken)
+    ∙ deeper (moves_alone_too_deep (rules_of cert.version) (need_of cert n.procedure) n row.op) deep (handles_too_deep (program_of rom cert) cert n && is_possible rom cert n)
     (has test ss.taken) (has test ss.not_taken) (has test ss.stays)
     ∙ three _ _ _ _ _ _ _ _ refl
     (deep-asked rom cert n row ss.taken)
@@ -330,7 +332,7 @@ IsLowest rom cert n row k before =
     (lowest_in (applies_to_way rom cert n row) (option_and_then (λ (p : Product). stays row n.address n.state) before))
 
 lowest-before : (rom : List ℕ) (cert : Certificate) (n : Node) (row : Row)
-    → IsLowest rom cert n row (stack_of cert n.procedure) (product_before (stack_of cert n.procedure).setting.rules (stack_of cert n.procedure).setting.entered n.state)
+    → IsLowest rom cert n row (stack_of cert n.procedure) (product_before (program_of rom cert) (stack_of cert n.procedure).setting.rules (stack_of cert n.procedure).setting.entered n.state)
 unfolding ways_of successors_of
 lowest-before rom cert n row =
     let ss = ways_of rom cert n row in
@@ -344,7 +346,7 @@ lowest-before rom cert n row =
 
 -- where it is given, by the state itself
 pub lowest_of_ways : (rom : List ℕ) (cert : Certificate) (n : Node) (row : Row) (k : Stack) (s : AbsState) (p : Product)
-    → k ≡ stack_of cert n.procedure → s ≡ n.state → Some p ≡ product_before k.setting.rules k.setting.entered s
+    → k ≡ stack_of cert n.procedure → s ≡ n.state → Some p ≡ product_before (program_of rom cert) k.setting.rules k.setting.entered s
     → lowest (applies_to_row rom cert n row)
     ≡ lower (lower (lower (lowest (applies_alone rom cert n row)) (lowest_in (applies_to_taken rom cert n row) (taken_from k (program_of rom cert) rom row (behind n.address row) s p)))
     (lowest_in (applies_to_way rom cert n row) (not_taken_from k (program_of rom cert) row (behind n.address row) s p)))
@@ -355,8 +357,8 @@ lowest_of_ways rom cert n row k s p stack state before =
     (lowest_in (applies_to_way rom cert n row) (not_taken_from k (program_of rom cert) row (behind n.address row) t p)))
     (lowest_in (applies_to_way rom cert n row) (stays row n.address t)))
     (sym state)
-    (subst (IsLowest rom cert n row k) (sym (before ∙ ap (product_before k.setting.rules k.setting.entered) state))
-    (subst (λ m. IsLowest rom cert n row m (product_before m.setting.rules m.setting.entered n.state)) (sym stack) (lowest-before rom cert n row)))
+    (subst (IsLowest rom cert n row k) (sym (before ∙ ap (product_before (program_of rom cert) k.setting.rules k.setting.entered) state))
+    (subst (λ m. IsLowest rom cert n row m (product_before (program_of rom cert) m.setting.rules m.setting.entered n.state)) (sym stack) (lowest-before rom cert n row)))
 
 -- the side that is taken, as far as something is meant
 abbrev side_way : Stack → Core → Option Cell → Successor → Option Successor
@@ -390,23 +392,29 @@ entered-stack : (cert : Certificate) (n : Node) (k : Stack) → k ≡ stack_of c
 unfolding stack_of setting_of
 entered-stack cert n k stack = ap (λ m. m.setting.entered) stack
 
-pub possible_before : (cert : Certificate) (n : Node) (k : Stack) (s : AbsState) (before : Option Product)
-    → k ≡ stack_of cert n.procedure → s ≡ n.state → before ≡ product_before k.setting.rules k.setting.entered s → is_possible cert n ≡ is_some before
-possible_before cert n k s before stack state is =
-    sym (ap is_some (is ∙ ap (product_before k.setting.rules k.setting.entered) state ∙ ap (λ rules. product_before rules k.setting.entered n.state) (rules-stack cert n k stack)
-    ∙ ap (λ entered. product_before (rules_of cert.version) entered n.state) (entered-stack cert n k stack)))
+pub possible_before : (rom : List ℕ) (cert : Certificate) (n : Node) (k : Stack) (s : AbsState) (before : Option Product)
+    → k ≡ stack_of cert n.procedure → s ≡ n.state → before ≡ product_before (program_of rom cert) k.setting.rules k.setting.entered s → is_possible rom cert n ≡ is_some before
+possible_before rom cert n k s before stack state is =
+    sym (ap is_some (is ∙ ap (product_before (program_of rom cert) k.setting.rules k.setting.entered) state ∙ ap (λ rules. product_before (program_of rom cert) rules k.setting.entered n.state) (rules-stack cert n k stack)
+    ∙ ap (λ entered. product_before (program_of rom cert) (rules_of cert.version) entered n.state) (entered-stack cert n k stack)))
 
-pub before_simply : (rules : Rules) (entered : PairBounds) (core : Core) (r : Relations) (s : AbsState)
-    → rules ≡ Simple → core ≡ core_settle s.core → r ≡ s.relations → Some (product_of core r) ≡ product_before rules entered s
+-- bytes that links read, from the parts of a state
+pub read_of_parts : (program : Program) (s lists : AbsState) (core : Core) (r pairs : Relations) (m : SummaryParts) (read : PairBounds) → core ≡ s.core → r ≡ s.relations → m ≡ s.summary → lists ≡ s → pairs ≡ s.relations
+    → read ≡ read_by program (values_of core.registers r.pairs) lists.cells m pairs.pairs → read ≡ read_in program s
+read_of_parts program s lists core r pairs m read c e f l p h = h ∙ rw c (rw e (rw f (rw l (rw p refl))))
+
+pub before_simply : (program : Program) (rules : Rules) (entered : PairBounds) (core : Core) (r : Relations) (s : AbsState)
+    → rules ≡ Simple → core ≡ core_settle s.core → r ≡ s.relations → Some (product_of core r) ≡ product_before program rules entered s
 unfolding product_before reduced
-before_simply Simple entered core r s is e f = rw e (rw f refl)
-before_simply Extended entered core r s is e f = cc
+before_simply program Simple entered core r s is e f = rw e (rw f refl)
+before_simply program Extended entered core r s is e f = cc
 
-pub before_reduced : (rules : Rules) (entered : PairBounds) (core : Core) (s : AbsState) (o : Option Product)
-    → rules ≡ Extended → core ≡ core_settle s.core → o ≡ reduced Extended entered core s.relations → o ≡ product_before rules entered s
+pub before_reduced : (program : Program) (rules : Rules) (entered read : PairBounds) (core : Core) (s : AbsState) (o : Option Product)
+    → rules ≡ Extended → core ≡ core_settle s.core → read ≡ read_in program s → o ≡ reduced Extended entered read core s.relations → o ≡ product_before program rules entered s
 unfolding product_before
-before_reduced Simple entered core s o is e f = cc
-before_reduced Extended entered core s o is e f = f ∙ ap (λ c. reduced Extended entered c s.relations) e
+before_reduced program Simple entered read core s o is e g f = cc
+before_reduced program Extended entered read core s o is e g f =
+    f ∙ (ap (λ c. reduced Extended entered read c s.relations) e ∙ ap (λ b. reduced Extended entered b (core_settle s.core) s.relations) g)
 
 ime_of : Bool → Bool → Bool → ImeSet
 ime_of off pending on = record { off = off; pending = pending; on = on }
@@ -436,20 +444,20 @@ none_or : (a b : Bool) → a ≡ false → b ≡ false → (a || b) ≡ false
 none_or true b h e = cc
 none_or false b h e = e
 
-alone_deep : (rom : List ℕ) (cert : Certificate) (n : Node) (row : Row) → rules_of cert.version ≡ Extended → is_possible cert n ≡ false → applies_alone rom cert n row reason.Depth ≡ false
+alone_deep : (rom : List ℕ) (cert : Certificate) (n : Node) (row : Row) → rules_of cert.version ≡ Extended → is_possible rom cert n ≡ false → applies_alone rom cert n row reason.Depth ≡ false
 unfolding applies_alone
 alone_deep rom cert n row extended none =
-    none_or _ _ (deep_none (rules_of cert.version) (need_of cert n.procedure) n row.op extended) (and_none (handles_too_deep (program_of rom cert) cert n) (is_possible cert n) none)
+    none_or _ _ (deep_none (rules_of cert.version) (need_of cert n.procedure) n row.op extended) (and_none (handles_too_deep (program_of rom cert) cert n) (is_possible rom cert n) none)
 
-alone_limited : (rom : List ℕ) (cert : Certificate) (n : Node) (row : Row) → is_possible cert n ≡ false → applies_alone rom cert n row reason.OamTransfer ≡ false
+alone_limited : (rom : List ℕ) (cert : Certificate) (n : Node) (row : Row) → is_possible rom cert n ≡ false → applies_alone rom cert n row reason.OamTransfer ≡ false
 unfolding applies_alone
-alone_limited rom cert n row none = and_none (is_dispatch_limited cert.region n) (is_possible cert n) none
+alone_limited rom cert n row none = and_none (is_dispatch_limited cert.region n) (is_possible rom cert n) none
 
 find-none : (f : Reason → Bool) (rs : List Reason) → AllByRecursion (λ r. f r ≡ false) rs → None ≡ find f rs
 find-none f [] all = refl
 find-none f (r ∷ rs) all = find-none f rs all.1 ∙ sym (ap (λ b. cond b (Some r) (find f rs)) all.0)
 
-alone-none : (rom : List ℕ) (cert : Certificate) (n : Node) (row : Row) → rules_of cert.version ≡ Extended → is_possible cert n ≡ false → None ≡ lowest (applies_alone rom cert n row)
+alone-none : (rom : List ℕ) (cert : Certificate) (n : Node) (row : Row) → rules_of cert.version ≡ Extended → is_possible rom cert n ≡ false → None ≡ lowest (applies_alone rom cert n row)
 unfolding lowest applies_alone
 alone-none rom cert n row extended none =
     find-none (applies_alone rom cert n row) way_reasons
@@ -457,12 +465,12 @@ alone-none rom cert n row extended none =
 
 -- where nothing is meant, nothing is asked
 pub lowest_of_none : (rom : List ℕ) (cert : Certificate) (n : Node) (row : Row) (k : Stack) (s : AbsState)
-    → k ≡ stack_of cert n.procedure → s ≡ n.state → k.setting.rules ≡ Extended → None ≡ product_before k.setting.rules k.setting.entered s
+    → k ≡ stack_of cert n.procedure → s ≡ n.state → k.setting.rules ≡ Extended → None ≡ product_before (program_of rom cert) k.setting.rules k.setting.entered s
     → None ≡ lowest (applies_to_row rom cert n row)
 lowest_of_none rom cert n row k s stack state extended before =
     let is : IsLowest rom cert n row k None =
-    subst (IsLowest rom cert n row k) (sym (before ∙ ap (product_before k.setting.rules k.setting.entered) state))
-    (subst (λ m. IsLowest rom cert n row m (product_before m.setting.rules m.setting.entered n.state)) (sym stack) (lowest-before rom cert n row)) in
+    subst (IsLowest rom cert n row k) (sym (before ∙ ap (product_before (program_of rom cert) k.setting.rules k.setting.entered) state))
+    (subst (λ m. IsLowest rom cert n row m (product_before (program_of rom cert) m.setting.rules m.setting.entered n.state)) (sym stack) (lowest-before rom cert n row)) in
     ap (λ o. lower (lower (lower o None) None) None)
-    (alone-none rom cert n row (sym (rules-stack cert n k stack) ∙ extended) (possible_before cert n k s None stack state before))
+    (alone-none rom cert n row (sym (rules-stack cert n k stack) ∙ extended) (possible_before rom cert n k s None stack state before))
     ∙ sym is

@@ -26,7 +26,7 @@ use Rattle.gb_successors.proofs.Below.gb_abs_laws.LocationLaws.{is_located-of}
 use Rattle.gb_rules.proofs.CertificateLaws.{HasStateParts, node_parts}
 use Rattle.gb_successors.specs.Below.gb_domain.Types.{AbsState, Node}
 use Rattle.gb_successors.specs.Below.gb_domain.Certificate.{Certificate}
-use Rattle.gb_successors.specs.Below.gb_domain.Areas.{IsRegion}
+use Rattle.gb_successors.specs.Below.gb_domain.Areas.{IsRegion, is_free_byte}
 use Rattle.gb_successors.specs.Below.gb_domain.Pairs.{ArePairs}
 use Rattle.gb_successors.specs.Below.gb_domain.Settings.{IsBase}
 use Rattle.gb_successors.specs.Below.gb_domain.Rules.{IsVal, IsChain, IsCore}
@@ -89,7 +89,7 @@ pub record IsNodeState (cert : Certificate) (n : Node) : Type 0 where
   pub vals : AreVals n.state.cells
   pub items : AllByRecursion IsVal n.state.items
   pub place : rules_of cert.version ≡ Simple → IsByteFree cert.region n.state.relations.byte.address
-  pub pairs : ArePairs n.state.relations.pairs
+  pub pairs : ArePairs (is_free_byte cert.region) n.state.relations.pairs
   pub quiet : rules_of cert.version ≡ Simple → n.state.summary ≡ no_summary
   pub apart : IsFree cert.region n.state.summary
   pub stack : 0 < n.procedure → n.state.core.stack_set ≡ true
@@ -166,7 +166,7 @@ pub record Passes (rom : List ℕ) (cert : Certificate) (n : Node) : Type 0 wher
   pub bank : known_bank rom n.state.core.ctl n.address ≡ Some n.bank
   pub stop : is_stop row.op ≡ false
   pub halt : may_read_twice (program_of rom cert) rom n row.op ≡ false
-  pub stack : breaks_stack (stack_of cert n.procedure) n row.op ≡ false
+  pub stack : breaks_stack (program_of rom cert) (stack_of cert n.procedure) n row.op ≡ false
   pub depth : grows_too_deep rom cert n row ≡ false
   pub stores : stores_outside rom cert n row ≡ false
   pub ram : meets_ram rom cert n row ≡ false
@@ -317,7 +317,7 @@ rules_at cert procedure = refl
 pub record IsShallow (rom : List ℕ) (cert : Certificate) (n : Node) (row : Row) : Type 0 where
   pub moves : moves_too_deep (rules_of cert.version) (need_of cert n.procedure) n row.op (ways_of rom cert n row).taken ≡ false
   pub calls : any_of (calls_too_deep (program_of rom cert) cert (setting_of cert n.procedure) (need_of cert n.procedure)) rom cert n row ≡ false
-  pub handles : is_possible cert n ≡ true → handles_too_deep (program_of rom cert) cert n ≡ false
+  pub handles : is_possible rom cert n ≡ true → handles_too_deep (program_of rom cert) cert n ≡ false
 
 where_possible : (a b : Bool) → (a && b) ≡ false → b ≡ true → a ≡ false
 where_possible true b h e = cc
@@ -328,18 +328,18 @@ unfolding grows_too_deep
 shallow rom cert n p =
     let parts = or_parts _ _ p.depth in
     let first = or_parts _ _ parts.0 in
-    record { moves = first.0; calls = first.1; handles = where_possible (handles_too_deep (program_of rom cert) cert n) (is_possible cert n) parts.1 }
+    record { moves = first.0; calls = first.1; handles = where_possible (handles_too_deep (program_of rom cert) cert n) (is_possible rom cert n) parts.1 }
 
 -- what is asked of it while an OAM transfer may run
 pub record IsOpen (rom : List ℕ) (cert : Certificate) (n : Node) (row : Row) : Type 0 where
   pub accesses : any_of (λ t. is_code_limited n.state.core n.address row.length || meets_oam_transfer cert.region n.state.core t) rom cert n row ≡ false
-  pub dispatches : is_possible cert n ≡ true → is_dispatch_limited cert.region n ≡ false
+  pub dispatches : is_possible rom cert n ≡ true → is_dispatch_limited cert.region n ≡ false
 
 pub unlimited : (rom : List ℕ) (cert : Certificate) (n : Node) (p : Passes rom cert n) → IsOpen rom cert n p.row
 unfolding meets_transfer
 unlimited rom cert n p =
     let parts = or_parts _ _ p.oam_transfer in
-    record { accesses = parts.0; dispatches = where_possible (is_dispatch_limited cert.region n) (is_possible cert n) parts.1 }
+    record { accesses = parts.0; dispatches = where_possible (is_dispatch_limited cert.region n) (is_possible rom cert n) parts.1 }
 
 -- where its procedure's bytes lie
 pub record IsHoused (cert : Certificate) (procedure base : ℕ) : Type 0 where
@@ -351,18 +351,18 @@ pub record IsHoused (cert : Certificate) (procedure base : ℕ) : Type 0 where
 none_simply : (cert : Certificate) (n : Node) → IsNodeState cert n → rules_of cert.version ≡ Simple → n.state.summary.aside ≡ None
 none_simply cert n state simple = ap (λ (m : SummaryParts). m.aside) (state.quiet simple)
 
-stack_ruled : (rom : List ℕ) (cert : Certificate) (n : Node) (base : ℕ) (row : Row) → IsCertificate cert → IsNodeState cert n → IsHoused cert n.procedure base → breaks_stack (stack_of cert n.procedure) n row.op ≡ false
+stack_ruled : (rom : List ℕ) (cert : Certificate) (n : Node) (base : ℕ) (row : Row) → IsCertificate cert → IsNodeState cert n → IsHoused cert n.procedure base → breaks_stack (program_of rom cert) (stack_of cert n.procedure) n row.op ≡ false
     → moves_too_deep (rules_of cert.version) (need_of cert n.procedure) n row.op (ways_of rom cert n row).taken ≡ false → (r : Rules) → rules_of cert.version ≡ r
     → IsStackRuled r (stack_of cert n.procedure) (program_of rom cert) rom row n.address n.state base
 unfolding stack_of setting_of ways_of
 stack_ruled rom cert n base row certificate state h stack depth Simple is =
     stack_known (setting_of cert n.procedure) cert.region (need_of cert n.procedure) base n row.op h.main h.room
-    (subst (λ (q : Rules). breaks_stack_by q (stack_of cert n.procedure) n row.op ≡ false) is stack)
+    (subst (λ (q : Rules). breaks_stack_by q (program_of rom cert) (stack_of cert n.procedure) n row.op ≡ false) is stack)
     (subst (λ (q : Rules). moves_too_deep q (need_of cert n.procedure) n row.op (ways_of rom cert n row).taken ≡ false) is depth) is (none_simply cert n state is)
 stack_ruled rom cert n base row certificate state h stack depth Extended is =
     IsStackRuled-ready (stack_of cert n.procedure) (program_of rom cert) rom row n base
     (record { extended = is; based = h.based; room = h.room; main = main_room cert certificate })
-    (subst (λ (q : Rules). breaks_stack_by q (stack_of cert n.procedure) n row.op ≡ false) is stack)
+    (subst (λ (q : Rules). breaks_stack_by q (program_of rom cert) (stack_of cert n.procedure) n row.op ≡ false) is stack)
     (subst (λ (q : Rules). moves_too_deep q (need_of cert n.procedure) n row.op (ways_of rom cert n row).taken ≡ false) is depth)
 
 pub ruled : (rom : List ℕ) (cert : Certificate) (n : Node) (base : ℕ) (p : Passes rom cert n) → IsRom rom → IsCertificate cert → IsNodeState cert n → IsHoused cert n.procedure base
@@ -598,17 +598,17 @@ provided program cert n i (Some q) e clear handled over =
     held : (m need : ℕ) → nat_lt need m ≡ false → m ≤ need
     held m need h = grind (arith, nat_tests)
 
-some_before : (cert : Certificate) (n : Node) → rules_of cert.version ≡ Simple → is_possible cert n ≡ true
+some_before : (rom : List ℕ) (cert : Certificate) (n : Node) → rules_of cert.version ≡ Simple → is_possible rom cert n ≡ true
 unfolding product_before reduced
-some_before cert n simple = subst (λ (q : Rules). is_some (product_before q (entered_of cert n.procedure) n.state) ≡ true) (sym simple) refl
+some_before rom cert n simple = subst (λ (q : Rules). is_some (product_before (program_of rom cert) q (entered_of cert n.procedure) n.state) ≡ true) (sym simple) refl
 
 pub IsProvided-passed : (rom : List ℕ) (cert : Certificate) (n : Node) (p : Passes rom cert n) (i : ℕ) → rules_of cert.version ≡ Simple → lacks_handler (program_of rom cert) cert n ≡ false → i < 5 → may_come i n.state.core ≡ true
     → IsProvided (program_of rom cert) cert n i
 unfolding handles_too_deep is_dispatch_limited lacks_handler
 IsProvided-passed rom cert n p i simple handled lt may =
     provided (program_of rom cert) cert n i (handler_of (program_of rom cert) cert (simple_at cert n) i n.address n.state) refl
-    (one_interrupt (λ i. is_stack_limited cert.region n.state.core) n i ((unlimited rom cert n p).dispatches (some_before cert n simple)) lt may)
+    (one_interrupt (λ i. is_stack_limited cert.region n.state.core) n i ((unlimited rom cert n p).dispatches (some_before rom cert n simple)) lt may)
     (subst (λ (z : Setting). is_unhandled (program_of rom cert) z cert n i (handler_of (program_of rom cert) cert z i n.address n.state) ≡ false) (simply cert n simple)
     (one_interrupt (λ i. is_unhandled (program_of rom cert) (setting_of cert n.procedure) cert n i (handler_of (program_of rom cert) cert (setting_of cert n.procedure) i n.address n.state)) n i handled lt may))
     (subst (λ (z : Setting). is_dispatch_deep z cert (need_of cert n.procedure) n.state (handler_of (program_of rom cert) cert z i n.address n.state) ≡ false) (simply cert n simple)
-    (one_interrupt (λ i. is_dispatch_deep (setting_of cert n.procedure) cert (need_of cert n.procedure) n.state (handler_of (program_of rom cert) cert (setting_of cert n.procedure) i n.address n.state)) n i ((shallow rom cert n p).handles (some_before cert n simple)) lt may))
+    (one_interrupt (λ i. is_dispatch_deep (setting_of cert n.procedure) cert (need_of cert n.procedure) n.state (handler_of (program_of rom cert) cert (setting_of cert n.procedure) i n.address n.state)) n i ((shallow rom cert n p).handles (some_before rom cert n simple)) lt may))

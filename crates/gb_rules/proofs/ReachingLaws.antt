@@ -14,6 +14,7 @@ use Rattle.gb_ops.specs.Play.{MState}
 use Rattle.gb_successors.specs.Below.gb_domain.declared.rules.Rules.{Rules}
 use Rattle.gb_successors.specs.Below.gb_domain.declared.rules.Rules.TheVariants.{Extended}
 use Rattle.gb_successors.specs.Below.gb_domain.declared.types.Origin.TheVariants.{ReturnHigh, ReturnLow}
+use Rattle.gb_successors.specs.Below.gb_domain.Areas.{is_free_byte}
 use Rattle.gb_successors.specs.Below.gb_domain.Pairs.{ArePairs}
 use Rattle.gb_successors.specs.Below.gb_domain.Settings.{IsBase}
 use Rattle.gb_successors.specs.Below.gb_domain.Summaries.{Program}
@@ -50,7 +51,7 @@ pub record IsReached (cert : Certificate) (procedure a : ℕ) (state : AbsState)
   pub means : Means state entry base y
   pub address : y.processor.pc ≡ a
   pub bytes : AreBytes y.processor.registers
-  pub pairs : ArePairs state.relations.pairs
+  pub pairs : ArePairs (is_free_byte cert.region) state.relations.pairs
   pub held : AreInRegion cert.region base (length state.items)
   pub main : procedure ≡ 0 → base ≡ cert.region.last + 1
   pub based : IsBase (setting_of cert procedure) base
@@ -90,7 +91,7 @@ IsMeant-reached rom cert procedure a state entry base y extended program names k
 -- main begins anew, however it was entered
 pub IsMeant-anew : (rom : List ℕ) (cert : Certificate) (a : ℕ) (state : AbsState) (was : Registers ℕ) (y : MState) → rules_of cert.version ≡ Extended → IsCertificate cert
     → AreWithin (entered_of cert 0) was → Means state (begun_anew rom cert was y) (cert.region.last + 1) y
-    → y.processor.pc ≡ a → AreBytes y.processor.registers → ArePairs state.relations.pairs → AreInRegion cert.region (cert.region.last + 1) (length state.items) → IsByteFree cert.region state.relations.byte.address → IsMarkHarmless rom y
+    → y.processor.pc ≡ a → AreBytes y.processor.registers → ArePairs (is_free_byte cert.region) state.relations.pairs → AreInRegion cert.region (cert.region.last + 1) (length state.items) → IsByteFree cert.region state.relations.byte.address → IsMarkHarmless rom y
     → covered_at (program_of rom cert) Extended cert 0 a state ≡ true → IsMeant rom cert 0 (begun_anew rom cert was y) (cert.region.last + 1) y
 IsMeant-anew rom cert a state was y extended certificate within means address bytes pairs held free mark covered =
     IsMeant-reached rom cert 0 a state (begun_anew rom cert was y) (cert.region.last + 1) y extended refl (record { kept = refl; mark = refl })

@@ -163,30 +163,30 @@ ready_pop k o s base Extended e (Some b) same h = tt
 
 -- ---- each instruction
 
-loaded : (k : Stack) (n : Node) (core : Core) (which : Pair) (w base : ℕ) (what : AbsWrite) (b : Option Bounds) → IsRoomy k base → breaks_extended_stack k n (op.LoadPair which w) ≡ false
+loaded : (program : Program) (k : Stack) (n : Node) (core : Core) (which : Pair) (w base : ℕ) (what : AbsWrite) (b : Option Bounds) → IsRoomy k base → breaks_extended_stack program k n (op.LoadPair which w) ≡ false
     → IsReady k (op.LoadPair which w) (stack_move k (around_of k n.state core) (op.LoadPair which w) what b) n.state base
 unfolding breaks_extended_stack stack_move around_of
-loaded k n core pair.Sp w base what b r h =
+loaded program k n core pair.Sp w base what b r h =
     ready_aside k (op.LoadPair pair.Sp w) (set_to k.setting.rules k w) (around_of k n.state core).may_leave _ n.state base h (λ some. ready_set_to k (op.LoadPair pair.Sp w) w n.state base r some)
-loaded k n core pair.Bc w base what b r h = λ e. quiet_op e
-loaded k n core pair.De w base what b r h = λ e. quiet_op e
-loaded k n core pair.Hl w base what b r h = λ e. quiet_op e
+loaded program k n core pair.Bc w base what b r h = λ e. quiet_op e
+loaded program k n core pair.De w base what b r h = λ e. quiet_op e
+loaded program k n core pair.Hl w base what b r h = λ e. quiet_op e
 
-increased : (k : Stack) (n : Node) (core : Core) (which : Pair) (base : ℕ) (what : AbsWrite) (b : Option Bounds) → IsRoomy k base → breaks_extended_stack k n (op.IncrementPair which) ≡ false
+increased : (program : Program) (k : Stack) (n : Node) (core : Core) (which : Pair) (base : ℕ) (what : AbsWrite) (b : Option Bounds) → IsRoomy k base → breaks_extended_stack program k n (op.IncrementPair which) ≡ false
     → IsReady k (op.IncrementPair which) (stack_move k (around_of k n.state core) (op.IncrementPair which) what b) n.state base
 unfolding breaks_extended_stack stack_move
-increased k n core pair.Sp base what b r h = ready_widely k (op.IncrementPair pair.Sp) (move.Take 1) n.state base r (taken_ready k (op.IncrementPair pair.Sp) 1 n.state base (holds 1 n.state h))
-increased k n core pair.Bc base what b r h = λ e. quiet_op e
-increased k n core pair.De base what b r h = λ e. quiet_op e
-increased k n core pair.Hl base what b r h = λ e. quiet_op e
+increased program k n core pair.Sp base what b r h = ready_widely k (op.IncrementPair pair.Sp) (move.Take 1) n.state base r (taken_ready k (op.IncrementPair pair.Sp) 1 n.state base (holds 1 n.state h))
+increased program k n core pair.Bc base what b r h = λ e. quiet_op e
+increased program k n core pair.De base what b r h = λ e. quiet_op e
+increased program k n core pair.Hl base what b r h = λ e. quiet_op e
 
-decreased : (k : Stack) (n : Node) (core : Core) (which : Pair) (base : ℕ) (what : AbsWrite) (b : Option Bounds) → IsRoomy k base → breaks_extended_stack k n (op.DecrementPair which) ≡ false
+decreased : (program : Program) (k : Stack) (n : Node) (core : Core) (which : Pair) (base : ℕ) (what : AbsWrite) (b : Option Bounds) → IsRoomy k base → breaks_extended_stack program k n (op.DecrementPair which) ≡ false
     → is_deep_if k.need (bytes_after (op.DecrementPair which) (length n.state.items)) ≡ false → IsReady k (op.DecrementPair which) (stack_move k (around_of k n.state core) (op.DecrementPair which) what b) n.state base
 unfolding breaks_extended_stack stack_move bytes_after
-decreased k n core pair.Sp base what b r h deep = ready_widely k (op.DecrementPair pair.Sp) (move.Append 1) n.state base r (has_room k 1 n.state base r (holds 0 n.state h).located deep)
-decreased k n core pair.Bc base what b r h deep = λ e. quiet_op e
-decreased k n core pair.De base what b r h deep = λ e. quiet_op e
-decreased k n core pair.Hl base what b r h deep = λ e. quiet_op e
+decreased program k n core pair.Sp base what b r h deep = ready_widely k (op.DecrementPair pair.Sp) (move.Append 1) n.state base r (has_room k 1 n.state base r (holds 0 n.state h).located deep)
+decreased program k n core pair.Bc base what b r h deep = λ e. quiet_op e
+decreased program k n core pair.De base what b r h deep = λ e. quiet_op e
+decreased program k n core pair.Hl base what b r h deep = λ e. quiet_op e
 
 -- SP comes back, or moves otherwise
 ready_back :
@@ -206,42 +206,42 @@ held_room k core s base n r b =
     record { first = omega arith; last = room.last }
 
 -- LD SP,HL takes what is known of HL
-no_address : (k : Stack) (rules : Rules) (entered : PairBounds) (s : AbsState) (p : Product) → product_before rules entered s ≡ Some p → sets_lost_from k s (product_before rules entered s) ≡ false → sets_lost k (around_of k s p.core) op.LoadSpHl (pointer_in k op.LoadSpHl p) ≡ false
-no_address k rules entered s p is h = subst (λ o. sets_lost_from k s o ≡ false) is h
+no_address : (program : Program) (k : Stack) (rules : Rules) (entered : PairBounds) (s : AbsState) (p : Product) → product_before program rules entered s ≡ Some p → sets_lost_from k s (product_before program rules entered s) ≡ false → sets_lost k (around_of k s p.core) op.LoadSpHl (pointer_in k op.LoadSpHl p) ≡ false
+no_address program k rules entered s p is h = subst (λ o. sets_lost_from k s o ≡ false) is h
 
-ready : (k : Stack) (n : Node) (o : Op) (base : ℕ) (what : AbsWrite) (p : Product) → IsRoomy k base → product_before k.setting.rules k.setting.entered n.state ≡ Some p → breaks_extended_stack k n o ≡ false
+ready : (program : Program) (k : Stack) (n : Node) (o : Op) (base : ℕ) (what : AbsWrite) (p : Product) → IsRoomy k base → product_before program k.setting.rules k.setting.entered n.state ≡ Some p → breaks_extended_stack program k n o ≡ false
     → is_deep_if k.need (bytes_after o (length n.state.items)) ≡ false → IsReady k o (stack_move k (around_of k n.state p.core) o what (pointer_in k o p)) n.state base
 unfolding breaks_extended_stack stack_move bytes_after around_of
-ready k n (op.LoadPair which w) base what p r is h deep = loaded k n p.core which w base what (pointer_in k (op.LoadPair which w) p) r h
-ready k n op.LoadSpHl base what p r is h deep =
+ready program k n (op.LoadPair which w) base what p r is h deep = loaded program k n p.core which w base what (pointer_in k (op.LoadPair which w) p) r h
+ready program k n op.LoadSpHl base what p r is h deep =
     let g = around_of k n.state p.core in
     let hl = pointer_in k op.LoadSpHl p in
     ready_back k op.LoadSpHl n.state base (aside_within (set_within k hl) g.may_leave hl) g.back k.setting.rules
-    (no_address k k.setting.rules k.setting.entered n.state p is h)
+    (no_address program k k.setting.rules k.setting.entered n.state p is h)
     (λ kept. ready_aside_within k op.LoadSpHl (set_within k hl) g.may_leave hl n.state base kept (λ some. ready_within k op.LoadSpHl hl n.state base (λ e. quiet_op e) r some))
     (λ count e. held_room k p.core n.state base count r (back_of k n.state p.core count e))
-ready k n (op.Push from) base what p r is h deep = puts_word k (op.Push from) what n.state base r h deep
-ready k n (op.Pop to) base what p r is h deep = ready_pop k (op.Pop to) n.state base k.setting.rules r.extended n.state.summary.aside refl h
-ready k n (op.IncrementPair which) base what p r is h deep = increased k n p.core which base what (pointer_in k (op.IncrementPair which) p) r h
-ready k n (op.DecrementPair which) base what p r is h deep = decreased k n p.core which base what (pointer_in k (op.DecrementPair which) p) r h deep
-ready k n (op.AddSp e8) base what p r is h deep = ready_widely k (op.AddSp e8) (displaced_by e8) n.state base r (ready_displaced k (op.AddSp e8) e8 n.state base r h deep)
-ready k n (op.CallIf condition w) base what p r is h deep = ready_widely k (op.CallIf condition w) (push_of what) n.state base r (puts_word k (op.CallIf condition w) what n.state base r h deep)
-ready k n (op.Call w) base what p r is h deep = ready_widely k (op.Call w) (push_of what) n.state base r (puts_word k (op.Call w) what n.state base r h deep)
-ready k n (op.Restart w) base what p r is h deep = ready_widely k (op.Restart w) (push_of what) n.state base r (puts_word k (op.Restart w) what n.state base r h deep)
-ready k n (op.ReturnIf condition) base what p r is h deep = ready_widely k (op.ReturnIf condition) (move.Take 2) n.state base r (λ e. lost e, λ e. none_some n.state.summary.aside h)
-ready k n op.Return base what p r is h deep = ready_widely k op.Return (move.Take 2) n.state base r (λ e. lost e, λ e. none_some n.state.summary.aside h)
-ready k n op.ReturnFromInterrupt base what p r is h deep = ready_widely k op.ReturnFromInterrupt (move.Take 2) n.state base r (λ e. lost e, λ e. none_some n.state.summary.aside h)
-ready k n op.EnableInterrupts base what p r is h deep = λ e. none_some n.state.summary.aside h
-ready k n o base what p r is h deep = λ e. quiet_op e
+ready program k n (op.Push from) base what p r is h deep = puts_word k (op.Push from) what n.state base r h deep
+ready program k n (op.Pop to) base what p r is h deep = ready_pop k (op.Pop to) n.state base k.setting.rules r.extended n.state.summary.aside refl h
+ready program k n (op.IncrementPair which) base what p r is h deep = increased program k n p.core which base what (pointer_in k (op.IncrementPair which) p) r h
+ready program k n (op.DecrementPair which) base what p r is h deep = decreased program k n p.core which base what (pointer_in k (op.DecrementPair which) p) r h deep
+ready program k n (op.AddSp e8) base what p r is h deep = ready_widely k (op.AddSp e8) (displaced_by e8) n.state base r (ready_displaced k (op.AddSp e8) e8 n.state base r h deep)
+ready program k n (op.CallIf condition w) base what p r is h deep = ready_widely k (op.CallIf condition w) (push_of what) n.state base r (puts_word k (op.CallIf condition w) what n.state base r h deep)
+ready program k n (op.Call w) base what p r is h deep = ready_widely k (op.Call w) (push_of what) n.state base r (puts_word k (op.Call w) what n.state base r h deep)
+ready program k n (op.Restart w) base what p r is h deep = ready_widely k (op.Restart w) (push_of what) n.state base r (puts_word k (op.Restart w) what n.state base r h deep)
+ready program k n (op.ReturnIf condition) base what p r is h deep = ready_widely k (op.ReturnIf condition) (move.Take 2) n.state base r (λ e. lost e, λ e. none_some n.state.summary.aside h)
+ready program k n op.Return base what p r is h deep = ready_widely k op.Return (move.Take 2) n.state base r (λ e. lost e, λ e. none_some n.state.summary.aside h)
+ready program k n op.ReturnFromInterrupt base what p r is h deep = ready_widely k op.ReturnFromInterrupt (move.Take 2) n.state base r (λ e. lost e, λ e. none_some n.state.summary.aside h)
+ready program k n op.EnableInterrupts base what p r is h deep = λ e. none_some n.state.summary.aside h
+ready program k n o base what p r is h deep = λ e. quiet_op e
 
 not_deep : (some : Bool) (need : ℕ) (o : Option ℕ) → some ≡ true → (some && is_deep_if need o) ≡ false → is_deep_if need o ≡ false
 not_deep true need o e h = h
 not_deep false need o e h = cc
 
 -- the stack is ready for what a node's instruction does to it, where that may be taken
-pub IsStackRuled-ready : (k : Stack) (program : Program) (rom : List ℕ) (row : Row) (n : Node) (base : ℕ) → IsRoomy k base → breaks_extended_stack k n row.op ≡ false
+pub IsStackRuled-ready : (k : Stack) (program : Program) (rom : List ℕ) (row : Row) (n : Node) (base : ℕ) → IsRoomy k base → breaks_extended_stack program k n row.op ≡ false
     → grows_over k.need n row.op (successors_of k program rom row n.address n.state).taken ≡ false → IsStackRuled Extended k program rom row n.address n.state base
 unfolding taken_move
 IsStackRuled-ready k program rom row n base r breaks deep some p is =
-    ready k n row.op base _ p r (subst (λ (q : Rules). product_before q k.setting.entered n.state ≡ Some p) (sym r.extended) is) breaks
+    ready program k n row.op base _ p r (subst (λ (q : Rules). product_before program q k.setting.entered n.state ≡ Some p) (sym r.extended) is) breaks
     (not_deep (is_some (successors_of k program rom row n.address n.state).taken) k.need (bytes_after row.op (length n.state.items)) some deep)

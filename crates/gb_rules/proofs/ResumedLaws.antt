@@ -18,7 +18,7 @@ use Rattle.gb_calls.proofs.ReturnedLaws.{ArePairs-returned}
 use Rattle.gb_calls.proofs.TakenOverLaws.{given_back-count}
 use Rattle.gb_successors.specs.Below.gb_domain.Summaries.{Program}
 use Rattle.gb_successors.specs.Below.gb_domain.declared.types.Ctl.{Ctl}
-use Rattle.gb_successors.specs.Below.gb_product.Covering.{values_in}
+use Rattle.gb_successors.specs.Below.gb_product.Covering.{values_in, read_in}
 use Rattle.gb_successors.specs.Below.gb_product.Reduced.{reduced_controller}
 use Rattle.gb_successors.specs.Below.gb_domain.declared.setting.Setting.{Setting}
 use Rattle.gb_successors.specs.Below.gb_domain.declared.places.StackBytes.{StackBytes}
@@ -33,8 +33,8 @@ use Rattle.gb_successors.specs.Below.gb_relations.Sound.{IsByteFree, IsBytePlace
 
 -- the states with which a caller goes on that was in s, where the callee began with k items and left by the exit x; of the stack the
 -- items that wait may be places
-pub record IsGivenBack (waiting : StackBytes) (k : ℕ) (s x after : AbsState) : Type 0 where
-  pub pairs : ArePairs after.relations.pairs
+pub record IsGivenBack (may_be : ℕ → Bool) (waiting : StackBytes) (k : ℕ) (s x after : AbsState) : Type 0 where
+  pub pairs : ArePairs may_be after.relations.pairs
   pub count : length after.items ≡ length (given_back_items k s.items x.items)
   pub place : IsBytePlaced waiting after.relations.byte.address
 
@@ -67,46 +67,46 @@ place_returned stack k s x h i = choose k.flags (has_place x)
 -- ---- all of it
 
 -- to cut the controller's banks leaves pairs and items as they are
-given_back_cut : (program : Program) (waiting : StackBytes) (k : ℕ) (s x t : AbsState) → IsGivenBack waiting k s x t → IfSome (with_banks_cut program t) (IsGivenBack waiting k s x)
+given_back_cut : (may_be : ℕ → Bool) (program : Program) (waiting : StackBytes) (k : ℕ) (s x t : AbsState) → IsGivenBack may_be waiting k s x t → IfSome (with_banks_cut program t) (IsGivenBack may_be waiting k s x)
 unfolding with_banks_cut
-given_back_cut program waiting k s x t h = cut (reduced_controller program (values_in t) t.cells t.summary t.core.ctl)
+given_back_cut may_be program waiting k s x t h = cut (reduced_controller program (values_in t) t.cells t.summary t.core.ctl)
   where
-    cut : (o : Option Ctl) → IfSome (option_map (with_controller t) o) (IsGivenBack waiting k s x)
+    cut : (o : Option Ctl) → IfSome (option_map (with_controller t) o) (IsGivenBack may_be waiting k s x)
     cut None = tt
     cut (Some c) = record { pairs = h.pairs; count = h.count; place = h.place }
 
-given_back_values : (program : Program) (whole : Bool) (waiting : StackBytes) (k : ℕ) (ranges : List Range) (kept : List ℕ) (s x : AbsState) (o : Option Values) → IfSome o (λ w. ArePairs w.pairs)
+given_back_values : (may_be : ℕ → Bool) (program : Program) (whole : Bool) (waiting : StackBytes) (k : ℕ) (ranges : List Range) (kept : List ℕ) (s x : AbsState) (o : Option Values) → IfSome o (λ w. ArePairs may_be w.pairs)
     → IsBytePlaced waiting (held_relations waiting s.relations).byte.address → IsBytePlaced waiting x.relations.byte.address
-    → IfSome (option_and_then (with_banks_cut program) (with_values_if (rejoined program whole waiting k ranges kept s x) o)) (IsGivenBack waiting k s x)
+    → IfSome (option_and_then (with_banks_cut program) (with_values_if (rejoined program whole waiting k ranges kept s x) o)) (IsGivenBack may_be waiting k s x)
 unfolding rejoined returned
-given_back_values program whole waiting k ranges kept s x None h held given = tt
-given_back_values program whole waiting k ranges kept s x (Some v) h held given =
+given_back_values may_be program whole waiting k ranges kept s x None h held given = tt
+given_back_values may_be program whole waiting k ranges kept s x (Some v) h held given =
     let known = held_relations waiting s.relations in
-    given_back_cut program waiting k s x (with_values (rejoined program whole waiting k ranges kept s x) v)
+    given_back_cut may_be program waiting k s x (with_values (rejoined program whole waiting k ranges kept s x) v)
     (record {
       pairs = h;
       count = given_back-count k s.items x.items (val_back program whole kept s);
-      place = place_returned waiting (kept_by ranges (given_addresses kept x.cells) known.byte x.core) known.byte x.relations.byte held given;
+      place = place_returned waiting (kept_by ranges (given_addresses kept x.cells) known x.core) known.byte x.relations.byte held given;
     })
 
-given_back_reduced : (program : Program) (entered : PairBounds) (whole : Bool) (waiting : StackBytes) (k : ℕ) (ranges : List Range) (kept : List ℕ) (s x : AbsState) → ArePairs s.relations.pairs → ArePairs x.relations.pairs
+given_back_reduced : (may_be : ℕ → Bool) (program : Program) (entered : PairBounds) (whole : Bool) (waiting : StackBytes) (k : ℕ) (ranges : List Range) (kept : List ℕ) (s x : AbsState) → ArePairs may_be s.relations.pairs → ArePairs may_be x.relations.pairs
     → IsBytePlaced waiting (held_relations waiting s.relations).byte.address → IsBytePlaced waiting x.relations.byte.address
-    → IfSome (reduced_state program entered (rejoined program whole waiting k ranges kept s x)) (IsGivenBack waiting k s x)
+    → IfSome (reduced_state program entered (rejoined program whole waiting k ranges kept s x)) (IsGivenBack may_be waiting k s x)
 unfolding reduced_state rejoined
-given_back_reduced program entered whole waiting k ranges kept s x h i held given =
+given_back_reduced may_be program entered whole waiting k ranges kept s x h i held given =
     let known = held_relations waiting s.relations in
-    given_back_values program whole waiting k ranges kept s x (reduced entered (values_of (rejoined program whole waiting k ranges kept s x).core.registers (rejoined program whole waiting k ranges kept s x).relations.pairs))
-    (reduced_kept entered (values_of (rejoined program whole waiting k ranges kept s x).core.registers (rejoined program whole waiting k ranges kept s x).relations.pairs) _ refl
-    (ArePairs-returned (kept_by ranges (given_addresses kept x.cells) known.byte x.core) s.core.registers known x.relations h i)) held given
+    given_back_values may_be program whole waiting k ranges kept s x (reduced entered (read_in program (rejoined program whole waiting k ranges kept s x)) (values_of (rejoined program whole waiting k ranges kept s x).core.registers (rejoined program whole waiting k ranges kept s x).relations.pairs))
+    (reduced_kept may_be entered (read_in program (rejoined program whole waiting k ranges kept s x)) (values_of (rejoined program whole waiting k ranges kept s x).core.registers (rejoined program whole waiting k ranges kept s x).relations.pairs) _ refl
+    (ArePairs-returned may_be (kept_by ranges (given_addresses kept x.cells) known x.core) s.core.registers known x.relations h i)) held given
 
-pub IsGivenBack-resumed : (program : Program) (z : Setting) (region : Region) (k : ℕ) (ranges : List Range) (kept : List ℕ) (s x : AbsState) → ArePairs s.relations.pairs → ArePairs x.relations.pairs
+pub IsGivenBack-resumed : (may_be : ℕ → Bool) (program : Program) (z : Setting) (region : Region) (k : ℕ) (ranges : List Range) (kept : List ℕ) (s x : AbsState) → ArePairs may_be s.relations.pairs → ArePairs may_be x.relations.pairs
     → IsBytePlaced (stack_held z region (length s.items)) s.relations.byte.address → IsByteFree region x.relations.byte.address
-    → IfSome (resumed_by Extended program z region k ranges kept s x) (IsGivenBack (waiting_stack z region k s) k s x)
+    → IfSome (resumed_by Extended program z region k ranges kept s x) (IsGivenBack may_be (waiting_stack z region k s) k s x)
 unfolding resumed_by
-IsGivenBack-resumed program z region k ranges kept s x h i place free = choose (is_something program z.is_whole kept ranges s x)
+IsGivenBack-resumed may_be program z region k ranges kept s x h i place free = choose (is_something program z.is_whole kept ranges s x)
   where
-    choose : (b : Bool) → IfSome (cond b (reduced_state program z.entered (rejoined program z.is_whole (waiting_stack z region k s) k ranges kept s x)) None) (IsGivenBack (waiting_stack z region k s) k s x)
+    choose : (b : Bool) → IfSome (cond b (reduced_state program z.entered (rejoined program z.is_whole (waiting_stack z region k s) k ranges kept s x)) None) (IsGivenBack may_be (waiting_stack z region k s) k s x)
     choose true =
-        given_back_reduced program z.entered z.is_whole (waiting_stack z region k s) k ranges kept s x h i (held_placed z region (length s.items) (length s.items - k) s.relations.byte place)
+        given_back_reduced may_be program z.entered z.is_whole (waiting_stack z region k s) k ranges kept s x h i (held_placed z region (length s.items) (length s.items - k) s.relations.byte place)
         (free_held z region (length s.items - k) x.relations.byte.address free)
     choose false = tt

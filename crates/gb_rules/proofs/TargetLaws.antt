@@ -53,7 +53,7 @@ goes k program rom row next s b =
 
 is_taken_to : (k : Stack) (program : Program) (rom : List ℕ) (row : Row) (a : ℕ) (s : AbsState) (t : Successor) → (successors_of k program rom row a s).taken ≡ Some t → IsTakenTo k row.op ((a + row.length) % 65536) t
 unfolding successors_of
-is_taken_to k program rom row a s t h = from (product_before k.setting.rules k.setting.entered s) h
+is_taken_to k program rom row a s t h = from (product_before program k.setting.rules k.setting.entered s) h
   where
     at_side : (o : Option Branch) → option_and_then (taken_by_side k program rom row ((a + row.length) % 65536) s) o ≡ Some t → IsTakenTo k row.op ((a + row.length) % 65536) t
     at_side None e = cc
@@ -94,7 +94,7 @@ halt_target k program rom row a s t halt h =
 -- one that isn't goes on behind the instruction
 untaken_target : (k : Stack) (program : Program) (rom : List ℕ) (row : Row) (a : ℕ) (s : AbsState) (t : Successor) → (successors_of k program rom row a s).not_taken ≡ Some t → t.target ≡ target.At ((a + row.length) % 65536)
 unfolding successors_of untaken_successor
-untaken_target k program rom row a s t h = from (product_before k.setting.rules k.setting.entered s) h
+untaken_target k program rom row a s t h = from (product_before program k.setting.rules k.setting.entered s) h
   where
     at_side : (o : Option Branch) → option_and_then (not_taken_by_side k row ((a + row.length) % 65536) s) o ≡ Some t
         → t.target ≡ target.At ((a + row.length) % 65536)
@@ -107,7 +107,7 @@ untaken_target k program rom row a s t h = from (product_before k.setting.rules 
 
 staying_target : (k : Stack) (program : Program) (rom : List ℕ) (row : Row) (a : ℕ) (s : AbsState) (t : Successor) → (successors_of k program rom row a s).stays ≡ Some t → t.target ≡ target.At a
 unfolding successors_of stays staying_successor
-staying_target k program rom row a s t h = from (product_before k.setting.rules k.setting.entered s) h
+staying_target k program rom row a s t h = from (product_before program k.setting.rules k.setting.entered s) h
   where
     by : (b : Bool) → cond b (Some (staying_successor a s)) None ≡ Some t → t.target ≡ target.At a
     by true e = sym (ap (λ (w : Successor). w.target) (same_Some _ _ e))

@@ -70,7 +70,7 @@ calling : (rom : List ℕ) (cert : Certificate) (n : Node) (entry : Activation) 
 calling rom cert n entry base x k t a y f place to related said mark = record {
   reached = reached rom cert n entry base x k t a y f place to.means related said to.goes to.room;
   located = to.located;
-  placed = record { cells = to.placed; byte = place; summary = f.apart };
+  placed = record { cells = to.placed; byte = place; links = f.pairs; summary = f.apart };
   back_small = to.next;
   return_word = to.top;
   mark = mark;

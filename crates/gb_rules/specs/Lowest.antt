@@ -54,6 +54,6 @@ lowest_in test (Some t) = lowest (test t)
 unfoldable pub applies_alone : List ℕ → Certificate → Node → Row → Reason → Bool
 applies_alone rom cert n row reason.Depth =
     moves_alone_too_deep (rules_of cert.version) (need_of cert n.procedure) n row.op
-    || (handles_too_deep (program_of rom cert) cert n && is_possible cert n)
-applies_alone rom cert n row reason.OamTransfer = is_dispatch_limited cert.region n && is_possible cert n
+    || (handles_too_deep (program_of rom cert) cert n && is_possible rom cert n)
+applies_alone rom cert n row reason.OamTransfer = is_dispatch_limited cert.region n && is_possible rom cert n
 applies_alone rom cert n row _ = false

@@ -113,30 +113,30 @@ lacks_word (Some b) s = false
 -- By the rules of version 3: SP is set to a known address, one of the procedure's or of main's; what moves it otherwise finds
 -- the stack set, and as many bytes as it takes off. By those of version 4 SP may be put aside: then POP reads elsewhere, and nothing else
 -- moves SP but what sets it; nor does anything let interrupts come.
-unfoldable pub breaks_extended_stack : Stack → Node → Op → Bool
-breaks_extended_stack k n (op.LoadPair pair.Sp w) = sets_lost k (around_of k n.state n.state.core) (op.LoadPair pair.Sp w) None
-breaks_extended_stack k n op.LoadSpHl = sets_lost_from k n.state (product_before k.setting.rules k.setting.entered n.state)
-breaks_extended_stack k n (op.Push from) = lacks_bytes 0 n.state
-breaks_extended_stack k n (op.Pop to) = lacks_word n.state.summary.aside n.state
-breaks_extended_stack k n (op.IncrementPair pair.Sp) = lacks_bytes 1 n.state
-breaks_extended_stack k n (op.DecrementPair pair.Sp) = lacks_bytes 0 n.state
-breaks_extended_stack k n (op.AddSp e8) = lacks_bytes (if nat_lt e8 128 then e8 else 0) n.state
-breaks_extended_stack k n (op.CallIf condition w) = lacks_bytes 0 n.state
-breaks_extended_stack k n (op.Call w) = lacks_bytes 0 n.state
-breaks_extended_stack k n (op.Restart w) = lacks_bytes 0 n.state
-breaks_extended_stack k n (op.ReturnIf condition) = is_some n.state.summary.aside
-breaks_extended_stack k n op.Return = is_some n.state.summary.aside
-breaks_extended_stack k n op.ReturnFromInterrupt = is_some n.state.summary.aside
-breaks_extended_stack k n op.EnableInterrupts = is_some n.state.summary.aside
-breaks_extended_stack k n o = false
+unfoldable pub breaks_extended_stack : Program → Stack → Node → Op → Bool
+breaks_extended_stack program k n (op.LoadPair pair.Sp w) = sets_lost k (around_of k n.state n.state.core) (op.LoadPair pair.Sp w) None
+breaks_extended_stack program k n op.LoadSpHl = sets_lost_from k n.state (product_before program k.setting.rules k.setting.entered n.state)
+breaks_extended_stack program k n (op.Push from) = lacks_bytes 0 n.state
+breaks_extended_stack program k n (op.Pop to) = lacks_word n.state.summary.aside n.state
+breaks_extended_stack program k n (op.IncrementPair pair.Sp) = lacks_bytes 1 n.state
+breaks_extended_stack program k n (op.DecrementPair pair.Sp) = lacks_bytes 0 n.state
+breaks_extended_stack program k n (op.AddSp e8) = lacks_bytes (if nat_lt e8 128 then e8 else 0) n.state
+breaks_extended_stack program k n (op.CallIf condition w) = lacks_bytes 0 n.state
+breaks_extended_stack program k n (op.Call w) = lacks_bytes 0 n.state
+breaks_extended_stack program k n (op.Restart w) = lacks_bytes 0 n.state
+breaks_extended_stack program k n (op.ReturnIf condition) = is_some n.state.summary.aside
+breaks_extended_stack program k n op.Return = is_some n.state.summary.aside
+breaks_extended_stack program k n op.ReturnFromInterrupt = is_some n.state.summary.aside
+breaks_extended_stack program k n op.EnableInterrupts = is_some n.state.summary.aside
+breaks_extended_stack program k n o = false
 
-abbrev pub breaks_stack_by : Rules → Stack → Node → Op → Bool
-breaks_stack_by Simple k n o = breaks_simple_stack k.region n o
-breaks_stack_by Extended k n o = breaks_extended_stack k n o
+abbrev pub breaks_stack_by : Rules → Program → Stack → Node → Op → Bool
+breaks_stack_by Simple program k n o = breaks_simple_stack k.region n o
+breaks_stack_by Extended program k n o = breaks_extended_stack program k n o
 
 -- an instruction moves SP as it may not
-abbrev pub breaks_stack : Stack → Node → Op → Bool
-breaks_stack k n o = breaks_stack_by k.setting.rules k n o
+abbrev pub breaks_stack : Program → Stack → Node → Op → Bool
+breaks_stack program k n o = breaks_stack_by k.setting.rules program k n o
 
 -- ---- depth
 
@@ -387,15 +387,15 @@ unfoldable pub any_of : (Successor → Bool) → List ℕ → Certificate → No
 any_of test rom cert n row = any_successor test (ways_of rom cert n row)
 
 -- something is meant before the instruction
-abbrev pub is_possible : Certificate → Node → Bool
-is_possible cert n = is_some (product_before (rules_of cert.version) (entered_of cert n.procedure) n.state)
+abbrev pub is_possible : List ℕ → Certificate → Node → Bool
+is_possible rom cert n = is_some (product_before (program_of rom cert) (rules_of cert.version) (entered_of cert n.procedure) n.state)
 
 -- the stack would grow over the procedure's need
 unfoldable pub grows_too_deep : List ℕ → Certificate → Node → Row → Bool
 grows_too_deep rom cert n row =
     moves_too_deep (rules_of cert.version) (need_of cert n.procedure) n row.op (ways_of rom cert n row).taken
     || any_of (calls_too_deep (program_of rom cert) cert (node_setting cert n) (need_of cert n.procedure)) rom cert n row
-    || (handles_too_deep (program_of rom cert) cert n && is_possible cert n)
+    || (handles_too_deep (program_of rom cert) cert n && is_possible rom cert n)
 
 -- a successor may store where no store is allowed
 unfoldable pub stores_outside : List ℕ → Certificate → Node → Row → Bool
@@ -410,7 +410,7 @@ meets_ram rom cert n row = any_of (meets_closed rom n.state.core) rom cert n row
 unfoldable pub meets_transfer : List ℕ → Certificate → Node → Row → Bool
 meets_transfer rom cert n row =
     any_of (λ t. is_code_limited n.state.core n.address row.length || meets_oam_transfer cert.region n.state.core t) rom cert n row
-    || (is_dispatch_limited cert.region n && is_possible cert n)
+    || (is_dispatch_limited cert.region n && is_possible rom cert n)
 
 -- one may lead anywhere
 unfoldable pub leads_anywhere : List ℕ → Certificate → Node → Row → Bool
@@ -432,7 +432,7 @@ returns_wrongly rom cert n row = any_of (is_unreturnable (program_of rom cert) (
 unfoldable pub applies_to_row : List ℕ → Certificate → Node → Row → Reason → Bool
 applies_to_row rom cert n row reason.Stop = is_stop row.op
 applies_to_row rom cert n row reason.Halt = may_read_twice (program_of rom cert) rom n row.op
-applies_to_row rom cert n row reason.Stack = breaks_stack (stack_of cert n.procedure) n row.op
+applies_to_row rom cert n row reason.Stack = breaks_stack (program_of rom cert) (stack_of cert n.procedure) n row.op
 applies_to_row rom cert n row reason.Depth = grows_too_deep rom cert n row
 applies_to_row rom cert n row reason.Store = stores_outside rom cert n row
 applies_to_row rom cert n row reason.CartridgeRam = meets_ram rom cert n row

@@ -11,6 +11,7 @@ use Rattle.gb_successors.specs.Below.gb_domain.Types.{AbsState, Node}
 use Rattle.gb_successors.specs.Below.gb_domain.declared.rules.Rules.{Rules}
 use Rattle.gb_successors.specs.Below.gb_domain.declared.rules.Rules.TheVariants.{Simple, Extended}
 use Rattle.gb_successors.specs.Below.gb_domain.declared.types.Origin.TheVariants.{ReturnHigh, ReturnLow}
+use Rattle.gb_successors.specs.Below.gb_domain.Areas.{is_free_byte}
 use Rattle.gb_successors.specs.Below.gb_domain.Pairs.{ArePairs}
 use Rattle.gb_successors.specs.Below.gb_domain.Settings.{IsBase}
 use Rattle.gb_successors.specs.Below.gb_domain.Summaries.{no_summary}
@@ -114,7 +115,7 @@ pub record HandsOver (cert : Certificate) (procedure : ℕ) (entry : Activation)
   pub return_word : word (peek s.storage (s.processor.sp + 1)) (peek s.storage s.processor.sp) ≡ back
   pub located : is_located state ≡ true
   pub placed : IsApart (setting_of cert procedure) cert.region state
-  pub pairs : ArePairs state.relations.pairs
+  pub pairs : ArePairs (is_free_byte cert.region) state.relations.pairs
   pub held : AreInRegion cert.region base (length state.items)
   pub node : Node
   pub is_node : Contains cert.nodes node

@@ -94,15 +94,11 @@ fn covering_register(
     ensures inside { IfSome result (λ i. (nodes.now.found.now.first ≤ i) × (i ≤ nodes.now.found.now.after)) }
 {
     let core = with_value(register, value, states.core);
-    let left = reduced_wholly(
-        nodes.program,
-        nodes.rules,
-        &nodes.entered,
-        &core,
-        states.relations,
-        states.lists.cells(),
-        states.summary,
-    );
+    let single = States {
+        core: &core,
+        ..*states
+    };
+    let left = reduced_wholly(nodes.program, nodes.rules, &nodes.entered, &single);
     covering_left(nodes, near, left, states)
 }
 
@@ -129,19 +125,11 @@ fn covering_byte(
         origin: known.origin,
     };
     let lists = with_cell(Rules::Extended, states.lists, at, val);
-    let left = reduced_wholly(
-        nodes.program,
-        nodes.rules,
-        &nodes.entered,
-        states.core,
-        states.relations,
-        lists.cells(),
-        states.summary,
-    );
     let states = States {
         lists: &lists,
         ..*states
     };
+    let left = reduced_wholly(nodes.program, nodes.rules, &nodes.entered, &states);
     covering_left(nodes, near, left, &states)
 }
 

@@ -44,5 +44,5 @@ pub use gb_successors::{
     area_end, cell_at, covers, covers_controller, covers_core, covers_ime, covers_may,
     covers_origin, covers_val, gb_domain, gb_ram_bounds, holds_bytes, is_limited, is_ram, known,
     known_bank, known_byte, known_bytes, leaves_area, length_of, lies_in_high_ram,
-    meets_closed_ram, reduced, with_value,
+    meets_closed_ram, read_in, reduced, with_value,
 };

@@ -89,10 +89,11 @@ fn reason_of_row(
     if is_stop(row.op) {
         return Some(Reason::Stop);
     }
-    if may_read_twice(&program_of(rom, cert), rom, node, state, row.op) {
+    let program = program_of(rom, cert);
+    if may_read_twice(&program, rom, node, state, row.op) {
         return Some(Reason::Halt);
     }
-    if breaks_stack(stack, node, state, row.op) {
+    if breaks_stack(&program, stack, node, state, row.op) {
         return Some(Reason::Stack);
     }
     let site = Site {

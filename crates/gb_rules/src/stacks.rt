@@ -10,7 +10,7 @@ use gb_ops::op::{Op, Pair};
 use gb_successors::stacks::{Around, Stack, StackMove, around_of, is_located, stack_move};
 use gb_successors::successor::pointer_in;
 use gb_successors::successors::product_before;
-use gb_successors::{Abs, AbsWrite, Bounds, Product, Rules};
+use gb_successors::{Abs, AbsWrite, Bounds, Product, Program, Rules};
 
 fn is_sp(pair: Pair) -> bool
     ensures { result ≡ Targets.is_sp pair }
@@ -83,16 +83,23 @@ fn lacks_word(aside: Option<Bounds>, state: &Abs) -> bool
 /// Whether an instruction breaks what version 3 asks of the stack: SP is set to a known address, one of the procedure's or of main's; what moves it
 /// otherwise finds the stack set, and as many bytes as it takes off.
 #[tactic(auto, unfolding(crate::specs::Rules::breaks_extended_stack))]
-fn breaks_extended_stack(stack: Stack, node: &NodeRef<'_>, state: &Abs, op: Op) -> bool
+fn breaks_extended_stack(
+    program: &Program<'_>,
+    stack: Stack,
+    node: &NodeRef<'_>,
+    state: &Abs,
+    op: Op,
+) -> bool
     requires { state.now ≡ node.now.state }
-    ensures { result ≡ Ruled.breaks_extended_stack stack node.now op }
+    ensures { result ≡ Ruled.breaks_extended_stack program.now stack node.now op }
 {
     match op {
         Op::LoadPair(Pair::Sp, _) => {
             sets_lost(stack, around_of(stack, state, state.core()), op, None)
         }
         Op::LoadSpHl => {
-            let before = product_before(stack.setting.rules, &stack.setting.entered, state);
+            let (rules, entered) = (stack.setting.rules, &stack.setting.entered);
+            let before = product_before(program, rules, entered, state);
             sets_lost_from(stack, state, &before)
         }
         Op::Push(_) | Op::CallIf(_, _) | Op::Call(_) | Op::Restart(_) => lacks_bytes(0, state),
@@ -108,12 +115,18 @@ fn breaks_extended_stack(stack: Stack, node: &NodeRef<'_>, state: &Abs, op: Op) 
 }
 
 /// Whether an instruction moves SP as it may not.
-pub(crate) fn breaks_stack(stack: Stack, node: &NodeRef<'_>, state: &Abs, op: Op) -> bool
+pub(crate) fn breaks_stack(
+    program: &Program<'_>,
+    stack: Stack,
+    node: &NodeRef<'_>,
+    state: &Abs,
+    op: Op,
+) -> bool
     requires { state.now ≡ node.now.state }
-    ensures { result ≡ Ruled.breaks_stack stack node.now op }
+    ensures { result ≡ Ruled.breaks_stack program.now stack node.now op }
 {
     match stack.setting.rules {
         Rules::Simple => breaks_simple_stack(stack.region, node, state, op),
-        Rules::Extended => breaks_extended_stack(stack, node, state, op),
+        Rules::Extended => breaks_extended_stack(program, stack, node, state, op),
     }
 }

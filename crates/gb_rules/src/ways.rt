@@ -21,7 +21,7 @@ use crate::procedures::{
     ranges_of,
 };
 use crate::room::Room;
-use gb_calls::{Cert, NodeRef};
+use gb_calls::{Cert, NodeRef, States};
 use gb_ops::op::Row;
 use gb_successors::refused::{is_unknown, is_unstorable, meets_closed, meets_oam_transfer};
 use gb_successors::stacks::Stack;
@@ -31,7 +31,7 @@ use gb_successors::successors::{
 };
 use gb_successors::{
     Abs, AbsWrite, Core, Program, Reason, Relations, Rom, Rules, Setting, lies_in_high_ram,
-    not_taken_side, reduce, settle, taken_side,
+    not_taken_side, read_in, reduce, settle, taken_side,
 };
 
 /// A node's instruction, whose successors are judged.
@@ -333,7 +333,7 @@ fn reason_if_staying(site: &Site<'_>, room: &mut Room) -> Option<Reason>
 fn reason_alone(site: &Site<'_>) -> Option<Reason>
     requires stack { site.now.stack.now ≡ stack_of site.now.cert.now site.now.node.now.procedure }
     requires state { site.now.state.now ≡ site.now.node.now.state }
-    requires possible { Ruled.is_possible site.now.cert.now site.now.node.now ≡ true }
+    requires possible { Ruled.is_possible site.now.rom.now site.now.cert.now site.now.node.now ≡ true }
     ensures { result ≡ lowest (applies_alone site.now.rom.now site.now.cert.now site.now.node.now site.now.row.now) }
 {
     let (stack, node, state) = (*site.stack, site.node, site.state);
@@ -365,7 +365,7 @@ fn reason_of_each(
 ) -> Option<Reason>
     requires stack { site.now.stack.now ≡ stack_of site.now.cert.now site.now.node.now.procedure }
     requires state { site.now.state.now ≡ site.now.node.now.state }
-    requires before { Some (product_of core.now relations.now) ≡ product_before site.now.stack.now.setting.rules site.now.stack.now.setting.entered site.now.state.now }
+    requires before { Some (product_of core.now relations.now) ≡ product_before (program_of site.now.rom.now site.now.cert.now) site.now.stack.now.setting.rules site.now.stack.now.setting.entered site.now.state.now }
     ensures { result ≡ lowest (Ruled.applies_to_row site.now.rom.now site.now.cert.now site.now.node.now site.now.row.now) }
 {
     let alone = reason_alone(site);
@@ -387,7 +387,9 @@ fn reason_of_reduced(site: &Site<'_>, core: &Core, room: &mut Room) -> Option<Re
     let mut core = *core;
     let mut relations = *site.state.relations();
     let entered = &site.stack.setting.entered;
-    if reduce(Rules::Extended, entered, &mut core, &mut relations) {
+    let program = program_of(site.rom, site.cert);
+    let read = read_in(&program, &States::of(site.state), &relations.pairs);
+    if reduce(Rules::Extended, entered, &read, &mut core, &mut relations) {
         reason_of_each(site, &core, &relations, room)
     } else {
         None

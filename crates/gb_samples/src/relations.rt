@@ -54,6 +54,7 @@ fn is_read_same(one: Other, other: Other) -> bool {
     match (one, other) {
         (Other::Register(r), Other::Register(s)) => r == s,
         (Other::Pair(p), Other::Pair(q)) => pair_number(p) == pair_number(q),
+        (Other::Cell(a), Other::Cell(b)) => a == b,
         (Other::Nothing, Other::Nothing) => true,
         _ => false,
     }

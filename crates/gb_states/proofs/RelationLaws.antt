@@ -293,39 +293,39 @@ from_relations address r = (told.present_by address r, (r.byte, (r.zero, r.pairs
 
 -- what is behind those that there are
 abbrev pub ArePresent : Bool → StackBytes → Option ℕ → InMemory → Present → OneByte × (Option WordPair × Pairs) → Type 0
-ArePresent wide k test at p q = IsByteFor k test p.byte at p.bits q.0 × (((is_some q.1.0 ≡ p.zero) × IfSome q.1.0 (λ z. Unit {0})) × ArePairsFor wide p q.1.1)
+ArePresent wide k test at p q = IsByteFor k test p.byte at p.bits q.0 × (((is_some q.1.0 ≡ p.zero) × IfSome q.1.0 (λ z. Unit {0})) × ArePairsFor wide k.region p q.1.1)
 
 -- what there may be beside a state's test
-abbrev pub IsTold : (ℕ → Bool) → Option ℕ → Relations → Type 0
-IsTold may_be test r = IsRelations may_be r × (compared r.byte.test ≡ test)
+abbrev pub IsTold : (ℕ → Bool) → (ℕ → Bool) → Option ℕ → Relations → Type 0
+IsTold may_be may_read test r = IsRelations may_be may_read r × (compared r.byte.test ≡ test)
 
-pair-facts : (wide : Bool) (f : PairFacts) (there : Bool) → AreFactsFor wide there f → IsPairFacts f
-pair-facts wide f there h = record { last = h.0.0.1; link = h.0.1.0 }
+pair-facts : (wide : Bool) (region : Region) (f : PairFacts) (there : Bool) → AreFactsFor wide region there f → IsPairFacts (is_free_byte region) f
+pair-facts wide region f there h = record { last = h.0.0.1; link = h.0.1.0 }
 
-pairs-each : (wide : Bool) (p : Present) (s : Pairs) → ArePairsFor wide p s → (w : WordPair) → IsPairFacts (facts_of w s)
-pairs-each wide p s h Bc = pair-facts wide s.bc p.bc h.0
-pairs-each wide p s h De = pair-facts wide s.de p.de h.1.0
-pairs-each wide p s h Hl = pair-facts wide s.hl p.hl h.1.1
+pairs-each : (wide : Bool) (region : Region) (p : Present) (s : Pairs) → ArePairsFor wide region p s → (w : WordPair) → IsPairFacts (is_free_byte region) (facts_of w s)
+pairs-each wide region p s h Bc = pair-facts wide region s.bc p.bc h.0
+pairs-each wide region p s h De = pair-facts wide region s.de p.de h.1.0
+pairs-each wide region p s h Hl = pair-facts wide region s.hl p.hl h.1.1
 
-pairs-ordered : (wide : Bool) (p : Present) (s : Pairs) → ArePairsFor wide p s → (w : WordPair) → (facts_of w s).bounds.first ≤ (facts_of w s).bounds.last
-pairs-ordered wide p s h Bc = h.0.0.0.0
-pairs-ordered wide p s h De = h.1.0.0.0.0
-pairs-ordered wide p s h Hl = h.1.1.0.0.0
+pairs-ordered : (wide : Bool) (region : Region) (p : Present) (s : Pairs) → ArePairsFor wide region p s → (w : WordPair) → (facts_of w s).bounds.first ≤ (facts_of w s).bounds.last
+pairs-ordered wide region p s h Bc = h.0.0.0.0
+pairs-ordered wide region p s h De = h.1.0.0.0.0
+pairs-ordered wide region p s h Hl = h.1.1.0.0.0
 
 pub relations-there : (wide : Bool) (k : StackBytes) (test : Option ℕ) (at : InMemory) (x : All) → ArePresent wide k test at x.0 x.1
-    → (from_relations x.0.address (to_relations x) ≡ x) × (IsTold (may_be_in k at) test (to_relations x) × AreLinked wide x.1.1.1)
+    → (from_relations x.0.address (to_relations x) ≡ x) × (IsTold (may_be_in k at) (is_free_byte k.region) test (to_relations x) × AreLinked wide x.1.1.1)
 unfolding from_relations
 relations-there wide k test at x h =
     let p = x.0 in
     let b = h.0 in
     let s = h.1.1 in (
       ap (λ (p : Present). (let q : All = (p, x.1) in q)) (present-same _ _ _ _ _ _ _ x.0.byte x.0.address x.0.bits x.0.zero x.0.bc x.0.de x.0.hl b.place refl b.has_bits h.1.0.0 s.0.1 s.1.0.1 s.1.1.1),
-      ((record { byte = b.is_byte; pairs = record { each = pairs-each wide x.0 x.1.1.1 s }; order = pairs-ordered wide x.0 x.1.1.1 s }, b.compares), pairs-linked wide x.0 x.1.1.1 s),
+      ((record { byte = b.is_byte; pairs = record { each = pairs-each wide k.region x.0 x.1.1.1 s }; order = pairs-ordered wide k.region x.0 x.1.1.1 s }, b.compares), pairs-linked wide k.region x.0 x.1.1.1 s),
     )
 
 -- The same relations, where the address is right by another rule.
-pub address-as : (may_be may_too : ℕ → Bool) (r : Relations) → IsRelations may_be r → IfSome r.byte.address (λ a. may_too a ≡ true) → IsRelations may_too r
-address-as may_be may_too r h a = record { byte = record { address = a; place = h.byte.place; test = h.byte.test }; pairs = h.pairs; order = h.order }
+pub address-as : (may_be may_too may_read : ℕ → Bool) (r : Relations) → IsRelations may_be may_read r → IfSome r.byte.address (λ a. may_too a ≡ true) → IsRelations may_too may_read r
+address-as may_be may_too may_read r h a = record { byte = record { address = a; place = h.byte.place; test = h.byte.test }; pairs = h.pairs; order = h.order }
 
 -- the parts that there are, are such
 pub present-parts : (at : InMemory) (register : Bool) (t : Option Test) → ((is_somewhere at || register) || is_none t) ≡ true → AreParts (compared t) (is_somewhere at || register) (is_address at) (is_some (bits_of t))
@@ -341,10 +341,10 @@ present-parts Nowhere true (Some (Bits m)) h = refl
 present-parts Nowhere false None h = refl
 present-parts Nowhere false (Some t) h = absurd cc
 
-facts-for : (wide : Bool) (f : PairFacts) → IsPairFacts f → f.bounds.first ≤ f.bounds.last → MayBeLinked wide f.link → AreFactsFor wide (is_known f) f
-facts-for wide f h order may = (((order, h.last), (h.link, may)), refl)
+facts-for : (wide : Bool) (region : Region) (f : PairFacts) → IsPairFacts (is_free_byte region) f → f.bounds.first ≤ f.bounds.last → MayBeLinked wide f.link → AreFactsFor wide region (is_known f) f
+facts-for wide region f h order may = (((order, h.last), (h.link, may)), refl)
 
-pub relations-again : (wide : Bool) (k : StackBytes) (test : Option ℕ) (at : InMemory) (address : Bool) (r : Relations) → IsTold (may_be_in k at) test r → AreLinked wide r.pairs → is_some r.byte.address ≡ is_somewhere at
+pub relations-again : (wide : Bool) (k : StackBytes) (test : Option ℕ) (at : InMemory) (address : Bool) (r : Relations) → IsTold (may_be_in k at) (is_free_byte k.region) test r → AreLinked wide r.pairs → is_some r.byte.address ≡ is_somewhere at
     → ArePresent wide k test at (from_relations address r).0 (from_relations address r).1 × (to_relations (from_relations address r) ≡ r)
 unfolding from_relations
 relations-again wide k test at address r h linked in_memory =
@@ -353,15 +353,15 @@ relations-again wide k test at address r h linked in_memory =
     let w = each-linked wide r.pairs linked in (
       (
         record { is_byte = h.0.byte; place = refl; in_memory = in_memory; has_bits = refl; compares = h.1 },
-        ((refl, some-pair r.zero), (facts-for wide r.pairs.bc (e Bc) (o Bc) w.0, (facts-for wide r.pairs.de (e De) (o De) w.1.0, facts-for wide r.pairs.hl (e Hl) (o Hl) w.1.1))),
+        ((refl, some-pair r.zero), (facts-for wide k.region r.pairs.bc (e Bc) (o Bc) w.0, (facts-for wide k.region r.pairs.de (e De) (o De) w.1.0, facts-for wide k.region r.pairs.hl (e Hl) (o Hl) w.1.1))),
       ),
       refl,
     )
 
 -- which parts there are may be said, where the address is there as the place in memory says
-pub is-present : (may_be : ℕ → Bool) (test : Option ℕ) (at : InMemory) (r : Relations) → IsTold may_be test r → is_some r.byte.address ≡ is_somewhere at → is_present test (from_relations (is_address at) r).0 ≡ true
+pub is-present : (may_be may_read : ℕ → Bool) (test : Option ℕ) (at : InMemory) (r : Relations) → IsTold may_be may_read test r → is_some r.byte.address ≡ is_somewhere at → is_present test (from_relations (is_address at) r).0 ≡ true
 unfolding from_relations
-is-present may_be test at r h in_memory =
+is-present may_be may_read test at r h in_memory =
     let register = is_some_register r.byte.registers in
     let place : ((is_somewhere at || register) || is_none r.byte.test) ≡ true = sym (ap (λ a. (a || register) || is_none r.byte.test) in_memory) ∙ h.0.byte.place in
     subst (λ t. AreParts t (is_some r.byte.address || register) (is_address at) (is_some (bits_of r.byte.test))) h.1
@@ -373,12 +373,12 @@ told_parts k q = told_byte k q.0 ++ (told.optional told.pair q.1.0 ++ told.pairs
 pub IsFormat-parts : (wide : Bool) (k : StackBytes) (test : Option ℕ) (at : InMemory) (p : Present) → IfSome test (λ n. n < 256) → k.count < 256 → AreParts test p.byte (is_somewhere at) p.bits → IsFormat (parts_at wide k test at p) (told_parts k) (ArePresent wide k test at p)
 unfolding told_byte
 IsFormat-parts wide k test at p small few h =
-    IsFormat-both (defaulted no_byte p.byte (byte_at k test at p.bits)) (both (optional p.zero pair_at) (pairs_at wide p)) (told_byte k) (λ q. told.optional told.pair q.0 ++ told.pairs q.1) (IsByteFor k test p.byte at p.bits) (λ q. ((is_some q.0 ≡ p.zero) × IfSome q.0 (λ z. Unit {0})) × ArePairsFor wide p q.1) (IsFormat-one_byte k test p.byte at p.bits h small few)
-    (IsFormat-both (optional p.zero pair_at) (pairs_at wide p) (told.optional told.pair) told.pairs (λ z. (is_some z ≡ p.zero) × IfSome z (λ z. Unit {0})) (ArePairsFor wide p) (IsFormat-option p.zero pair_at told.pair (λ z. Unit {0}) IsFormat-pair) (IsFormat-pairs wide p))
+    IsFormat-both (defaulted no_byte p.byte (byte_at k test at p.bits)) (both (optional p.zero pair_at) (pairs_at wide k.region p)) (told_byte k) (λ q. told.optional told.pair q.0 ++ told.pairs q.1) (IsByteFor k test p.byte at p.bits) (λ q. ((is_some q.0 ≡ p.zero) × IfSome q.0 (λ z. Unit {0})) × ArePairsFor wide k.region p q.1) (IsFormat-one_byte k test p.byte at p.bits h small few)
+    (IsFormat-both (optional p.zero pair_at) (pairs_at wide k.region p) (told.optional told.pair) told.pairs (λ z. (is_some z ≡ p.zero) × IfSome z (λ z. Unit {0})) (ArePairsFor wide k.region p) (IsFormat-option p.zero pair_at told.pair (λ z. Unit {0}) IsFormat-pair) (IsFormat-pairs wide k.region p))
 
 -- ---- versions 1 to 3
 
--- in them a place in memory is an address, and no link has a base or a width
+-- in them a place in memory is an address, and no link has a base or a width or reads memory
 abbrev older_place : Present → InMemory
 older_place p = place_by false p.address
 
@@ -386,7 +386,7 @@ abbrev AreOlder : Region → Option ℕ → All → Type 0
 AreOlder region test x = (is_present test x.0 ≡ true) × ArePresent false (no_items region) test (older_place x.0) x.0 x.1
 
 abbrev pub IsToldExactly : Region → Option ℕ → Relations → Type 0
-IsToldExactly region test r = IsTold (is_free_byte region) test r × (are_linked false r.pairs ≡ true)
+IsToldExactly region test r = IsTold (is_free_byte region) (is_free_byte region) test r × (are_linked false r.pairs ≡ true)
 
 abbrev older_of : Relations → All
 older_of r = from_relations (is_some r.byte.address) r
@@ -396,7 +396,7 @@ older-there region test x h =
     let k = no_items region in
     let r = relations-there false k test (older_place x.0) x h.1 in
     let address = h.1.0.in_memory ∙ somewhere x.0.address in
-    (ap (λ a. from_relations a (to_relations x)) address ∙ r.0, ((address-as (may_be_in k (older_place x.0)) (is_free_byte region) (to_relations x) r.1.0.0 (free-there k x.0.address x.1.0.address r.1.0.0.byte.address), r.1.0.1), r.1.1))
+    (ap (λ a. from_relations a (to_relations x)) address ∙ r.0, ((address-as (may_be_in k (older_place x.0)) (is_free_byte region) (is_free_byte region) (to_relations x) r.1.0.0 (free-there k x.0.address x.1.0.address r.1.0.0.byte.address), r.1.0.1), r.1.1))
 
 older-again : (region : Region) (test : Option ℕ) (r : Relations) → IsToldExactly region test r → AreOlder region test (older_of r) × (to_relations (older_of r) ≡ r)
 unfolding from_relations
@@ -404,16 +404,16 @@ older-again region test r h =
     let k = no_items region in
     let address = is_some r.byte.address in
     let at = place_by false address in
-    let there : IsTold (may_be_in k at) test r = (address-as (is_free_byte region) (may_be_in k at) r h.0.0 (there-free k r.byte.address h.0.0.byte.address), h.0.1) in
+    let there : IsTold (may_be_in k at) (is_free_byte k.region) test r = (address-as (is_free_byte region) (may_be_in k at) (is_free_byte region) r h.0.0 (there-free k r.byte.address h.0.0.byte.address), h.0.1) in
     let a = relations-again false k test at address r there h.1 (sym (somewhere address)) in
-    ((subst (λ b. is_present test (from_relations b r).0 ≡ true) (spelled_so address) (is-present (may_be_in k at) test at r there (sym (somewhere address))), a.0), a.1)
+    ((subst (λ b. is_present test (from_relations b r).0 ≡ true) (spelled_so address) (is-present (may_be_in k at) (is_free_byte region) test at r there (sym (somewhere address))), a.0), a.1)
   where
     spelled_so : (address : Bool) → is_address (place_by false address) ≡ address
     spelled_so true = refl
     spelled_so false = refl
 
 -- The place in memory has the same bytes as the address.
-older-told : (region : Region) (r : Relations) → IsRelations (is_free_byte region) r → spelled_present (older_of r).0 ++ told_parts (no_items region) (older_of r).1 ≡ told.relations r
+older-told : (region : Region) (r : Relations) → IsRelations (is_free_byte region) (is_free_byte region) r → spelled_present (older_of r).0 ++ told_parts (no_items region) (older_of r).1 ≡ told.relations r
 unfolding from_relations told_byte told.relations
 older-told region r h = ap (λ m. told.present_number (told.present_in r) ∷ told.parts_by m r) (memory-plain region 0 r.byte.address h.byte.address)
 
@@ -437,18 +437,18 @@ alone-byte : (may_be : ℕ → Bool) (test : Option ℕ) → IfSome test (λ n. 
 alone-byte may_be None small = record { address = tt; place = refl; test = tt }
 alone-byte may_be (Some n) small = record { address = tt; place = refl; test = small }
 
-unknown-facts : (p : WordPair) → IsPairFacts (facts_of p no_pairs)
-unknown-facts Bc = record { last = omega arith; link = tt }
-unknown-facts De = record { last = omega arith; link = tt }
-unknown-facts Hl = record { last = omega arith; link = tt }
+unknown-facts : (may_read : ℕ → Bool) (p : WordPair) → IsPairFacts may_read (facts_of p no_pairs)
+unknown-facts may_read Bc = record { last = omega arith; link = tt }
+unknown-facts may_read De = record { last = omega arith; link = tt }
+unknown-facts may_read Hl = record { last = omega arith; link = tt }
 
 unknown-ordered : (p : WordPair) → (facts_of p no_pairs).bounds.first ≤ (facts_of p no_pairs).bounds.last
 unknown-ordered Bc = omega arith
 unknown-ordered De = omega arith
 unknown-ordered Hl = omega arith
 
-pub alone-relations : (may_be : ℕ → Bool) (test : Option ℕ) → IfSome test (λ n. n < 256) → IsRelations may_be (test_alone test)
-alone-relations may_be test small = record { byte = alone-byte may_be test small; pairs = record { each = unknown-facts }; order = unknown-ordered }
+pub alone-relations : (may_be may_read : ℕ → Bool) (test : Option ℕ) → IfSome test (λ n. n < 256) → IsRelations may_be may_read (test_alone test)
+alone-relations may_be may_read test small = record { byte = alone-byte may_be test small; pairs = record { each = unknown-facts may_read }; order = unknown-ordered }
 
 alone-is : (test : Option ℕ) → is_test_alone (test_alone test) ≡ true
 alone-is None = refl
@@ -511,15 +511,15 @@ pub told-compares : (rules : Rules) (region : Region) (test : Option ℕ) (r : R
 told-compares Simple region test r h = ap (λ (s : Relations). compared s.byte.test) h ∙ alone-compares test
 told-compares Extended region test r h = h.0.1
 
-pub told-relations : (rules : Rules) (region : Region) (test : Option ℕ) (r : Relations) → IfSome test (λ n. n < 256) → IsToldBy rules region test r → IsRelations (is_free_byte region) r
-told-relations Simple region test r small h = subst (IsRelations (is_free_byte region)) (sym h) (alone-relations (is_free_byte region) test small)
+pub told-relations : (rules : Rules) (region : Region) (test : Option ℕ) (r : Relations) → IfSome test (λ n. n < 256) → IsToldBy rules region test r → IsRelations (is_free_byte region) (is_free_byte region) r
+told-relations Simple region test r small h = subst (IsRelations (is_free_byte region) (is_free_byte region)) (sym h) (alone-relations (is_free_byte region) (is_free_byte region) test small)
 told-relations Extended region test r small h = h.0.0
 
 pub told-known : (rules : Rules) (region : Region) (test : Option ℕ) (r : Relations) → IsToldBy rules region test r → may_be_known rules r ≡ true
 told-known Simple region test r h = ap is_test_alone h ∙ alone-is test
 told-known Extended region test r h = h.1
 
-pub is-told : (rules : Rules) (region : Region) (r : Relations) → IsRelations (is_free_byte region) r → may_be_known rules r ≡ true → IsToldBy rules region (compared r.byte.test) r
+pub is-told : (rules : Rules) (region : Region) (r : Relations) → IsRelations (is_free_byte region) (is_free_byte region) r → may_be_known rules r ≡ true → IsToldBy rules region (compared r.byte.test) r
 is-told Simple region r h known = is-alone r known
 is-told Extended region r h known = ((h, refl), known)
 
@@ -537,13 +537,13 @@ no-flag true e = cc
 no-flag false e = refl
 
 -- Where no part is there nothing is known.
-pub nothing-known : (may_be : ℕ → Bool) (address : Bool) (r : Relations) → IsRelations may_be r → told.present_number (told.present_by address r) ≡ 0 → r ≡ test_alone None
-nothing-known may_be address r h e =
+pub nothing-known : (may_be may_read : ℕ → Bool) (address : Bool) (r : Relations) → IsRelations may_be may_read r → told.present_number (told.present_by address r) ≡ 0 → r ≡ test_alone None
+nothing-known may_be may_read address r h e =
     let p = told.present_by address r in
     relations-same r.byte no_byte r.zero None r.pairs no_pairs (byte-absent may_be r.byte h.byte (no-flag p.byte (omega (arith, e)))) (none-is r.zero (no-flag p.zero (omega (arith, e))))
     (pairs-same r.pairs.bc r.pairs.de r.pairs.hl nothing_known nothing_known nothing_known (facts-absent r.pairs.bc (no-flag p.bc (omega (arith, e)))) (facts-absent r.pairs.de (no-flag p.de (omega (arith, e)))) (facts-absent r.pairs.hl (no-flag p.hl (omega (arith, e)))))
 
 -- And nothing is spelled.
-pub nothing-told : (may_be : ℕ → Bool) (r : Relations) → IsRelations may_be r → told.present_number (told.present_in r) ≡ 0 → (r ≡ test_alone None) × (told.relations r ≡ 0 ∷ [])
+pub nothing-told : (may_be may_read : ℕ → Bool) (r : Relations) → IsRelations may_be may_read r → told.present_number (told.present_in r) ≡ 0 → (r ≡ test_alone None) × (told.relations r ≡ 0 ∷ [])
 unfolding told.relations told.pairs
-nothing-told may_be r h e = let none = nothing-known may_be (is_some r.byte.address) r h e in (none, ap told.relations none)
+nothing-told may_be may_read r h e = let none = nothing-known may_be may_read (is_some r.byte.address) r h e in (none, ap told.relations none)

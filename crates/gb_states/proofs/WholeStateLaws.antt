@@ -16,7 +16,7 @@ use Rattle.gb_domain.specs.declared.pairs.Pairs.{Pairs}
 use Rattle.gb_domain.specs.declared.pairs.Bounds.{Bounds}
 use Rattle.gb_domain.specs.declared.places.OneByte.{OneByte}
 use Rattle.gb_domain.specs.declared.places.StackBytes.{StackBytes}
-use Rattle.gb_domain.specs.Areas.{is_place_at}
+use Rattle.gb_domain.specs.Areas.{is_free_byte, is_place_at}
 use Rattle.gb_domain.specs.declared.relations.Relations.{Relations}
 use Rattle.gb_domain.specs.declared.rules.Rules.TheVariants.{Extended}
 use Rattle.gb_domain.specs.Limits.{cell_room}
@@ -181,7 +181,7 @@ AreToldParts facts k may test p = AreDeclared k may test p.0 × (ArePresent true
 
 -- what there may be beside a state's test
 abbrev pub IsToldIn : ℕ → StackBytes → Bool → Option ℕ → Told → Type 0
-IsToldIn facts k may test t = (IsTold (is_place_at k) test t.0 × AreLinked true t.0.pairs) × IsSummary facts k.region may t.1
+IsToldIn facts k may test t = (IsTold (is_place_at k) (is_free_byte k.region) test t.0 × AreLinked true t.0.pairs) × IsSummary facts k.region may t.1
 
 within-is : (o : Option Bounds) → IfSome o AreBounds → IfSome o IsWithin
 within-is None h = tt
@@ -207,7 +207,7 @@ told-there facts k may test p h =
     let item : is_item (place_in k.region p.1.0.0.address) ≡ p.0.1.item = ap is_item place ∙ item-bit p.0.1.item p.0.0.address in (
       parts-same _ p.0.0 _ p.0.1 (ap (λ a. told.present_by a (to_told p).0) address ∙ ap (λ (x : All). x.0) r.0) (declared-same _ _ _ _ p.0.1.shadows p.0.1.levels p.0.1.aside p.0.1.item s.has_shadows s.has_levels s.has_aside item),
       (
-        ((address-as (may_be_in k at) (is_place_at k) (to_told p).0 r.1.0.0 (place-there k at p.1.0.0.address r.1.0.0.byte.address), r.1.0.1), r.1.1),
+        ((address-as (may_be_in k at) (is_place_at k) (is_free_byte k.region) (to_told p).0 r.1.0.0 (place-there k at p.1.0.0.address r.1.0.0.byte.address), r.1.0.1), r.1.1),
         record {
           level = s.level;
           few = s.few;
@@ -229,11 +229,11 @@ told-again facts k may test t h =
     let at = place_told k t in
     let o = t.0.byte.address in
     let lies = there-place k o h.0.0.0.byte.address in
-    let there : IsTold (may_be_in k at) test t.0 = (address-as (is_place_at k) (may_be_in k at) t.0 h.0.0.0 lies.1, h.0.0.1) in
+    let there : IsTold (may_be_in k at) (is_free_byte k.region) test t.0 = (address-as (is_place_at k) (may_be_in k at) (is_free_byte k.region) t.0 h.0.0.0 lies.1, h.0.0.1) in
     let r = relations-again true k test at (is_address at) t.0 there h.0.1 lies.0 in
     let s = h.1 in (
       (
-        (is-present (may_be_in k at) test at t.0 there lies.0, both_and (may || not (is_some t.1.aside)) _ s.may (may-name k at o (is_some_register t.0.byte.registers) lies)),
+        (is-present (may_be_in k at) (is_free_byte k.region) test at t.0 there lies.0, both_and (may || not (is_some t.1.aside)) _ s.may (may-name k at o (is_some_register t.0.byte.registers) lies)),
         (
           subst (λ place. ArePresent true k test place (told.present_by (is_address at) t.0) (t.0.byte, (t.0.zero, t.0.pairs))) (sym (place-again at)) r.0,
           record { level = s.level; few = s.few; fills = s.fills; first = s.first; second = s.second; aside = is-within t.1.aside s.aside; has_shadows = refl; has_levels = refl; has_aside = refl },

@@ -8,7 +8,7 @@ use Rattle.gb_domain.specs.declared.pairs.WordPair.{WordPair}
 use Rattle.gb_domain.specs.declared.pairs.WordPair.TheVariants.{Bc, De, Hl}
 use Rattle.gb_domain.specs.declared.pairs.Bounds.{Bounds}
 use Rattle.gb_domain.specs.declared.pairs.Other.{Other}
-use Rattle.gb_domain.specs.declared.pairs.Other.TheVariants.{Register as Of, Pair, Nothing}
+use Rattle.gb_domain.specs.declared.pairs.Other.TheVariants.{Register as Of, Pair, Cell, Nothing}
 use Rattle.gb_domain.specs.declared.pairs.Link.{Link}
 use Rattle.gb_domain.specs.declared.pairs.PairFacts.{PairFacts}
 use Rattle.gb_domain.specs.declared.pairs.Pairs.{Pairs}
@@ -128,6 +128,7 @@ to_bounds p = record { first = p.0; last = p.1 }
 unfoldable pub bounds_at : Read Bounds
 bounds_at = mapped to_bounds (checked fault.Field is_ordered (both word word))
 
+-- of what has no address
 abbrev pub other_of : ℕ → Option Other
 other_of n =
     if n == 0 then None
@@ -143,20 +144,32 @@ other_of n =
     else if n == 10 then Some (Pair Hl)
     else Some Nothing
 
--- In version 4 a link may have a base and a width. What reads nothing else has a base.
+-- In version 4 a link may have a base and a width, and may read a byte of RAM. What reads nothing else has a base.
 abbrev pub is_wide_form : ℕ → Bool
-is_wide_form n = is_between 1 10 (n % 64) || n % 64 == 13 && n / 64 % 2 == 1
+is_wide_form n = is_between 1 11 (n % 64) || n % 64 == 13 && n / 64 % 2 == 1
 
 -- 0 where there is no link. In versions 1 to 3 a form says only what else one reads.
 abbrev pub is_form : Bool → ℕ → Bool
 is_form wide n = is_between 0 10 n || wide && is_wide_form n
 
--- bits 0 to 4: what else the link reads; 6: it has a base; 7: it has a width
-abbrev pub to_form : ℕ → LinkForm
-to_form n = record { other = other_of (n % 64); has_base = n / 64 % 2 == 1; has_width = nat_le 128 n }
+-- Of a byte of RAM its address stands behind the form: in RAM and outside the region.
+abbrev pub to_cell : ℕ → Option Other
+to_cell address = Some (Cell address)
 
-unfoldable pub form_at : Bool → Read LinkForm
-form_at wide = mapped to_form (checked fault.Field (is_form wide) byte)
+abbrev pub other_if : Region → Bool → ℕ → Read (Option Other)
+other_if region true n = mapped to_cell (address_at region)
+other_if region false n = nothing (other_of n)
+
+-- what else a link reads, by bits 0 to 4 of its form
+abbrev pub other_at : Region → ℕ → Read (Option Other)
+other_at region n = other_if region (n == 11) n
+
+-- bits 0 to 4: what else the link reads; 6: it has a base; 7: it has a width
+abbrev pub to_form : ℕ × Option Other → LinkForm
+to_form p = record { other = p.1; has_base = p.0 / 64 % 2 == 1; has_width = nat_le 128 p.0 }
+
+unfoldable pub form_at : Bool → Region → Read LinkForm
+form_at wide region = mapped to_form (followed (checked fault.Field (is_form wide) byte) (λ n. other_at region (n % 64)))
 
 -- a byte in two's complement as a word
 abbrev pub to_factor : ℕ → ℕ
@@ -182,21 +195,21 @@ link_of None has_base has_width = nothing None
 link_of (Some other) has_base has_width = mapped (to_link other) (both (factor_of other) (both (optional has_base pair_at) (both word (defaulted 0 has_width width_at))))
 
 -- a link, which may have a base and a width or may not
-unfoldable pub link_at : Bool → Read (Option Link)
-link_at wide = mapped (λ p. p.1) (followed (form_at wide) (λ f. link_of f.other f.has_base f.has_width))
+unfoldable pub link_at : Bool → Region → Read (Option Link)
+link_at wide region = mapped (λ p. p.1) (followed (form_at wide region) (λ f. link_of f.other f.has_base f.has_width))
 
 abbrev pub to_facts : Bounds × Option Link → PairFacts
 to_facts p = record { bounds = p.0; link = p.1 }
 
 -- what is known of a pair, which is something
-unfoldable pub facts_at : Bool → Read PairFacts
-facts_at wide = checked fault.Field is_known (mapped to_facts (both bounds_at (link_at wide)))
+unfoldable pub facts_at : Bool → Region → Read PairFacts
+facts_at wide region = checked fault.Field is_known (mapped to_facts (both bounds_at (link_at wide region)))
 
 abbrev pub to_pairs : PairFacts × (PairFacts × PairFacts) → Pairs
 to_pairs p = record { bc = p.0; de = p.1.0; hl = p.1.1 }
 
-unfoldable pub pairs_at : Bool → Present → Read Pairs
-pairs_at wide p = mapped to_pairs (both (defaulted nothing_known p.bc (facts_at wide)) (both (defaulted nothing_known p.de (facts_at wide)) (defaulted nothing_known p.hl (facts_at wide))))
+unfoldable pub pairs_at : Bool → Region → Present → Read Pairs
+pairs_at wide region p = mapped to_pairs (both (defaulted nothing_known p.bc (facts_at wide region)) (both (defaulted nothing_known p.de (facts_at wide region)) (defaulted nothing_known p.hl (facts_at wide region))))
 
 -- ---- all of them
 
@@ -205,9 +218,9 @@ to_relations p = record { byte = p.1.0; zero = p.1.1.0; pairs = p.1.1.1 }
 
 -- those that there are; links may have a base and a width or may not, the test is the state's, and the one byte's place in memory is this
 abbrev pub parts_at : Bool → StackBytes → Option ℕ → InMemory → Present → Read (OneByte × (Option WordPair × Pairs))
-parts_at wide k test place p = both (defaulted no_byte p.byte (byte_at k test place p.bits)) (both (optional p.zero pair_at) (pairs_at wide p))
+parts_at wide k test place p = both (defaulted no_byte p.byte (byte_at k test place p.bits)) (both (optional p.zero pair_at) (pairs_at wide k.region p))
 
--- Versions 1 to 3 name no items, and their links have no width.
+-- Versions 1 to 3 name no items.
 abbrev pub no_items : Region → StackBytes
 no_items region = record { region = region; base = 0; count = 0 }
 

@@ -6,7 +6,7 @@ use Rattle.gb_domain.specs.declared.pairs.WordPair.{WordPair}
 use Rattle.gb_domain.specs.declared.pairs.WordPair.TheVariants.{Bc, De, Hl}
 use Rattle.gb_domain.specs.declared.pairs.Bounds.{Bounds}
 use Rattle.gb_domain.specs.declared.pairs.Other.{Other}
-use Rattle.gb_domain.specs.declared.pairs.Other.TheVariants.{Register as Of, Pair, Nothing}
+use Rattle.gb_domain.specs.declared.pairs.Other.TheVariants.{Register as Of, Pair, Cell, Nothing}
 use Rattle.gb_domain.specs.declared.pairs.Link.{Link}
 use Rattle.gb_domain.specs.declared.pairs.PairFacts.{PairFacts}
 use Rattle.gb_domain.specs.declared.pairs.Pairs.{Pairs}
@@ -77,7 +77,13 @@ other_number (Of E) = 4
 other_number (Of H) = 5
 other_number (Of L) = 6
 other_number (Pair p) = 7 + pair_number p
+other_number (Cell a) = 10
 other_number Nothing = 12
+
+-- the address of a byte of RAM
+abbrev pub argument : Other → List ℕ
+argument (Cell a) = word a
+argument _ = []
 
 -- The factor, in two's complement. Of what reads nothing else it is 1, and isn't spelled.
 abbrev pub factor : Other → ℕ → List ℕ
@@ -94,10 +100,10 @@ width n = where_there (has_width n) (word n)
 abbrev pub form_number : Link → ℕ
 form_number l = 128 * flag (has_width l.width) + (64 * flag (is_some l.base) + (1 + other_number l.other))
 
--- 0, or the form, the factor, the base, the sum and the width
+-- 0, or the form, the address, the factor, the base, the sum and the width
 abbrev pub link : Option Link → List ℕ
 link None = 0 ∷ []
-link (Some l) = form_number l ∷ (factor l.other l.factor ++ (optional pair l.base ++ (word l.sum ++ width l.width)))
+link (Some l) = form_number l ∷ (argument l.other ++ (factor l.other l.factor ++ (optional pair l.base ++ (word l.sum ++ width l.width))))
 
 abbrev pub bounds : Bounds → List ℕ
 bounds b = word b.first ++ word b.last

@@ -101,7 +101,7 @@ abbrev pub is_state_sayable : Rules → AbsState → Bool
 is_state_sayable rules s = is_core_sayable rules s.core && (list_all (is_sayable rules) s.items && (list_all (is_cell_sayable rules) s.cells && is_silent s.summary))
 
 -- By the rules of versions 1 and 2 nothing is known of several parts together but a test of A. In version 3 links have no base and no
--- width.
+-- width, and read no memory.
 abbrev pub may_be_known : Rules → Relations → Bool
 may_be_known Simple r = is_test_alone r
 may_be_known Extended r = are_linked false r.pairs
@@ -116,7 +116,7 @@ pub record IsState (rules : Rules) (role : Role) (region : Region) (s : AbsState
   pub item_count : length s.items ≤ item_room rules
   pub cells : IsChain (IsCell region) after_cell 0 s.cells
   pub cell_count : length s.cells ≤ cell_room rules
-  pub relations : IsRelations (is_free_byte region) s.relations
+  pub relations : IsRelations (is_free_byte region) (is_free_byte region) s.relations
   pub known : may_be_known rules s.relations ≡ true
   pub sayable : is_state_sayable rules s ≡ true
 

@@ -195,7 +195,7 @@ pub record IsStateIn (facts : ℕ) (form : ProcedureForm) (role : Role) (region 
   pub item_count : length s.items ≤ item_limit Extended
   pub cells : IsChain (IsCellIn form.kept region) after_cell 0 s.cells
   pub cell_count : length s.cells ≤ cell_room Extended
-  pub relations : IsRelations (is_place_at (stack_bytes form role region (length s.items))) s.relations
+  pub relations : IsRelations (is_place_at (stack_bytes form role region (length s.items))) (is_free_byte region) s.relations
   pub linked : are_linked true s.relations.pairs ≡ true
   pub summary : IsSummary facts region (may_be_aside role s.core) s.summary
 

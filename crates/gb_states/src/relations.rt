@@ -1,12 +1,12 @@
 //! Reading what a state says of several of its parts together.
 
-ghost use Rattle.std.specs.Prelude.{◌≡◌, ◌∷◌, IfSome};
+ghost use Rattle.std.specs.Prelude.{◌≡◌, ◌∷◌, false, IfSome};
 ghost use Rattle.gb_fields.specs.Format.{Gives, optional, byte};
 ghost use Rattle.gb_domain.specs.Pairs.{nothing_known};
 ghost use Rattle.gb_domain.specs.Places.{no_byte};
 ghost use Rattle.gb_domain.specs.RelationRules.{is_known, compared_a, test_alone};
-ghost use Rattle.gb_states.specs.Links.{reads_other};
-ghost use Rattle.gb_states.specs.RelationReading.{defaulted, is_present, present_at, to_registers, registers_at, address_at, is_stack_byte, item_address, is_item_number, item_at, is_somewhere, place_by, memory_at, test_of, byte_at, pair_of, pair_at, bounds_at, other_of, is_wide_form, is_form, form_at, factor_at, factor_of, width_at, link_of, link_at, facts_at, pairs_at, parts_at, no_items, relations_at, relations_by};
+ghost use Rattle.gb_states.specs.Links.{reads_register, reads_other};
+ghost use Rattle.gb_states.specs.RelationReading.{defaulted, is_present, present_at, to_registers, registers_at, address_at, is_stack_byte, item_address, is_item_number, item_at, is_somewhere, place_by, memory_at, test_of, byte_at, pair_of, pair_at, bounds_at, other_of, is_wide_form, is_form, other_at, form_at, factor_at, factor_of, width_at, link_of, link_at, facts_at, pairs_at, parts_at, no_items, relations_at, relations_by};
 
 use crate::states::{is_free, is_in_ram};
 use gb_domain::pairs::{Bounds, Link, NOTHING_KNOWN, Other, PairFacts, Pairs, WordPair};
@@ -75,6 +75,9 @@ pub struct LinkForm {
     pub has_base: bool,
     pub has_width: bool,
 }
+
+/// The low bits of the form of a link that reads a byte of RAM.
+const CELL: u8 = 11;
 
 // ---- which parts there are
 
@@ -319,6 +322,7 @@ pub(crate) fn bounds_at(bytes: &[u8]) -> Result<(Bounds, &[u8]), CertFault>
     Ok((Bounds { first, last }, rest))
 }
 
+/// What else a link reads, where that has no address.
 fn other_of(number: u8) -> Option<Other>
     ensures { result ≡ other_of number }
 {
@@ -338,12 +342,12 @@ fn other_of(number: u8) -> Option<Other>
     }
 }
 
-/// Whether a link of version 4 has this form: what reads nothing else has a base.
+/// Whether a link of version 4 has this form: what reads nothing else has a base. Of an item (12) there is no form.
 fn is_wide_form(number: u8) -> bool
     ensures { result ≡ is_wide_form number }
 {
     let other = number % 64;
-    1 <= other && other <= 10 || other == 13 && number / 64 % 2 == 1
+    1 <= other && other <= CELL || other == 13 && number / 64 % 2 == 1
 }
 
 /// Whether there is such a form, where links may have a base and a width or may not; 0 where there is no link.
@@ -353,20 +357,40 @@ fn is_form(wide: bool, number: u8) -> bool
     number <= 10 || wide && is_wide_form(number)
 }
 
+/// What else a link reads, by the low bits of its form; of a byte of RAM its address stands behind the form.
+fn other_at(region: Region, number: u8, bytes: &[u8]) -> Result<(Option<Other>, &[u8]), CertFault>
+    ensures { Gives (λ x. (x.0, x.1.now)) result (other_at region number bytes.now) }
+{
+    if number == CELL {
+        let (address, rest) = address_at(region, bytes)?;
+        Ok((Some(Other::Cell(address)), rest))
+    } else {
+        Ok((other_of(number), bytes))
+    }
+}
+
 #[tactic(auto, unfolding(crate::specs::RelationReading::form_at))]
-fn form_at(wide: bool, bytes: &[u8]) -> Result<(LinkForm, &[u8]), CertFault>
-    ensures { Gives (λ x. (x.0, x.1.now)) result (form_at wide bytes.now) }
+fn form_at(wide: bool, region: Region, bytes: &[u8]) -> Result<(LinkForm, &[u8]), CertFault>
+    ensures { Gives (λ x. (x.0, x.1.now)) result (form_at wide region bytes.now) }
 {
     let (number, rest) = byte(bytes)?;
     if !is_form(wide, number) {
         return Err(CertFault::Field);
     }
+    let (other, rest) = other_at(region, number % 64, rest)?;
     let form = LinkForm {
-        other: other_of(number % 64),
+        other,
         has_base: number / 64 % 2 == 1,
         has_width: 128 <= number,
     };
     Ok((form, rest))
+}
+
+/// Whether a link reads a register or another pair.
+pub fn reads_register(other: Other) -> bool
+    ensures { result ≡ reads_register other }
+{
+    matches!(other, Other::Register(_) | Other::Pair(_))
 }
 
 /// Whether a link reads something besides its pair and its base.
@@ -435,10 +459,10 @@ fn link_of(form: LinkForm, bytes: &[u8]) -> Result<(Option<Link>, &[u8]), CertFa
 }
 
 #[tactic(auto, unfolding(crate::specs::RelationReading::link_at))]
-fn link_at(wide: bool, bytes: &[u8]) -> Result<(Option<Link>, &[u8]), CertFault>
-    ensures { Gives (λ x. (x.0, x.1.now)) result (link_at wide bytes.now) }
+fn link_at(wide: bool, region: Region, bytes: &[u8]) -> Result<(Option<Link>, &[u8]), CertFault>
+    ensures { Gives (λ x. (x.0, x.1.now)) result (link_at wide region bytes.now) }
 {
-    let (form, rest) = form_at(wide, bytes)?;
+    let (form, rest) = form_at(wide, region, bytes)?;
     link_of(form, rest)
 }
 
@@ -450,11 +474,11 @@ fn is_known(facts: PairFacts) -> bool
 }
 
 #[tactic(auto, unfolding(crate::specs::RelationReading::facts_at))]
-fn facts_at(wide: bool, bytes: &[u8]) -> Result<(PairFacts, &[u8]), CertFault>
-    ensures { Gives (λ x. (x.0, x.1.now)) result (facts_at wide bytes.now) }
+fn facts_at(wide: bool, region: Region, bytes: &[u8]) -> Result<(PairFacts, &[u8]), CertFault>
+    ensures { Gives (λ x. (x.0, x.1.now)) result (facts_at wide region bytes.now) }
 {
     let (bounds, rest) = bounds_at(bytes)?;
-    let (link, rest) = link_at(wide, rest)?;
+    let (link, rest) = link_at(wide, region, rest)?;
     let facts = PairFacts { bounds, link };
     if !is_known(facts) {
         return Err(CertFault::Field);
@@ -463,23 +487,33 @@ fn facts_at(wide: bool, bytes: &[u8]) -> Result<(PairFacts, &[u8]), CertFault>
 }
 
 /// What is known of a pair, where it is there.
-fn facts_where(wide: bool, there: bool, bytes: &[u8]) -> Result<(PairFacts, &[u8]), CertFault>
-    ensures { Gives (λ x. (x.0, x.1.now)) result (defaulted nothing_known there (facts_at wide) bytes.now) }
+fn facts_where(
+    wide: bool,
+    region: Region,
+    there: bool,
+    bytes: &[u8],
+) -> Result<(PairFacts, &[u8]), CertFault>
+    ensures { Gives (λ x. (x.0, x.1.now)) result (defaulted nothing_known there (facts_at wide region) bytes.now) }
 {
     if there {
-        facts_at(wide, bytes)
+        facts_at(wide, region, bytes)
     } else {
         Ok((NOTHING_KNOWN, bytes))
     }
 }
 
 #[tactic(auto, unfolding(crate::specs::RelationReading::pairs_at))]
-fn pairs_at(wide: bool, present: Present, bytes: &[u8]) -> Result<(Pairs, &[u8]), CertFault>
-    ensures { Gives (λ x. (x.0, x.1.now)) result (pairs_at wide present bytes.now) }
+fn pairs_at(
+    wide: bool,
+    region: Region,
+    present: Present,
+    bytes: &[u8],
+) -> Result<(Pairs, &[u8]), CertFault>
+    ensures { Gives (λ x. (x.0, x.1.now)) result (pairs_at wide region present bytes.now) }
 {
-    let (bc, rest) = facts_where(wide, present.bc, bytes)?;
-    let (de, rest) = facts_where(wide, present.de, rest)?;
-    let (hl, rest) = facts_where(wide, present.hl, rest)?;
+    let (bc, rest) = facts_where(wide, region, present.bc, bytes)?;
+    let (de, rest) = facts_where(wide, region, present.de, rest)?;
+    let (hl, rest) = facts_where(wide, region, present.hl, rest)?;
     Ok((Pairs { bc, de, hl }, rest))
 }
 
@@ -502,7 +536,7 @@ pub(crate) fn parts_at(
 {
     let (byte, rest) = byte_where(stack, test, place, present, bytes)?;
     let (zero, rest) = pair_where(present.zero, rest)?;
-    let (pairs, rest) = pairs_at(wide, present, rest)?;
+    let (pairs, rest) = pairs_at(wide, stack.region, present, rest)?;
     Ok(((byte, (zero, pairs)), rest))
 }
 
@@ -517,6 +551,19 @@ fn no_items(region: Region) -> StackBytes
     }
 }
 
+/// Those parts that there are in versions 1 to 3, in which the place in memory is an address.
+fn older_parts_at(
+    region: Region,
+    test: Option<u8>,
+    present: Present,
+    bytes: &[u8],
+) -> Result<(Parts, &[u8]), CertFault>
+    ensures { Gives (λ x. (x.0, x.1.now)) result (parts_at false (no_items region) test (place_by false present.address) present bytes.now) }
+{
+    let place = InMemory::by(false, present.address);
+    parts_at(false, no_items(region), test, place, present, bytes)
+}
+
 /// What is known of several parts of a state together; the test is the state's.
 #[inline(never)]
 #[tactic(auto, unfolding(crate::specs::RelationReading::relations_at))]
@@ -528,9 +575,7 @@ pub fn relations_at(
     ensures { Gives (λ x. (x.0, x.1.now)) result (relations_at region test bytes.now) }
 {
     let (present, rest) = present_at(test, bytes)?;
-    let place = InMemory::by(false, present.address);
-    let stack = no_items(region);
-    let ((byte, (zero, pairs)), rest) = parts_at(false, stack, test, place, present, rest)?;
+    let ((byte, (zero, pairs)), rest) = older_parts_at(region, test, present, rest)?;
     Ok((Relations { byte, zero, pairs }, rest))
 }
 

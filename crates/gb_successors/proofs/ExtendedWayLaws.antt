@@ -18,17 +18,17 @@ use Rattle.gb_domain.specs.declared.rules.Rules.TheVariants.{Simple, Extended}
 use Rattle.gb_domain.specs.declared.setting.Setting.{Setting}
 use Rattle.gb_domain.specs.declared.places.OneByte.{OneByte}
 use Rattle.gb_domain.specs.declared.places.StackBytes.{StackBytes}
-use Rattle.gb_domain.specs.Areas.{is_place_at}
+use Rattle.gb_domain.specs.Areas.{is_place_at, is_free_byte}
 use Rattle.gb_ops.specs.declared.machine.Write.{Write}
 use Rattle.gb_ops.specs.declared.machine.Write.TheVariants as machine_write
 use Rattle.gb_product.specs.Below.gb_relations.Places.{is_ram}
-use Rattle.gb_successors.proofs.RamLaws.{ram_at, ram_is}
+use Rattle.gb_successors.proofs.RamLaws.{ram_at, ram_is, bytes_small, any_read}
 use Rattle.gb_domain.specs.declared.types.Cell.{Cell}
 use Rattle.gb_domain.specs.declared.types.Core.{Core}
 use Rattle.gb_domain.specs.declared.types.Halves.{Halves}
 use Rattle.gb_domain.specs.declared.types.Range.{Range}
 use Rattle.gb_domain.specs.declared.types.Val.{Val}
-use Rattle.gb_domain.specs.Pairs.{ArePairs}
+use Rattle.gb_domain.specs.Pairs.{any_pairs, ArePairs}
 use Rattle.gb_domain.specs.Rules.{IsCore}
 use Rattle.gb_domain.specs.Limits.{cell_room}
 use Rattle.gb_domain.specs.Summaries.{SummaryParts, Program}
@@ -51,7 +51,7 @@ use Rattle.gb_product.specs.Below.gb_abs_effects.Transfer.{transfer}
 use Rattle.gb_abs_memory.specs.Kept.{IsKept}
 use Rattle.gb_product.specs.declared.parts.Branch.{Branch}
 use Rattle.gb_product.specs.declared.parts.Product.{Product}
-use Rattle.gb_product.specs.Below.gb_pairs.Meaning.{AreBytes}
+use Rattle.gb_product.specs.Below.gb_pairs.Meaning.{AreBytes, AreReadIn}
 use Rattle.gb_product.specs.Below.gb_pairs.Reduced as Pairs
 use Rattle.gb_product.specs.Below.gb_pairs.Sound.{AreWithin}
 use Rattle.gb_product.specs.Below.gb_relations.Sound.{IsBytePlaced}
@@ -64,7 +64,7 @@ use Rattle.gb_successors.specs.declared.way.Told.{Told}
 use Rattle.gb_successors.specs.Settled.{cell_outside, told_by, branch_outside, told_successor, held_successor}
 use Rattle.gb_successors.proofs.AccessLaws.{WritesInTurn}
 use Rattle.gb_successors.proofs.HoldingLaws.{LeadsWidely-related, to_widely, from_widely, told_right, Leads-settled, settled_is, settled_count}
-use Rattle.gb_product.specs.Meaning.{entered_with, AreRelated}
+use Rattle.gb_product.specs.Meaning.{entered_with, beside, AreRelated, Means}
 use Rattle.gb_product.specs.Reduced.{product_of, with_values_if, reduced}
 use Rattle.gb_product.specs.Sides.{side_where, taken_side, not_taken_side}
 use Rattle.gb_product.specs.Sound.{IsKnown, IsMeantProduct, IsMeantBranch, MeansBranch, MeansProduct, IsReduced, IsSideOf}
@@ -72,12 +72,14 @@ use Rattle.gb_product.proofs.MeaningLaws.{AreBytes-core, MeansCore-cut}
 use Rattle.gb_product.proofs.Below.gb_abs_effects_laws.CoreLaws.{In-from}
 use Rattle.gb_product.proofs.ReducedLaws.{reduced_sound, reduced_cuts, Holds-values}
 use Rattle.gb_product.proofs.SideLaws.{taken_side_sound, not_taken_side_sound, taken_side_cuts, not_taken_side_cuts}
+use Rattle.gb_product.proofs.CoveringLaws.{AreReadIn-means}
 use Rattle.gb_successors.specs.declared.stacks.Around.{Around}
 use Rattle.gb_successors.specs.declared.stacks.Stack.{Stack}
 use Rattle.gb_successors.specs.declared.stacks.StackMove.{StackMove}
 use Rattle.gb_successors.specs.declared.stacks.StackMove.TheVariants as move
 use Rattle.gb_product.specs.Below.gb_pairs.declared.values.Values.{Values}
 use Rattle.gb_product.specs.Below.gb_relations.Transfer.{values_of}
+use Rattle.gb_product.specs.Covering.{read_in as bytes_read}
 use Rattle.gb_successors.specs.Behind.{ended, with_cell_if, moved_state}
 use Rattle.gb_successors.specs.Loads.{word_by}
 use Rattle.gb_successors.specs.Refined.{cut_read, cut_write, refined}
@@ -100,9 +102,9 @@ use Rattle.gb_successors.proofs.RelatedLaws.{MeansParts-related, related_begun, 
 use Rattle.gb_successors.proofs.SuccessorLaws.{begun, begun_core, given, effect, executed_is, left_by, passed_peek}
 use Rattle.gb_successors.proofs.UntakenLaws.{simple_untaken, untaken_simply, untaken_executes, side_facts}
 use Rattle.gb_successors.proofs.Situations.{Situation, acted_at, given_at, begun_at, held_at, left_at, move_at, parts_at, related_at, IsTakenIn}
-use Rattle.gb_successors.proofs.LandingLaws.{given_by, stored_at}
+use Rattle.gb_successors.proofs.LandingLaws.{given_by, stored_at, pairs_behind}
 use Rattle.gb_successors.proofs.LedLaws.{IsAllowedAt, DoneAt, done_at}
-use Rattle.gb_successors.proofs.PossibleLaws.{some_reduced, possible, pairs_behind, bytes_behind_it}
+use Rattle.gb_successors.proofs.PossibleLaws.{some_reduced, possible, bytes_behind_it}
 use Rattle.gb_successors.specs.StackMark.{marks, marked, marked_write}
 use Rattle.gb_successors.specs.Stacks.{address_below}
 use Rattle.gb_successors.proofs.StackMarkLaws.{marked_write_not}
@@ -111,10 +113,10 @@ use Rattle.gb_successors.proofs.StackMarkLaws.{marked_write_not}
 
 -- registers that are cut in this procedure are so in any other where they are copies of what they were before
 core_narrowed :
-    (rules : Rules) (entered : PairBounds) (core : Core) (r : Relations) (p : Product) (entry other : Activation) (y : MState) → reduced rules entered core r ≡ Some p
+    (rules : Rules) (entered read : PairBounds) (core : Core) (r : Relations) (p : Product) (entry other : Activation) (y : MState) → reduced rules entered read core r ≡ Some p
     → IsReduced core r p → MeansCore p.core entry y → MeansCore core other y → MeansCore p.core other y
 unfolding reduced
-core_narrowed rules entered core r p entry other y e cut m n = by_rules rules e
+core_narrowed rules entered read core r p entry other y e cut m n = by_rules rules e
   where
     same_product : (p q : Product) → Some p ≡ Some q → p ≡ q
     same_product p q f = cc
@@ -126,66 +128,67 @@ core_narrowed rules entered core r p entry other y e cut m n = by_rules rules e
         (λ is held. MeansCore-cut core v.registers other y (λ q. In-from (get q v.registers) entry (get q y.processor.registers) (held.registers q)) is.core.origin n)
         cut m
 
-    by_rules : (q : Rules) → reduced q entered core r ≡ Some p → MeansCore p.core other y
+    by_rules : (q : Rules) → reduced q entered read core r ≡ Some p → MeansCore p.core other y
     by_rules Simple f = subst (λ (q : Product). MeansCore q.core other y) (same_product _ p f) n
-    by_rules Extended f = by (Pairs.reduced entered (values_of core.registers r.pairs)) f
+    by_rules Extended f = by (Pairs.reduced entered read (values_of core.registers r.pairs)) f
 
 -- the machine that a successor leads to is one that its reduced states mean, in any procedure of which the states are
 pub MeansParts-narrowed :
-    (z : Setting) (t : Successor) (p : Product) (entry other : Activation) (base : ℕ) (y : MState) → reduced z.rules z.entered t.state.core t.state.relations ≡ Some p → ArePairs t.state.relations.pairs
+    (z : Setting) (region : Region) (t : Successor) (p : Product) (entry other : Activation) (base : ℕ) (y : MState) → reduced z.rules z.entered any_pairs t.state.core t.state.relations ≡ Some p → ArePairs (is_free_byte region) t.state.relations.pairs
     → AreWithin z.entered (entered_with entry) → AreBytes y.processor.registers → AreRelated t.state.relations entry y
     → MeansCore t.state.core entry y → MeansParts t.state other base y → MeansParts (with_product t p).state other base y
-MeansParts-narrowed z t p entry other base y e are within bytes related core m =
-    let meant : MeansProduct p entry y = (reduced_sound z.rules z.entered t.state.core t.state.relations (Some p) (sym e) are).gives entry y within bytes core related in
-    let cut : IsReduced t.state.core t.state.relations p = reduced_cuts z.rules z.entered t.state.core t.state.relations (Some p) (sym e) in
+MeansParts-narrowed z region t p entry other base y e are within bytes related core m =
+    let meant : MeansProduct p entry y = (reduced_sound (is_free_byte region) z.rules z.entered any_pairs t.state.core t.state.relations (Some p) (sym e) are).gives entry y within (any_read t.state.relations.pairs (peek y.storage) (bytes_small y.storage m.memory)) bytes core related in
+    let cut : IsReduced t.state.core t.state.relations p = reduced_cuts z.rules z.entered any_pairs t.state.core t.state.relations (Some p) (sym e) in
     MeansParts-related p.relations (with_core t.state p.core) other base y
     (MeansParts-with_core t.state p.core other base y y m
-    (core_narrowed z.rules z.entered t.state.core t.state.relations p entry other y e cut meant.core m.core) refl refl refl (λ set. sym cut.core.stack_set ∙ set))
+    (core_narrowed z.rules z.entered any_pairs t.state.core t.state.relations p entry other y e cut meant.core m.core) refl refl refl (λ set. sym cut.core.stack_set ∙ set))
 
 pub LeadsWidely-narrowed :
-    (z : Setting) (region : Region) (w : Target) (t : Successor) (p : Product) (entry : Activation) (base : ℕ) (y : MState) → reduced z.rules z.entered t.state.core t.state.relations ≡ Some p → ArePairs t.state.relations.pairs
+    (z : Setting) (region : Region) (w : Target) (t : Successor) (p : Product) (entry : Activation) (base : ℕ) (y : MState) → reduced z.rules z.entered any_pairs t.state.core t.state.relations ≡ Some p → ArePairs (is_free_byte region) t.state.relations.pairs
     → AreWithin z.entered (entered_with entry) → AreBytes y.processor.registers → AreRelated t.state.relations entry y → LeadsWidely z region w t entry base y → LeadsWidely z region w (with_product t p) entry base y
 LeadsWidely-narrowed z region (target.At a) t p entry base y e are within bytes related h =
-    record { means = MeansParts-narrowed z t p entry entry base y e are within bytes related h.means.core h.means; goes = h.goes; room = h.room }
+    record { means = MeansParts-narrowed z region t p entry entry base y e are within bytes related h.means.core h.means; goes = h.goes; room = h.room }
 LeadsWidely-narrowed z region (target.Call a) t p entry base y e are within bytes related h =
     record {
-      means = MeansParts-narrowed z t p entry entry base y e are within bytes related h.means.core h.means;
+      means = MeansParts-narrowed z region t p entry entry base y e are within bytes related h.means.core h.means;
       goes = h.goes;
       room = h.room;
-      located = located-same t.state.summary.aside p.core.stack_set t.state.core.stack_set (reduced_cuts z.rules z.entered t.state.core t.state.relations (Some p) (sym e)).core.stack_set h.located;
+      located = located-same t.state.summary.aside p.core.stack_set t.state.core.stack_set (reduced_cuts z.rules z.entered any_pairs t.state.core t.state.relations (Some p) (sym e)).core.stack_set h.located;
       next = h.next;
       top = h.top;
       placed = h.placed;
     }
 LeadsWidely-narrowed z region target.Return t p entry base y e are within bytes related h =
-    record { means = MeansParts-narrowed z t p entry entry base y e are within bytes related h.means.core h.means; goes = h.goes; room = h.room; procedure = h.procedure }
+    record { means = MeansParts-narrowed z region t p entry entry base y e are within bytes related h.means.core h.means; goes = h.goes; room = h.room; procedure = h.procedure }
 LeadsWidely-narrowed z region (target.Main a) t p entry base y e are within bytes related h =
-    record { means = λ other same. MeansParts-narrowed z t p entry other (region.last + 1) y e are within bytes related (h.means entry refl).core (h.means other same); goes = h.goes; room = h.room }
+    record { means = λ other same. MeansParts-narrowed z region t p entry other (region.last + 1) y e are within bytes related (h.means entry refl).core (h.means other same); goes = h.goes; room = h.room }
 LeadsWidely-narrowed z region target.Unknown t p entry base y e are within bytes related h = tt
 LeadsWidely-narrowed z region target.Lost t p entry base y e are within bytes related h = tt
 
 -- what is known together holds, where it is said where the machine is
 related_narrowed :
-    (z : Setting) (region : Region) (w : Target) (t : Successor) (p : Product) (entry : Activation) (base : ℕ) (y : MState) → reduced z.rules z.entered t.state.core t.state.relations ≡ Some p → ArePairs t.state.relations.pairs
+    (z : Setting) (region : Region) (w : Target) (t : Successor) (p : Product) (entry : Activation) (base : ℕ) (y : MState) → reduced z.rules z.entered any_pairs t.state.core t.state.relations ≡ Some p → ArePairs (is_free_byte region) t.state.relations.pairs
     → AreWithin z.entered (entered_with entry) → AreBytes y.processor.registers → AreRelated t.state.relations entry y → LeadsWidely z region w t entry base y → is_followed Extended w ≡ true → AreRelated p.relations entry y
 related_narrowed z region w t p entry base y e are within bytes related h followed = by w h followed
   where
-    of_core : MeansCore t.state.core entry y → AreRelated p.relations entry y
-    of_core m =
-        let meant : MeansProduct p entry y = (reduced_sound z.rules z.entered t.state.core t.state.relations (Some p) (sym e) are).gives entry y within bytes m related in
+    of_parts : {b : ℕ} → MeansParts t.state entry b y → AreRelated p.relations entry y
+    of_parts m =
+        let meant : MeansProduct p entry y = (reduced_sound (is_free_byte region) z.rules z.entered any_pairs t.state.core t.state.relations (Some p) (sym e) are).gives entry y within
+        (any_read t.state.relations.pairs (peek y.storage) (bytes_small y.storage m.memory)) bytes m.core related in
         meant.related
 
     by : (v : Target) → LeadsWidely z region v t entry base y → is_followed Extended v ≡ true → AreRelated p.relations entry y
-    by (target.At a) k f = of_core k.means.core
-    by (target.Call a) k f = of_core k.means.core
-    by target.Return k f = of_core k.means.core
-    by (target.Main a) k f = of_core (k.means entry refl).core
+    by (target.At a) k f = of_parts k.means
+    by (target.Call a) k f = of_parts k.means
+    by target.Return k f = of_parts k.means
+    by (target.Main a) k f = of_parts (k.means entry refl)
     by target.Unknown k f = cc
     by target.Lost k f = cc
 
 pub Leads-narrowed :
-    (z : Setting) (region : Region) (ranges : List Range) (t : Successor) (p : Product) (entry : Activation) (base : ℕ) (x y : MState) → z.rules ≡ Extended → reduced z.rules z.entered t.state.core t.state.relations ≡ Some p
-    → ArePairs t.state.relations.pairs → AreWithin z.entered (entered_with entry) → AreBytes y.processor.registers → AreRelated t.state.relations entry y
+    (z : Setting) (region : Region) (ranges : List Range) (t : Successor) (p : Product) (entry : Activation) (base : ℕ) (x y : MState) → z.rules ≡ Extended → reduced z.rules z.entered any_pairs t.state.core t.state.relations ≡ Some p
+    → ArePairs (is_free_byte region) t.state.relations.pairs → AreWithin z.entered (entered_with entry) → AreBytes y.processor.registers → AreRelated t.state.relations entry y
     → LeadsWidely z region t.target t entry base y → ((b : ℕ) → IsKept z region ranges base b → peek y.storage b ≡ peek x.storage b)
     → LeadsRelated z region ranges (with_product t p) entry base x y
 Leads-narrowed z region ranges t p entry base x y extended e are within bytes related to kept =
@@ -198,21 +201,28 @@ Leads-narrowed z region ranges t p entry base x y extended e are within bytes re
 -- ---- what is known before
 
 -- the states before, reduced
-pub record Before (k : Stack) (s : AbsState) (entry : Activation) (x : MState) : Type 0 where
+pub record Before (k : Stack) (program : Program) (s : AbsState) (entry : Activation) (x : MState) : Type 0 where
   pub product : Product
-  pub is : product_before k.setting.rules k.setting.entered s ≡ Some product
+  pub is : product_before program k.setting.rules k.setting.entered s ≡ Some product
   pub means : MeansProduct product entry x
   pub cut : IsReduced (core_settle s.core) s.relations product
 
+-- links read bytes within what is known of them
+pub read_before :
+    (program : Program) (s : AbsState) (entry : Activation) (base : ℕ) (x : MState) → entry.program ≡ program → Means s entry base x → AreReadIn s.relations.pairs (bytes_read program s) (peek x.storage)
+read_before program s entry base x of m = subst (λ q. AreReadIn s.relations.pairs (bytes_read q s) (peek x.storage)) of (AreReadIn-means s entry base x m)
+
 pub before_of :
-    (k : Stack) (s : AbsState) (entry : Activation) (x : MState) → IsCore s.core → ArePairs s.relations.pairs → AreWithin k.setting.entered (entered_with entry) → MeansCore (core_settle s.core) entry x → AreRelated s.relations entry x → Before k s entry x
+    (k : Stack) (program : Program) (s : AbsState) (entry : Activation) (x : MState)
+    → IsCore s.core → ArePairs (is_free_byte k.region) s.relations.pairs → AreWithin k.setting.entered (entered_with entry) → AreReadIn s.relations.pairs (bytes_read program s) (peek x.storage)
+    → MeansCore (core_settle s.core) entry x → AreRelated s.relations entry x → Before k program s entry x
 unfolding product_before
-before_of k s entry x core are within m related =
-    by (reduced k.setting.rules k.setting.entered (core_settle s.core) s.relations) refl
-    ((reduced_sound k.setting.rules k.setting.entered (core_settle s.core) s.relations _ refl are).gives entry x within (AreBytes-core (core_settle s.core) entry x (IsCore-settle s.core core) m) m related)
-    (reduced_cuts k.setting.rules k.setting.entered (core_settle s.core) s.relations _ refl)
+before_of k program s entry x core are within read m related =
+    by (reduced k.setting.rules k.setting.entered (bytes_read program s) (core_settle s.core) s.relations) refl
+    ((reduced_sound (is_free_byte k.region) k.setting.rules k.setting.entered (bytes_read program s) (core_settle s.core) s.relations _ refl are).gives entry x within read (AreBytes-core (core_settle s.core) entry x (IsCore-settle s.core core) m) m related)
+    (reduced_cuts k.setting.rules k.setting.entered (bytes_read program s) (core_settle s.core) s.relations _ refl)
   where
-    by : (o : Option Product) → reduced k.setting.rules k.setting.entered (core_settle s.core) s.relations ≡ o → IsMeantProduct o entry x → IfSome o (IsReduced (core_settle s.core) s.relations) → Before k s entry x
+    by : (o : Option Product) → reduced k.setting.rules k.setting.entered (bytes_read program s) (core_settle s.core) s.relations ≡ o → IsMeantProduct o entry x → IfSome o (IsReduced (core_settle s.core) s.relations) → Before k program s entry x
     by None e h cut = absurd h
     by (Some p) e h cut = record { product = p; is = e; means = h; cut = cut }
 
@@ -381,22 +391,22 @@ some_of None h = cc
 -- ---- executed
 
 stack_ruled :
-    (k : Stack) (program : Program) (rom : List ℕ) (row : Row) (a : ℕ) (s : AbsState) (base : ℕ) (p : Product) (t : Successor) → k.setting.rules ≡ Extended → product_before k.setting.rules k.setting.entered s ≡ Some p
+    (k : Stack) (program : Program) (rom : List ℕ) (row : Row) (a : ℕ) (s : AbsState) (base : ℕ) (p : Product) (t : Successor) → k.setting.rules ≡ Extended → product_before program k.setting.rules k.setting.entered s ≡ Some p
     → (successors_of k program rom row a s).taken ≡ Some t → IsRuled k program rom row a s base → IsReady k row.op (taken_move k program rom row (behind_row a row) s p) s base
 stack_ruled k program rom row a s base p t e is way h =
     let ruled : IsStackRuled Extended k program rom row a s base = subst (λ r. IsStackRuled r k program rom row a s base) e h.stack in
-    ruled (ap is_some way) p (subst (λ r. product_before r k.setting.entered s ≡ Some p) e is)
+    ruled (ap is_some way) p (subst (λ r. product_before program r k.setting.entered s ≡ Some p) e is)
 
 -- as many are held as the move leaves
 held_taken :
-    (k : Stack) (program : Program) (rom : List ℕ) (row : Row) (a : ℕ) (s : AbsState) (t : Successor) (p : Product) → k.setting.rules ≡ Extended → product_before k.setting.rules k.setting.entered s ≡ Some p
+    (k : Stack) (program : Program) (rom : List ℕ) (row : Row) (a : ℕ) (s : AbsState) (t : Successor) (p : Product) → k.setting.rules ≡ Extended → product_before program k.setting.rules k.setting.entered s ≡ Some p
     → (successors_of k program rom row a s).taken ≡ Some t → length t.state.items ≡ bytes_moved (taken_move k program rom row (behind_row a row) s p) (length s.items) → IsHeld k.setting.rules k program rom row a s t
 held_taken k program rom row a s t p e is way h =
     subst (λ r. IsHeld r k program rom row a s t) (sym e)
     (inr (
       way,
       λ q same.
-          subst (λ (v : Product). length t.state.items ≡ bytes_moved (taken_move k program rom row (behind_row a row) s v) (length s.items)) (same_product p q (sym (subst (λ r. product_before r k.setting.entered s ≡ Some p) e is) ∙ same)) h,
+          subst (λ (v : Product). length t.state.items ≡ bytes_moved (taken_move k program rom row (behind_row a row) s v) (length s.items)) (same_product p q (sym (subst (λ r. product_before program r k.setting.entered s ≡ Some p) e is) ∙ same)) h,
     ))
   where
     same_product : (p q : Product) → Some p ≡ Some q → p ≡ q
@@ -423,7 +433,7 @@ IsAllowed-settled k rom ranges s base o core t e h =
     record { stores = h.stores; ram = h.ram; oam_transfer = h.oam_transfer; stack = subst (λ q. IsStackFit q k.region t.target s t base) (sym e) found }
 
 pub taken_way :
-    (k : Stack) (program : Program) (rom : List ℕ) (row : Row) (a : ℕ) (s : AbsState) (p : Product) (b : Branch) (t : Successor) → product_before k.setting.rules k.setting.entered s ≡ Some p
+    (k : Stack) (program : Program) (rom : List ℕ) (row : Row) (a : ℕ) (s : AbsState) (p : Product) (b : Branch) (t : Successor) → product_before program k.setting.rules k.setting.entered s ≡ Some p
     → taken_side row.op (memory_before k program s p) p.core p.relations ≡ Some b → taken_by_side k program rom row (behind_row a row) s b ≡ Some t
     → (successors_of k program rom row a s).taken ≡ Some t
 unfolding successors_of
@@ -432,7 +442,7 @@ taken_way k program rom row a s p b t before side is =
     ∙ (ap (option_and_then (taken_by_side k program rom row (behind_row a row) s)) side ∙ is)
 
 untaken_way :
-    (k : Stack) (program : Program) (rom : List ℕ) (row : Row) (a : ℕ) (s : AbsState) (p : Product) (b : Branch) (t : Successor) → product_before k.setting.rules k.setting.entered s ≡ Some p
+    (k : Stack) (program : Program) (rom : List ℕ) (row : Row) (a : ℕ) (s : AbsState) (p : Product) (b : Branch) (t : Successor) → product_before program k.setting.rules k.setting.entered s ≡ Some p
     → not_taken_side row.op (memory_before k program s p) p.core p.relations ≡ Some b → not_taken_by_side k row (behind_row a row) s b ≡ Some t
     → (successors_of k program rom row a s).not_taken ≡ Some t
 unfolding successors_of
@@ -440,7 +450,7 @@ untaken_way k program rom row a s p b t before side is =
     ap (option_and_then (not_taken_from k program row (behind_row a row) s)) before
     ∙ (ap (option_and_then (not_taken_by_side k row (behind_row a row) s)) side ∙ is)
 
-pub reduced_way : (rules : Rules) (entered : PairBounds) (t : Successor) (p : Product) → reduced rules entered t.state.core t.state.relations ≡ Some p → reduced_successor rules entered t ≡ Some (with_product t p)
+pub reduced_way : (rules : Rules) (entered : PairBounds) (t : Successor) (p : Product) → reduced rules entered any_pairs t.state.core t.state.relations ≡ Some p → reduced_successor rules entered t ≡ Some (with_product t p)
 unfolding reduced_successor
 reduced_way rules entered t p e = ap (option_map (with_product t)) e
 
@@ -481,7 +491,7 @@ executed_at c k = executed_is c.rom c.machine c.row c.reads ∙ ap (left_by c.ro
 
 -- an instruction that is taken leads by the successor, reduced
 Leads-at :
-    (c : Situation) (p : Product) → IsTakenIn c → reduced c.stack.setting.rules c.stack.setting.entered (parts_at c).state.core (related_at c) ≡ Some p → DoneAt c
+    (c : Situation) (p : Product) → IsTakenIn c → reduced c.stack.setting.rules c.stack.setting.entered any_pairs (parts_at c).state.core (related_at c) ≡ Some p → DoneAt c
     → LeadsRelated c.stack.setting c.stack.region c.ranges (with_product (related_successor (related_at c) (parts_at c)) p) c.entry c.base c.machine (left_at c)
 Leads-at c p k e d =
     let r : Relations = related_at c in
@@ -539,7 +549,7 @@ cell_left c k done (Some d) conditional place h = subst (λ n. Holds d.val c.ent
 taken_executes :
     (k : Stack) (rom : List ℕ) (row : Row) (a : ℕ) (s : AbsState) (ranges : List Range) (entry : Activation) (base : ℕ) (x : MState) (reads : List ℕ) (p : Product) (b : Branch)
     → k.setting.rules ≡ Extended → entry.mark ≡ address_below base k.mark → Stands k.setting rom k.region row a s entry base x → IsRuled k entry.program rom row a s base → x.processor.halt_mark ≡ false → slice_index reads 0 ≤ 255 → slice_index reads 1 ≤ 255
-    → product_before k.setting.rules k.setting.entered s ≡ Some p → IsReduced (core_settle s.core) s.relations p → taken_side row.op (memory_before k entry.program s p) p.core p.relations ≡ Some b → MeansBranch b entry (begun row x)
+    → product_before entry.program k.setting.rules k.setting.entered s ≡ Some p → IsReduced (core_settle s.core) s.relations p → taken_side row.op (memory_before k entry.program s p) p.core p.relations ≡ Some b → MeansBranch b entry (begun row x)
     → (effect rom row x reads).is_taken ≡ true
     → Executes k entry.program rom ranges row a s (successors_of k entry.program rom row a s) entry base x reads
 taken_executes k rom row a s ranges entry base x reads p b extended marked stands ruled mark byte second before cut side meant taken =
@@ -570,7 +580,7 @@ taken_executes k rom row a s ranges entry base x reads p b extended marked stand
     taken_told k entry.program rom row (behind_row a row) s o
     (IsNoPop-outside k.region b.cell row.op (IsNoPop-taken row.op (memory_before k entry.program s p) p.core p.relations b side))
     (IsTold-outside k.region b.cell (read_of row.op b.core) (IsTold-taken row.op (memory_before k entry.program s p) p.core b.core p.relations b side)) in
-    let way : (q : Product) → reduced k.setting.rules k.setting.entered (parts_at c).state.core (related_at c) ≡ Some q → (successors_of k entry.program rom row a s).taken ≡ Some (settled q) =
+    let way : (q : Product) → reduced k.setting.rules k.setting.entered any_pairs (parts_at c).state.core (related_at c) ≡ Some q → (successors_of k entry.program rom row a s).taken ≡ Some (settled q) =
     λ q e.
     taken_way k entry.program rom row a s p b (settled q) before side
     (settled_is k b.cell s.core (taken_successor k entry.program rom row (behind_row a row) s o) (inner q) extended
@@ -583,7 +593,7 @@ taken_executes k rom row a s ranges entry base x reads p b extended marked stand
       runs = ruled.runs;
       marked = marked;
       ready = λ meant.
-          let some = some_of (reduced k.setting.rules k.setting.entered (parts_at c).state.core (related_at c)) meant in
+          let some = some_of (reduced k.setting.rules k.setting.entered any_pairs (parts_at c).state.core (related_at c)) meant in
           subst (λ m. IsReady k row.op m told base) (sym same)
           (IsReady-told k row.op _ o.cell s base (stack_ruled k entry.program rom row a s base p (settled some.0) extended before (way some.0 some.1) ruled));
       mark = mark;
@@ -594,7 +604,7 @@ taken_executes k rom row a s ranges entry base x reads p b extended marked stand
       means = meant.core;
       related = meant.related;
       core = is.inhabited (cut.inhabited (IsCore-settle s.core stands.core));
-      pairs = is.relations.pairs (cut.relations.pairs stands.pairs);
+      pairs = is.relations.pairs (is_free_byte k.region) (cut.relations.pairs (is_free_byte k.region) stands.pairs);
       place = subst (λ items. IsBytePlaced (stack_held k.setting k.region (length items)) b.relations.byte.address) (sym (told_items k.setting o.cell s))
           (subst (λ (q : OneByte). IsBytePlaced (stack_held k.setting k.region (length s.items)) q.address) (sym (is.relations.byte ∙ cut.relations.byte)) stands.place);
       taken = taken;
@@ -648,7 +658,7 @@ cell_stays (Some d) entry x y same h = subst (λ n. Holds d.val entry n) (sym (s
 untaken_leads :
     (k : Stack) (program : Program) (rom : List ℕ) (row : Row) (a : ℕ) (s : AbsState) (ranges : List Range) (entry : Activation) (base : ℕ) (x : MState) (reads : List ℕ) (p : Product) (b : Branch)
     → k.setting.rules ≡ Extended → Stands k.setting rom k.region row a s entry base x → IsRuled k program rom row a s base → x.processor.halt_mark ≡ false
-    → product_before k.setting.rules k.setting.entered s ≡ Some p → IsReduced (core_settle s.core) s.relations p → not_taken_side row.op (memory_before k program s p) p.core p.relations ≡ Some b → MeansBranch b entry (begun row x)
+    → product_before program k.setting.rules k.setting.entered s ≡ Some p → IsReduced (core_settle s.core) s.relations p → not_taken_side row.op (memory_before k program s p) p.core p.relations ≡ Some b → MeansBranch b entry (begun row x)
     → (effect rom row x reads).is_taken ≡ false
     → Executes k program rom ranges row a s (successors_of k program rom row a s) entry base x reads
 untaken_leads k program rom row a s ranges entry base x reads p b extended stands ruled mark before cut side meant not_taken =
@@ -661,14 +671,14 @@ untaken_leads k program rom row a s ranges entry base x reads p b extended stand
     IsToldCell-side k.setting k.region (length s.items) (memory_before k program s p) p.core p.relations b entry x place (IsVal-memory_before k program s p stands.items stands.vals) is meant.cell in
     let keeps : Keeps told.core b.core = subst (λ d. Keeps d b.core) (sym (told_core k.setting o.cell s))
     (Keeps-both s.core p.core b.core (Keeps-both s.core (core_settle s.core) p.core (Keeps-settle s.core) (Keeps-cut (core_settle s.core) p.core cut.core)) (Keeps-cut p.core b.core is.core)) in
-    let are : ArePairs b.relations.pairs = is.relations.pairs (cut.relations.pairs stands.pairs) in
+    let are : ArePairs (is_free_byte k.region) b.relations.pairs = is.relations.pairs (is_free_byte k.region) (cut.relations.pairs (is_free_byte k.region) stands.pairs) in
     let t : Successor = simple_untaken row (behind_row a row) told b.core b.relations in
     let core : IsCore b.core = is.inhabited (cut.inhabited (IsCore-settle s.core stands.core)) in
     let done = untaken_executes k.setting rom k.region ranges row a told entry base x reads b.core b.relations (Stands-told k.setting rom k.region row a o.cell s entry base x cell stands) ruled.runs mark keeps meant.core meant.related not_taken in
     let to : LeadsWidely k.setting k.region (target.At (behind_row a row)) t entry base y = from_widely k.setting k.region (target.At (behind_row a row)) t entry base x y extended done.0.to in
     let related : AreRelated b.relations entry y = done.0.related (followed_at k.setting.rules (behind_row a row)) in
     let bytes : AreBytes y.processor.registers = AreBytes-core t.state.core entry y (IsCore-untaken row (behind_row a row) told b.core b.relations core) to.means.core in
-    let some = some_reduced k.setting.rules k.setting.entered t.state.core b.relations (entered_with entry) y.processor.registers are stands.within bytes (Holds-values t.state.core b.relations entry y to.means.core related) in
+    let some = some_reduced (is_free_byte k.region) k.setting.rules k.setting.entered t.state.core b.relations (beside entry y) y.processor.registers are stands.within (bytes_small y.storage to.means.memory) bytes (Holds-values t.state.core b.relations entry y to.means.core related) in
     let inner : Successor = with_product t some.product in
     record {
       successor = held_successor k (told_successor (told_by Extended k b.cell) s.core inner);
@@ -693,32 +703,33 @@ pub executes_widely :
     → k.setting.rules ≡ Extended → entry.program ≡ program → entry.mark ≡ address_below base k.mark → Stands k.setting rom k.region row a s entry base x → IsRuled k program rom row a s base → x.processor.halt_mark ≡ false → slice_index reads 0 ≤ 255 → slice_index reads 1 ≤ 255
     → Executes k program rom ranges row a s (successors_of k program rom row a s) entry base x reads
 executes_widely k program rom row a s ranges entry base x reads extended of marked stands ruled mark byte second =
-    let before = before_of k s entry (begun row x) stands.core stands.pairs stands.within (begun_core row x s.core entry stands.means.parts.core) (related_begun row x s.relations entry stands.means.related) in
+    let before = before_of k program s entry (begun row x) stands.core stands.pairs stands.within (read_before program s entry base x of stands.means) (begun_core row x s.core entry stands.means.parts.core) (related_begun row x s.relations entry stands.means.related) in
     by_flags before (effect rom row x reads).is_taken refl
   where
-    known : (b : Before k s entry (begun row x)) → IsKnown (memory_before k program s b.product) b.product.relations entry (begun row x)
+    known : (b : Before k program s entry (begun row x)) → IsKnown (memory_before k program s b.product) b.product.relations entry (begun row x)
     known b = record {
-      byte = held_before k s b.product entry base x program of stands.based stands.means.parts stands.means.summary (values_begun row x (values_of b.product.core.registers b.product.relations.pairs) (entered_with entry) (Holds-values b.product.core b.product.relations entry (begun row x) b.means.core b.means.related));
+      byte = held_before k s b.product entry base x program of stands.based stands.means.parts stands.means.summary (values_begun row x (values_of b.product.core.registers b.product.relations.pairs) (beside entry x) (Holds-values b.product.core b.product.relations entry (begun row x) b.means.core b.means.related));
       related = b.means.related;
     }
 
-    by_taken : (b : Before k s entry (begun row x)) (o : Option Branch) → taken_side row.op (memory_before k program s b.product) b.product.core b.product.relations ≡ o → (effect rom row x reads).is_taken ≡ true → IsMeantBranch o entry (begun row x)
+    by_taken : (b : Before k program s entry (begun row x)) (o : Option Branch) → taken_side row.op (memory_before k program s b.product) b.product.core b.product.relations ≡ o → (effect rom row x reads).is_taken ≡ true → IsMeantBranch o entry (begun row x)
         → Executes k program rom ranges row a s (successors_of k program rom row a s) entry base x reads
     by_taken b None e taken h = absurd h
     by_taken b (Some side) e taken h =
         subst (λ q. Executes k q rom ranges row a s (successors_of k q rom row a s) entry base x reads) of
-        (taken_executes k rom row a s ranges entry base x reads b.product side extended marked stands (subst (λ q. IsRuled k q rom row a s base) (sym of) ruled) mark byte second b.is b.cut
+        (taken_executes k rom row a s ranges entry base x reads b.product side extended marked stands (subst (λ q. IsRuled k q rom row a s base) (sym of) ruled) mark byte second
+        (subst (λ q. product_before q k.setting.rules k.setting.entered s ≡ Some b.product) (sym of) b.is) b.cut
         (subst (λ q. taken_side row.op (memory_before k q s b.product) b.product.core b.product.relations ≡ Some side) (sym of) e) h taken)
 
-    by_not_taken : (b : Before k s entry (begun row x)) (o : Option Branch) → not_taken_side row.op (memory_before k program s b.product) b.product.core b.product.relations ≡ o → (effect rom row x reads).is_taken ≡ false → IsMeantBranch o entry (begun row x)
+    by_not_taken : (b : Before k program s entry (begun row x)) (o : Option Branch) → not_taken_side row.op (memory_before k program s b.product) b.product.core b.product.relations ≡ o → (effect rom row x reads).is_taken ≡ false → IsMeantBranch o entry (begun row x)
         → Executes k program rom ranges row a s (successors_of k program rom row a s) entry base x reads
     by_not_taken b None e not_taken h = absurd h
     by_not_taken b (Some side) e not_taken h = untaken_leads k program rom row a s ranges entry base x reads b.product side extended stands ruled mark b.is b.cut e h not_taken
 
-    by_flags : (b : Before k s entry (begun row x)) (t : Bool) → (effect rom row x reads).is_taken ≡ t → Executes k program rom ranges row a s (successors_of k program rom row a s) entry base x reads
+    by_flags : (b : Before k program s entry (begun row x)) (t : Bool) → (effect rom row x reads).is_taken ≡ t → Executes k program rom ranges row a s (successors_of k program rom row a s) entry base x reads
     by_flags b true e =
         by_taken b _ refl e
-        ((taken_side_sound row.op (memory_before k program s b.product) b.product.core b.product.relations _ refl (b.cut.relations.pairs stands.pairs)).gives entry (begun row x) (given rom row x reads).low (given rom row x reads).high (known b) b.means.core e)
+        ((taken_side_sound (is_free_byte k.region) row.op (memory_before k program s b.product) b.product.core b.product.relations _ refl (b.cut.relations.pairs (is_free_byte k.region) stands.pairs)).gives entry (begun row x) (given rom row x reads).low (given rom row x reads).high (known b) b.means.core e)
     by_flags b false e =
         by_not_taken b _ refl e
-        ((not_taken_side_sound row.op (memory_before k program s b.product) b.product.core b.product.relations _ refl (b.cut.relations.pairs stands.pairs)).gives entry (begun row x) (given rom row x reads).low (given rom row x reads).high (known b) b.means.core e)
+        ((not_taken_side_sound (is_free_byte k.region) row.op (memory_before k program s b.product) b.product.core b.product.relations _ refl (b.cut.relations.pairs (is_free_byte k.region) stands.pairs)).gives entry (begun row x) (given rom row x reads).low (given rom row x reads).high (known b) b.means.core e)

@@ -22,7 +22,7 @@ use Rattle.gb_domain.specs.declared.rules.Rules.TheVariants.{Simple, Extended}
 use Rattle.gb_domain.specs.declared.types.Cell.{Cell}
 use Rattle.gb_domain.specs.declared.types.Core.{Core}
 use Rattle.gb_domain.specs.declared.types.Val.{Val}
-use Rattle.gb_domain.specs.Pairs.{ArePairs}
+use Rattle.gb_domain.specs.Pairs.{any_pairs, ArePairs}
 use Rattle.gb_domain.specs.Rules.{IsVal, IsCore}
 use Rattle.gb_domain.specs.Settings.{IsBase}
 use Rattle.gb_domain.specs.Summaries.{Program}
@@ -52,6 +52,7 @@ use Rattle.gb_product.specs.Held.{stack_held}
 use Rattle.gb_product.specs.Below.gb_abs_effects.declared.targets.Target.{Target}
 use Rattle.gb_product.specs.Below.gb_abs_effects.declared.targets.Target.TheVariants as target
 use Rattle.gb_domain.specs.declared.setting.Setting.{Setting}
+use Rattle.gb_domain.specs.Areas.{is_free_byte}
 use Rattle.gb_successors.specs.declared.way.Told.{Told}
 use Rattle.gb_successors.specs.Behind.{told_behind}
 use Rattle.gb_successors.specs.Settled.{branch_outside, told_by, told_at_target, told_successor, relations_left, held_successor}
@@ -67,6 +68,7 @@ use Rattle.gb_successors.specs.declared.stacks.Stack.{Stack}
 use Rattle.gb_successors.specs.declared.stacks.StackMove.{StackMove}
 use Rattle.gb_successors.specs.declared.stacks.StackMove.TheVariants as move
 use Rattle.gb_product.specs.Below.gb_relations.Transfer.{values_of}
+use Rattle.gb_product.specs.Covering.{read_in as bytes_read}
 use Rattle.gb_successors.specs.Behind.{starts, written_core, core_behind, ended}
 use Rattle.gb_successors.specs.Refined.{cut_write, with_carry, refined}
 use Rattle.gb_successors.specs.Sound.{IsOneOf, Stands}
@@ -92,14 +94,14 @@ use Rattle.gb_successors.proofs.StackMarkLaws.{IsCore-marked, IsWrite-marked}
 pub record IsFormed (z : Setting) (region : Region) (t : Successor) : Type 0 where
   pub core : IsCore t.state.core
   pub place : z.rules ≡ Extended → IsPlacedBehind z region t.target t.state
-  pub pairs : ArePairs t.state.relations.pairs
+  pub pairs : ArePairs (is_free_byte region) t.state.relations.pairs
   pub apart : IsFree region t.state.summary
 
 -- so far, places may be among so many items
 record IsFormedAmong (z : Setting) (region : Region) (n : ℕ) (s : AbsState) : Type 0 where
   core : IsCore s.core
   place : IsBytePlaced (stack_held z region n) s.relations.byte.address
-  pairs : ArePairs s.relations.pairs
+  pairs : ArePairs (is_free_byte region) s.relations.pairs
   apart : IsFree region s.summary
 
 -- ---- the core
@@ -179,21 +181,21 @@ IsCore-behind whole k m n w c is h = IsCore-ended (starts w) n _ (IsCore-written
 -- ---- reduced
 
 formed_product :
-    (rules : Rules) (entered : PairBounds) (z : Setting) (region : Region) (n : ℕ) (t : Successor) (p : Product) → reduced rules entered t.state.core t.state.relations ≡ Some p
+    (rules : Rules) (entered : PairBounds) (z : Setting) (region : Region) (n : ℕ) (t : Successor) (p : Product) → reduced rules entered any_pairs t.state.core t.state.relations ≡ Some p
     → IsFormedAmong z region n t.state → IsFormedAmong z region n (with_product t p).state
 formed_product rules entered z region n t p e h =
-    let cut : IsReduced t.state.core t.state.relations p = reduced_cuts rules entered t.state.core t.state.relations (Some p) (sym e) in
+    let cut : IsReduced t.state.core t.state.relations p = reduced_cuts rules entered any_pairs t.state.core t.state.relations (Some p) (sym e) in
     record {
       core = cut.inhabited h.core;
       place = subst (λ (o : OneByte). IsBytePlaced (stack_held z region n) o.address) (sym cut.relations.byte) h.place;
-      pairs = cut.relations.pairs h.pairs;
+      pairs = cut.relations.pairs (is_free_byte region) h.pairs;
       apart = h.apart;
     }
 
 -- ---- settled
 
-pairs_left : (k : Stack) (w : Target) (s : AbsState) → ArePairs s.relations.pairs → ArePairs (relations_left k w s).pairs
-pairs_left k (target.Main a) s h = without_bases_kept s.relations.pairs _ refl h
+pairs_left : (k : Stack) (w : Target) (s : AbsState) → ArePairs (is_free_byte k.region) s.relations.pairs → ArePairs (is_free_byte k.region) (relations_left k w s).pairs
+pairs_left k (target.Main a) s h = without_bases_kept (is_free_byte k.region) s.relations.pairs _ refl h
 pairs_left k (target.At a) s h = h
 pairs_left k (target.Call a) s h = h
 pairs_left k target.Return s h = h
@@ -233,7 +235,7 @@ formed_settled k n cell core t u is h =
 record IsFormedBranch (z : Setting) (region : Region) (n : ℕ) (b : Branch) : Type 0 where
   core : IsCore b.core
   place : IsBytePlaced (stack_held z region n) b.relations.byte.address
-  pairs : ArePairs b.relations.pairs
+  pairs : ArePairs (is_free_byte region) b.relations.pairs
 
 -- of states that are formed, with a place by any rules
 branch_formed :
@@ -243,7 +245,7 @@ branch_formed z region n memory s p b h cut is =
     record {
       core = is.inhabited (cut.inhabited (IsCore-settle s.core h.core));
       place = subst (λ (o : OneByte). IsBytePlaced (stack_held z region n) o.address) (sym (is.relations.byte ∙ cut.relations.byte)) h.place;
-      pairs = is.relations.pairs (cut.relations.pairs h.pairs);
+      pairs = is.relations.pairs (is_free_byte region) (cut.relations.pairs (is_free_byte region) h.pairs);
     }
 
 sp_below :
@@ -292,13 +294,13 @@ parts_core k program rom row next s p cell h = IsCore-behind k.setting.is_whole 
 
 relations_formed :
     (k : Stack) (program : Program) (rom : List ℕ) (row : Row) (a : ℕ) (s : AbsState) (p : Product) (entry : Activation) (base : ℕ) (x : MState) → Stands k.setting rom k.region row a s entry base x → HasBytes row.op
-    → ArePairs p.relations.pairs → IsBytePlaced (stack_held k.setting k.region (length s.items)) p.relations.byte.address
-    → IsBytePlaced (stack_held k.setting k.region (length s.items)) (relations_behind k program rom row.op s p).byte.address × ArePairs (relations_behind k program rom row.op s p).pairs
+    → ArePairs (is_free_byte k.region) p.relations.pairs → IsBytePlaced (stack_held k.setting k.region (length s.items)) p.relations.byte.address
+    → IsBytePlaced (stack_held k.setting k.region (length s.items)) (relations_behind k program rom row.op s p).byte.address × ArePairs (is_free_byte k.region) (relations_behind k program rom row.op s p).pairs
 unfolding relations_behind
 relations_formed k program rom row a s p entry base x stands operands are place = (
   (relations_after_sound k.setting.rules k.setting.is_whole (stack_held k.setting k.region (length s.items)) row.op (sp_bounds k.setting s) p.core.registers (word_in k program rom row.op s p).low p.relations _ refl
       (has_operands row.op operands) (sp_below k.setting s entry base x stands.based stands.means.parts (IsSpWithin-aside s.summary.aside x.processor stands.means.summary.aside) stands.aside) (are.each pairs.Bc).last (are.each pairs.De).last (are.each pairs.Hl).last).placed place,
-  relations_after_kept k.setting.rules k.setting.is_whole (stack_held k.setting k.region (length s.items)) row.op _ p.core.registers (word_in k program rom row.op s p).low p.relations _ refl are,
+  relations_after_kept (is_free_byte k.region) k.setting.rules k.setting.is_whole (stack_held k.setting k.region (length s.items)) row.op _ p.core.registers (word_in k program rom row.op s p).low p.relations _ refl are,
 )
 
 taken_formed :
@@ -344,7 +346,7 @@ formed_taken :
     → (successors_of k program rom row a s).taken ≡ Some t → IsFormed k.setting k.region t
 unfolding successors_of product_before
 formed_taken k program rom row a s t entry base x stands operands h =
-    from (reduced k.setting.rules k.setting.entered (core_settle s.core) s.relations) (reduced_cuts k.setting.rules k.setting.entered (core_settle s.core) s.relations _ refl) h
+    from (reduced k.setting.rules k.setting.entered (bytes_read program s) (core_settle s.core) s.relations) (reduced_cuts k.setting.rules k.setting.entered (bytes_read program s) (core_settle s.core) s.relations _ refl) h
   where
     at_side : (p : Product) → IsReduced (core_settle s.core) s.relations p → (o : Option Branch) → IfSome o (IsSideOf (memory_before k program s p) p.core p.relations)
         → option_and_then (taken_by_side k program rom row (behind_row a row) s) o ≡ Some t → IsFormed k.setting k.region t
@@ -362,7 +364,7 @@ formed_untaken :
     (k : Stack) (program : Program) (rom : List ℕ) (row : Row) (a : ℕ) (s : AbsState) (t : Successor) → IsFormedAmong k.setting k.region (length s.items) s → (successors_of k program rom row a s).not_taken ≡ Some t
     → IsFormed k.setting k.region t
 unfolding successors_of product_before
-formed_untaken k program rom row a s t formed h = from (reduced k.setting.rules k.setting.entered (core_settle s.core) s.relations) (reduced_cuts k.setting.rules k.setting.entered (core_settle s.core) s.relations _ refl) h
+formed_untaken k program rom row a s t formed h = from (reduced k.setting.rules k.setting.entered (bytes_read program s) (core_settle s.core) s.relations) (reduced_cuts k.setting.rules k.setting.entered (bytes_read program s) (core_settle s.core) s.relations _ refl) h
   where
     at_side : (p : Product) → IsReduced (core_settle s.core) s.relations p → (o : Option Branch) → IfSome o (IsSideOf (memory_before k program s p) p.core p.relations)
         → option_and_then (not_taken_by_side k row (behind_row a row) s) o ≡ Some t → IsFormed k.setting k.region t
@@ -377,7 +379,7 @@ formed_untaken k program rom row a s t formed h = from (reduced k.setting.rules 
 
 formed_staying : (k : Stack) (program : Program) (rom : List ℕ) (row : Row) (a : ℕ) (s : AbsState) (t : Successor) → IsFormedAmong k.setting k.region (length s.items) s → (successors_of k program rom row a s).stays ≡ Some t → IsFormed k.setting k.region t
 unfolding successors_of stays
-formed_staying k program rom row a s t formed h = from (product_before k.setting.rules k.setting.entered s) h
+formed_staying k program rom row a s t formed h = from (product_before program k.setting.rules k.setting.entered s) h
   where
     by : (b : Bool) → cond b (Some (staying_successor a s)) None ≡ Some t → IsFormed k.setting k.region t
     by true e = subst (λ (w : Successor). IsFormed k.setting k.region w) (same_Some _ _ e) (staying_formed k.setting k.region a s formed)

@@ -37,6 +37,7 @@ use Rattle.gb_product.specs.Below.gb_abs_effects.Sound.{HasBytes}
 use Rattle.gb_product.specs.Below.gb_abs_effects.Targets.{moves_sp, target_of}
 use Rattle.gb_product.specs.Below.gb_abs_effects.Transfer.{transfer}
 use Rattle.gb_product.proofs.Below.gb_abs_effects_laws.SideLaws.{is_taken-without}
+use Rattle.gb_product.proofs.CoveringLaws.{AreReadIn-means}
 use Rattle.gb_abs_memory.specs.Sound.{view}
 use Rattle.gb_product.specs.declared.parts.Product.{Product}
 use Rattle.gb_product.specs.Below.gb_relations.Sound.{IsBytePlaced}
@@ -67,13 +68,14 @@ use Rattle.gb_successors.proofs.SuccessorLaws.{begun, begun_core, given, effect,
 use Rattle.gb_successors.proofs.SpMoveLaws.{still_stays}
 use Rattle.gb_successors.proofs.Situations.{Situation, next_at, pointer_at, known_at, word_at, transferred, effect_at, move_at, parts_at, given_at, left_at, IsTakenIn}
 use Rattle.gb_successors.proofs.SituationLaws.{write_is}
-use Rattle.gb_successors.proofs.LandingLaws.{part_read, part_write, given_by}
+use Rattle.gb_successors.proofs.LandingLaws.{part_read, part_write, given_by, pairs_behind}
 use Rattle.gb_successors.proofs.LeadingLaws.{target_is, move_is, around_at}
 use Rattle.gb_successors.proofs.SimpleLaws.{behind_row}
 use Rattle.gb_successors.proofs.LedLaws.{IsAllowedAt, done_at}
-use Rattle.gb_successors.proofs.PossibleLaws.{possible, pairs_behind, bytes_behind_it}
+use Rattle.gb_successors.proofs.PossibleLaws.{possible, bytes_behind_it}
 use Rattle.gb_successors.proofs.ExtendedWayLaws.{before_of, Leads-narrowed, taken_way, reduced_way}
 use Rattle.gb_domain.specs.declared.types.Val.{Val}
+use Rattle.gb_domain.specs.Areas.{is_free_byte}
 use Rattle.gb_successors.specs.StackMark.{marked_write}
 use Rattle.gb_successors.specs.Stacks.{address_below}
 use Rattle.gb_successors.proofs.Situations.{marks_at}
@@ -208,7 +210,7 @@ repeats_widely :
     → LeadsBy k.setting k.region ranges (length s.items) (successors_of k entry.program rom row a s).taken entry base x (outside (halt_bug (within rom x)))
 unfolding taken_successor with_cell_if
 repeats_widely k rom row a s ranges entry base x extended below stands halt off mark =
-    let before = before_of k s entry (begun row x) stands.core stands.pairs stands.within (begun_core row x s.core entry stands.means.parts.core) (related_begun row x s.relations entry stands.means.related) in
+    let before = before_of k entry.program s entry (begun row x) stands.core stands.pairs stands.within (AreReadIn-means s entry base x stands.means) (begun_core row x s.core entry stands.means.parts.core) (related_begun row x s.relations entry stands.means.related) in
     let p : Product = before.product in
     let c : Situation = record {
       stack = k;
@@ -237,7 +239,7 @@ repeats_widely k rom row a s ranges entry base x extended below stands halt off 
       means = before.means.core;
       related = before.means.related;
       core = before.cut.inhabited (IsCore-settle s.core stands.core);
-      pairs = before.cut.relations.pairs stands.pairs;
+      pairs = before.cut.relations.pairs (is_free_byte k.region) stands.pairs;
       place = subst (λ (o : OneByte). IsBytePlaced (stack_held k.setting k.region (length s.items)) o.address) (sym before.cut.relations.byte) stands.place;
       taken = is_taken-without row.op (advanced x.processor row) (given_at c).low (given_at c).high (ap Flags.condition_of halt.op_is);
     } in

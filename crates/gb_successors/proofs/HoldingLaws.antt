@@ -14,6 +14,7 @@ use Rattle.gb_domain.specs.declared.types.Range.{Range}
 use Rattle.gb_domain.specs.Areas.{IsRegion, meets}
 use Rattle.gb_domain.specs.Settings.{IsBase}
 use Rattle.gb_domain.specs.Types.{AbsState}
+use Rattle.gb_domain.specs.Pairs.{any_pairs}
 use Rattle.gb_product.specs.Below.gb_abs.Meaning.{Activation, MeansParts, is_located}
 use Rattle.gb_product.specs.Below.gb_abs.Cells.{ArePlaced}
 use Rattle.gb_product.specs.Below.gb_abs.Span.{one}
@@ -265,12 +266,12 @@ Leads-settled k ranges o core t entry base x y is right h =
 
 reduced_told : (rules : Rules) (entered : PairBounds) (q : Option Told) (core : Core) (t : Successor) → reduced_successor rules entered (with_told q core t) ≡ option_map (with_told q core) (reduced_successor rules entered t)
 unfolding reduced_successor
-reduced_told rules entered None core t = by (reduced rules entered t.state.core t.state.relations)
+reduced_told rules entered None core t = by (reduced rules entered any_pairs t.state.core t.state.relations)
   where
     by : (o : Option Product) → option_map (with_product (with_told None core t)) o ≡ option_map (with_told None core) (option_map (with_product t) o)
     by None = refl
     by (Some p) = refl
-reduced_told rules entered (Some u) core t = by (reduced rules entered t.state.core t.state.relations)
+reduced_told rules entered (Some u) core t = by (reduced rules entered any_pairs t.state.core t.state.relations)
   where
     by : (o : Option Product) → option_map (with_product (with_told (Some u) core t)) o ≡ option_map (with_told (Some u) core) (option_map (with_product t) o)
     by None = refl
@@ -305,16 +306,16 @@ settled_count k o core t = told_count (told_at_target t.target o) core t.state
 
 -- ---- by what is left where it is reduced
 
-pub reduced_is : (rules : Rules) (entered : PairBounds) (t : Successor) (p : Product) → reduced rules entered t.state.core t.state.relations ≡ Some p → reduced_successor rules entered t ≡ Some (with_product t p)
+pub reduced_is : (rules : Rules) (entered : PairBounds) (t : Successor) (p : Product) → reduced rules entered any_pairs t.state.core t.state.relations ≡ Some p → reduced_successor rules entered t ≡ Some (with_product t p)
 unfolding reduced_successor
 reduced_is rules entered t p e = ap (option_map (with_product t)) e
 
-pub reduced_none : (rules : Rules) (entered : PairBounds) (t : Successor) → reduced rules entered t.state.core t.state.relations ≡ None → reduced_successor rules entered t ≡ None
+pub reduced_none : (rules : Rules) (entered : PairBounds) (t : Successor) → reduced rules entered any_pairs t.state.core t.state.relations ≡ None → reduced_successor rules entered t ≡ None
 unfolding reduced_successor
 reduced_none rules entered t e = ap (option_map (with_product t)) e
 
 pub settled_none :
-    (k : Stack) (cell : Option Cell) (core : Core) (t : Successor) → k.setting.rules ≡ Extended → reduced k.setting.rules k.setting.entered t.state.core t.state.relations ≡ None → settled_way k cell core t ≡ None
+    (k : Stack) (cell : Option Cell) (core : Core) (t : Successor) → k.setting.rules ≡ Extended → reduced k.setting.rules k.setting.entered any_pairs t.state.core t.state.relations ≡ None → settled_way k cell core t ≡ None
 unfolding settled_way
 settled_none k cell core t extended e =
     ap (λ r. held_way r k (reduced_successor k.setting.rules k.setting.entered (told_successor (told_by r k cell) core t))) extended
@@ -331,23 +332,23 @@ same_way v w e = cc
 -- what holds of it by the rules of versions 1 and 2, and by those of version 3, holds
 pub settled_cases :
     (P : Successor → Type 0) (k : Stack) (cell : Option Cell) (core : Core) (t u : Successor) → settled_way k cell core t ≡ Some u
-    → ((p : Product) → reduced k.setting.rules k.setting.entered t.state.core t.state.relations ≡ Some p → k.setting.rules ≡ Extended → P (held_successor k (told_successor (told_by Extended k cell) core (with_product t p))))
-    → ((p : Product) → reduced k.setting.rules k.setting.entered t.state.core t.state.relations ≡ Some p → k.setting.rules ≡ Simple → P (with_product t p))
+    → ((p : Product) → reduced k.setting.rules k.setting.entered any_pairs t.state.core t.state.relations ≡ Some p → k.setting.rules ≡ Extended → P (held_successor k (told_successor (told_by Extended k cell) core (with_product t p))))
+    → ((p : Product) → reduced k.setting.rules k.setting.entered any_pairs t.state.core t.state.relations ≡ Some p → k.setting.rules ≡ Simple → P (with_product t p))
     → P u
 settled_cases P k cell core t u is extended simple = by_rules k.setting.rules refl
   where
-    widely : (o : Option Product) → reduced k.setting.rules k.setting.entered t.state.core t.state.relations ≡ o → k.setting.rules ≡ Extended → P u
+    widely : (o : Option Product) → reduced k.setting.rules k.setting.entered any_pairs t.state.core t.state.relations ≡ o → k.setting.rules ≡ Extended → P u
     widely None e r = absurd (no_way u (sym (settled_none k cell core t r e) ∙ is))
     widely (Some p) e r =
         subst P (same_way _ u (sym (settled_is k cell core t (with_product t p) r (reduced_is k.setting.rules k.setting.entered t p e) refl) ∙ is)) (extended p e r)
 
-    simply : (o : Option Product) → reduced k.setting.rules k.setting.entered t.state.core t.state.relations ≡ o → k.setting.rules ≡ Simple → P u
+    simply : (o : Option Product) → reduced k.setting.rules k.setting.entered any_pairs t.state.core t.state.relations ≡ o → k.setting.rules ≡ Simple → P u
     simply None e r = absurd (no_way u (sym (reduced_none k.setting.rules k.setting.entered t e) ∙ (sym (settled_simply k cell core t r) ∙ is)))
     simply (Some p) e r = subst P (same_way _ u (sym (reduced_is k.setting.rules k.setting.entered t p e) ∙ (sym (settled_simply k cell core t r) ∙ is))) (simple p e r)
 
     by_rules : (r : Rules) → k.setting.rules ≡ r → P u
-    by_rules Extended r = widely (reduced k.setting.rules k.setting.entered t.state.core t.state.relations) refl r
-    by_rules Simple r = simply (reduced k.setting.rules k.setting.entered t.state.core t.state.relations) refl r
+    by_rules Extended r = widely (reduced k.setting.rules k.setting.entered any_pairs t.state.core t.state.relations) refl r
+    by_rules Simple r = simply (reduced k.setting.rules k.setting.entered any_pairs t.state.core t.state.relations) refl r
 
 same_summary : (o : Option Told) (core : Core) (s : AbsState) → (told_behind o core s).summary ≡ s.summary
 same_summary None core s = refl

@@ -13,7 +13,7 @@ use Rattle.gb_ops.specs.Play.{MState, within}
 use Rattle.gb_domain.specs.declared.setting.Setting.{Setting}
 use Rattle.std.proofs.lemmas.Bool.{and_parts}
 use Rattle.std.proofs.lemmas.Bool.Decides.{nat_tests}
-use Rattle.gb_domain.specs.Areas.{are_in_ram, meets, is_item, is_place_at}
+use Rattle.gb_domain.specs.Areas.{are_in_ram, meets, is_item, is_place_at, is_free_byte}
 use Rattle.gb_domain.specs.Settings.{IsBase}
 use Rattle.gb_product.specs.Held.{stack_held}
 use Rattle.gb_product.proofs.HeldLaws.{IsAmongItems, item_among}
@@ -57,9 +57,10 @@ use Rattle.gb_successors.proofs.Situations.{Situation, next_at, pointer_at, read
 use Rattle.gb_successors.proofs.SituationLaws.{AreGiven, values_hold, said_begun, follows, related_behind, read_holds, read_has, read_placed, transferred_is, write_is, core_is, IsWrite-cut, sp_below}
 use Rattle.gb_successors.specs.Refined.{with_carry}
 use Rattle.gb_successors.proofs.RelatedLaws.{has_operands}
-use Rattle.gb_product.proofs.Below.gb_relations_laws.TransferLaws.{relations_after_sound}
+use Rattle.gb_product.proofs.Below.gb_relations_laws.TransferLaws.{relations_after_sound, relations_after_kept}
 use Rattle.gb_product.specs.Below.gb_abs.Located.{sp_bounds}
 use Rattle.gb_domain.specs.declared.pairs.WordPair.TheVariants as pairs
+use Rattle.gb_domain.specs.Pairs.{ArePairs}
 use Rattle.gb_successors.specs.StackMark.{marked_core}
 use Rattle.gb_successors.proofs.StackMarkLaws.{IsWrite-marked}
 use Rattle.gb_successors.proofs.Situations.{marks_at}
@@ -187,10 +188,15 @@ place_behind c k =
     (relations_after_sound c.stack.setting.rules c.stack.setting.is_whole (held_at c) c.row.op (sp_bounds c.stack.setting c.state) c.product.core.registers (word_at c).low c.product.relations _ refl
     (has_operands c.row.op k.operands) (sp_below c k) (k.pairs.each pairs.Bc).last (k.pairs.each pairs.De).last (k.pairs.each pairs.Hl).last).placed k.place
 
+pub pairs_behind : (c : Situation) → IsTakenIn c → ArePairs (is_free_byte c.stack.region) (related_at c).pairs
+unfolding relations_behind
+pairs_behind c k =
+    relations_after_kept (is_free_byte c.stack.region) c.stack.setting.rules c.stack.setting.is_whole (held_at c) c.row.op _ c.product.core.registers (word_at c).low c.product.relations _ refl k.pairs
+
 related_left : (c : Situation) → IsTakenIn c → LoadsAt c → relations.Writes (held_at c) (acted_at c).write (ram_at c.machine.storage) (ram_at (stored_at c).storage)
     → AreRelated (related_at c) c.entry (left_at c)
 related_left c k l w =
-    HoldRelations-ram (held_at c) _ _ _ (ram_at (stored_at c).storage) (peek (left_at c).storage) _ (place_behind c k)
+    HoldRelations-ram (held_at c) c.stack.region _ _ _ (ram_at (stored_at c).storage) (peek (left_at c).storage) _ (place_behind c k) (pairs_behind c k)
     (λ b ram. passed_peek (stored_at c) c.row.cycles b ∙ sym (ram_is (stored_at c).storage b ram))
     (related_behind c (given_at c).low (given_at c).high (ram_at (stored_at c).storage) k (given_by c k l) w)
 

@@ -50,7 +50,7 @@ use Rattle.gb_successors.specs.Successors.{taken_move, taken_parts}
 use Rattle.gb_successors.proofs.AroundLaws.{around_top, top_none, located-same}
 use Rattle.gb_product.proofs.Below.gb_abs_laws.LocationLaws.{is_located-of}
 use Rattle.gb_product.specs.Below.gb_abs.Located.{IsSpWithin}
-use Rattle.gb_product.specs.Meaning.{entered_with}
+use Rattle.gb_product.specs.Meaning.{beside}
 use Rattle.gb_successors.proofs.AccessLaws.{clear_stack, closed_same, limited_same, Loads}
 use Rattle.gb_successors.proofs.PlainLaws.{IsPlainRead}
 use Rattle.gb_successors.proofs.SuccessorLaws.{begun_pc, begun_sp}
@@ -105,7 +105,7 @@ hl_within : (c : Situation) → IsTakenIn c → pointer_of c.row.op ≡ Some wor
 unfolding pair_value
 hl_within c k e =
     subst (λ p. PointsWithin (pointer_at c) p (begun_at c).processor.registers) e
-    ((pointer_bounds_sound c.stack.setting.rules c.row.op c.product.core.registers c.product.relations.pairs _ refl).word (entered_with c.entry) (begun_at c).processor.registers (values_hold c k))
+    ((pointer_bounds_sound c.stack.setting.rules c.row.op c.product.core.registers c.product.relations.pairs _ refl).word (beside c.entry (begun_at c)) (begun_at c).processor.registers (values_hold c k))
 
 pub goes_at : (c : Situation) → IsTakenIn c → LoadsAt c → GoesTo c.stack.setting.is_main (parts_at c).target c.entry (acted_at c).processor.pc
 unfolding pointer_of

@@ -20,6 +20,7 @@ use Rattle.gb_domain.specs.declared.types.Val.{Val}
 use Rattle.gb_domain.specs.declared.types.Core.{Core}
 use Rattle.gb_domain.specs.declared.types.Halves.{Halves}
 use Rattle.gb_domain.specs.Types.{AbsState}
+use Rattle.gb_domain.specs.Areas.{is_free_byte}
 use Rattle.gb_product.specs.Below.gb_vals.Vals.{single}
 use Rattle.gb_product.specs.Below.gb_abs.Cells.{ArePlaced}
 use Rattle.gb_product.specs.Below.gb_abs.Located.{sp_halves}
@@ -93,7 +94,7 @@ plain_at : (c : Situation) → IsTakenIn c → moves_sp c.row.op ≡ false → I
 plain_at c k still =
     subst IsPlainWrite (sym (write_is c))
     (IsPlainWrite-marked _ (marks_at c)
-    (IsPlainWrite-cut (pointer_at c) (known_at c) (transferred c).write (pointer_below c.stack.setting.rules c.row.op c.product.core.registers c.product.relations.pairs k.pairs)
+    (IsPlainWrite-cut (pointer_at c) (known_at c) (transferred c).write (pointer_below (is_free_byte c.stack.region) c.stack.setting.rules c.row.op c.product.core.registers c.product.relations.pairs k.pairs)
     (IsPlainWrite-transfer c.stack.setting.is_whole c.row.op (next_at c) (sp_halves c.stack.setting c.state) c.product.core (word_at c).low (word_at c).high still k.operands k.core)))
 
 -- ---- by what it does to the stack

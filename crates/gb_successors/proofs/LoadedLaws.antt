@@ -58,7 +58,7 @@ use Rattle.gb_product.specs.Below.gb_summaries.Below.gb_ram_bounds.declared.addr
 use Rattle.gb_product.specs.Below.gb_summaries.Below.gb_ram_bounds.Addresses.{joined_over}
 use Rattle.gb_product.specs.Below.gb_pairs.Meaning.{AreBytes}
 use Rattle.gb_product.specs.Covering.{uncopied, byte_in}
-use Rattle.gb_product.specs.Meaning.{entered_with, IsSummarized}
+use Rattle.gb_product.specs.Meaning.{beside, IsSummarized}
 use Rattle.gb_product.proofs.ByteLaws.{IsVal-uncopied, IsVal-byte_in, IsOfBytes-byte_in}
 use Rattle.gb_product.proofs.CoveringLaws.{Holds-uncopied, Holds-byte_in_state}
 use Rattle.gb_product.proofs.Below.gb_abs_effects_laws.CoreLaws.{In-from}
@@ -159,7 +159,7 @@ Reads-loaded m (machine_read.Word a) free h = tt
 -- the byte at an address of RAM, or of its echo
 Holds-told :
     (rom : List ℕ) (s : AbsState) (v : Values) (entry : Activation) (base : ℕ) (x : MState) (a : ℕ) (reads : List ℕ)
-    → MeansParts s entry base x → IsSummarized s entry x → HoldValues v (entered_with entry) x.processor.registers
+    → MeansParts s entry base x → IsSummarized s entry x → HoldValues v (beside entry x) x.processor.registers
     → load_faults (view rom x false) (machine_read.Byte a) ≡ no_faults → is_ram (home_of a) ≡ true
     → Holds (told_at entry.program v s a) entry (loaded (view rom x false) (machine_read.Byte a) reads).low
 Holds-told rom s v entry base x a reads means said values faults ram =
@@ -219,7 +219,7 @@ Holds-table rom s low span entry base x a reads (Some bank) e c means ie byte i 
 
 Holds-joined :
     (region : Region) (rom : List ℕ) (s : AbsState) (v : Values) (low : LowBits) (span : Span) (entry : Activation) (base : ℕ) (x : MState) (a : ℕ) (reads : List ℕ)
-    → IsRom rom → MeansParts s entry base x → IsSummarized s entry x → HoldValues v (entered_with entry) x.processor.registers → IsVal s.core.ie → slice_index reads 0 ≤ 255
+    → IsRom rom → MeansParts s entry base x → IsSummarized s entry x → HoldValues v (beside entry x) x.processor.registers → IsVal s.core.ie → slice_index reads 0 ≤ 255
     → IsIn span a → a < 65536 → Has low a → load_faults (view rom x false) (machine_read.Byte a) ≡ no_faults
     → Holds (joined_in region entry.program rom v low s span) entry (loaded (view rom x false) (machine_read.Byte a) reads).low
 unfolding joined_in
@@ -250,7 +250,7 @@ Holds-joined region rom s v low span entry base x a reads c means said values ie
 
 Holds-loaded_in :
     (z : Setting) (region : Region) (rom : List ℕ) (s : AbsState) (v : Values) (low : LowBits) (span : Span) (entry : Activation) (base : ℕ) (x : MState) (a : ℕ) (reads : List ℕ)
-    → IsRom rom → MeansParts s entry base x → IsSummarized s entry x → HoldValues v (entered_with entry) x.processor.registers → IsVal s.core.ie → slice_index reads 0 ≤ 255
+    → IsRom rom → MeansParts s entry base x → IsSummarized s entry x → HoldValues v (beside entry x) x.processor.registers → IsVal s.core.ie → slice_index reads 0 ≤ 255
     → IsIn span a → a < 65536 → Has low a → load_faults (view rom x false) (machine_read.Byte a) ≡ no_faults
     → Holds (loaded_val z rom s span) entry (loaded (view rom x false) (machine_read.Byte a) reads).low
     → Holds (loaded_in z region entry.program rom v low s span) entry (loaded (view rom x false) (machine_read.Byte a) reads).low
@@ -285,7 +285,7 @@ HasRead low m = Unit {0}
 -- what is read, where cells alone stand for it
 pub Loads-by :
     (r : Rules) (z : Setting) (region : Region) (rom : List ℕ) (s : AbsState) (v : Values) (low : LowBits) (entry : Activation) (base : ℕ) (x : MState) (sp : ℕ) (what : AbsRead) (m : Read) (reads : List ℕ)
-    → IsRom rom → MeansParts s entry base x → IsSummarized s entry x → HoldValues v (entered_with entry) x.processor.registers → IsVal s.core.ie → slice_index reads 0 ≤ 255
+    → IsRom rom → MeansParts s entry base x → IsSummarized s entry x → HoldValues v (beside entry x) x.processor.registers → IsVal s.core.ie → slice_index reads 0 ≤ 255
     → IsPlainRead what → IsReadAt what → HoldsRead what sp m → HasRead low m
     → Loads (read_word z rom s what) entry (view rom x false) m reads → Loads (word_by r z region entry.program rom v low s what) entry (view rom x false) m reads
 unfolding read_word
@@ -310,7 +310,7 @@ record IsByteRead (known : Val) (entry : Activation) (m : View) (a : ℕ) (reads
 
 byte_of_word :
     (z : Setting) (region : Region) (rom : List ℕ) (s : AbsState) (v : Values) (span : Span) (entry : Activation) (base : ℕ) (x : MState) (a : ℕ) (reads : List ℕ)
-    → IsRom rom → IsBase z base → MeansParts s entry base x → IsSummarized s entry x → HoldValues v (entered_with entry) x.processor.registers → IsVal s.core.ie → slice_index reads 0 ≤ 255
+    → IsRom rom → IsBase z base → MeansParts s entry base x → IsSummarized s entry x → HoldValues v (beside entry x) x.processor.registers → IsVal s.core.ie → slice_index reads 0 ≤ 255
     → IsIn span a → a < 65536 → meets_closed_ram rom s.core span ≡ false → is_limited s.core span ≡ false
     → IsByteRead (loaded_in z region entry.program rom v no_low_bits s span) entry (view rom x false) a reads
 unfolding load_faults access_faults loaded Machine.read_at
@@ -343,7 +343,7 @@ rest_byte m a reads first second = by (is_free m a) reads first second
 -- a word at one of several addresses
 pub Loads-word :
     (z : Setting) (region : Region) (rom : List ℕ) (s : AbsState) (v : Values) (low : LowBits) (span : Span) (entry : Activation) (base : ℕ) (x : MState) (a : ℕ) (reads : List ℕ)
-    → IsRom rom → IsBase z base → MeansParts s entry base x → IsSummarized s entry x → HoldValues v (entered_with entry) x.processor.registers → IsVal s.core.ie
+    → IsRom rom → IsBase z base → MeansParts s entry base x → IsSummarized s entry x → HoldValues v (beside entry x) x.processor.registers → IsVal s.core.ie
     → slice_index reads 0 ≤ 255 → slice_index reads 1 ≤ 255 → IsIn span a → span.last < 65536
     → reads_closed_ram rom s.core (read.Word span) ≡ false → is_read_limited region s.core (read.Word span) ≡ false
     → Loads (word_by Extended z region entry.program rom v low s (read.Word span)) entry (view rom x false) (machine_read.Word a) reads

@@ -31,7 +31,7 @@ use Rattle.gb_domain.specs.declared.setting.Setting.{Setting}
 use Rattle.gb_domain.specs.declared.types.Val.{Val}
 use Rattle.gb_domain.specs.declared.types.Core.{Core}
 use Rattle.gb_domain.specs.declared.types.Halves.{Halves}
-use Rattle.gb_domain.specs.Pairs.{ArePairs}
+use Rattle.gb_domain.specs.Pairs.{ArePairs, any_pairs}
 use Rattle.gb_domain.specs.Summaries.{Program}
 use Rattle.gb_domain.specs.Types.{AbsState}
 use Rattle.gb_product.specs.Below.gb_vals.Meaning.{In}
@@ -50,7 +50,7 @@ use Rattle.gb_product.specs.Below.gb_abs_effects.declared.reads.AbsRead.TheVaria
 use Rattle.gb_product.specs.Below.gb_abs_effects.declared.writes.AbsWrite.{AbsWrite}
 use Rattle.gb_product.specs.Below.gb_abs_effects.declared.writes.AbsWrite.TheVariants as write
 use Rattle.gb_product.specs.Below.gb_abs_effects.Sides as Flags
-use Rattle.gb_product.specs.Below.gb_abs_effects.Sound.{HoldsRead, IsReadAt}
+use Rattle.gb_product.specs.Below.gb_abs_effects.Sound.{HoldsRead, IsReadAt, HoldsWrite}
 use Rattle.gb_product.proofs.Below.gb_abs_effects_laws.CoreLaws.{In-from, byte-of}
 use Rattle.gb_product.proofs.Below.gb_abs_effects_laws.SideLaws.{is_taken-without, is_taken-with}
 use Rattle.gb_abs_memory.specs.declared.store.Area.{Area}
@@ -59,7 +59,7 @@ use Rattle.gb_abs_memory.specs.Access.{meets_closed_ram, may_be_closed, is_limit
 use Rattle.gb_abs_memory.specs.Shown.{known_bank}
 use Rattle.gb_abs_memory.specs.Sound.{view}
 use Rattle.gb_product.specs.declared.parts.Product.{Product}
-use Rattle.gb_product.specs.Below.gb_pairs.Meaning.{AreBytes}
+use Rattle.gb_product.specs.Below.gb_pairs.Meaning.{AreBytes, Beside}
 use Rattle.gb_product.specs.Below.gb_pairs.Meaning as pair_meaning
 use Rattle.gb_product.specs.Below.gb_pairs.declared.values.Values.{Values}
 use Rattle.gb_product.specs.Below.gb_pairs.Reduced as Pairs
@@ -67,10 +67,9 @@ use Rattle.gb_product.specs.Below.gb_pairs.Sound.{HoldsIn, AreWithin}
 use Rattle.gb_product.specs.Below.gb_relations.Places.{behind_echo}
 use Rattle.gb_product.specs.Below.gb_relations.Sound as relations
 use Rattle.gb_product.specs.Below.gb_relations.Transfer.{values_of}
-use Rattle.gb_product.specs.Meaning.{entered_with, IsSummarized}
+use Rattle.gb_product.specs.Meaning.{entered_with, IsSummarized, beside}
 use Rattle.gb_product.specs.Reduced.{product_of, with_values_if, reduced}
 use Rattle.gb_product.proofs.Below.gb_relations_laws.MachineLaws.{effect_of-bytes}
-use Rattle.gb_product.proofs.Below.gb_relations_laws.TransferLaws.{relations_after_kept}
 use Rattle.gb_product.proofs.Below.gb_relations_laws.Below.gb_pairs_laws.ReducedLaws as pair_laws
 use Rattle.std.proofs.lemmas.Option.{same_Some}
 use Rattle.gb_ops.specs.Memory.{Storage}
@@ -90,16 +89,16 @@ use Rattle.gb_successors.specs.Refused.{reads_closed_ram, is_read_limited}
 use Rattle.std.specs.Prelude.{is_some}
 use Rattle.gb_successors.specs.Sound.{IsReady}
 use Rattle.gb_successors.specs.Stacks.{moved_core}
-use Rattle.gb_successors.specs.Successors.{relations_behind}
 use Rattle.gb_successors.proofs.AccessLaws.{Loads-read}
 use Rattle.gb_successors.proofs.LoadedLaws.{Reads-loaded, HasRead, Loads-by}
-use Rattle.gb_successors.proofs.RamLaws.{ram_at, differs}
+use Rattle.gb_successors.proofs.RamLaws.{ram_at, ram_small, any_read, differs}
 use Rattle.gb_successors.proofs.RelatedLaws.{has_operands}
 use Rattle.gb_successors.proofs.StackWayLaws.{is_word_read, word_top, top_held}
 use Rattle.gb_successors.proofs.Situations.{Situation, read_at, bits_at, word_at, effect_at, move_at, parts_at, begun_at, given_at, effect_by, IsTakenIn, means_begun, related_at, held_at}
 use Rattle.gb_domain.specs.declared.places.StackBytes.{StackBytes}
+use Rattle.gb_domain.specs.Areas.{is_free_byte}
 use Rattle.gb_successors.proofs.SituationLaws.{AreGiven, values_hold, said_begun, read_has, follows, related_behind, read_holds, read_placed, is_word_at, bytes_begun}
-use Rattle.gb_successors.proofs.LandingLaws.{few_words, state_is}
+use Rattle.gb_successors.proofs.LandingLaws.{few_words, state_is, pairs_behind}
 
 -- ---- bytes that its reads might have given
 
@@ -148,6 +147,13 @@ means_rest c k =
 said_rest : (c : Situation) → IsTakenIn c → IsSummarized (with_core c.state (core_at_rest c.product.core)) c.entry (at_rest (begun_at c))
 unfolding peek
 said_rest c k = said_begun c k
+
+-- so registers and pairs hold
+values_rest :
+    (c : Situation) → IsTakenIn c
+    → pair_meaning.Holds (values_of c.product.core.registers c.product.relations.pairs) (beside c.entry (at_rest (begun_at c))) (begun_at c).processor.registers
+unfolding peek
+values_rest c k = values_hold c k
 
 -- RAM is the same
 ram_rest : (x : MState) (r : Read) (l : ℕ) → relations.Reads r (ram_at (at_rest x).storage) l → relations.Reads r (ram_at x.storage) l
@@ -358,7 +364,7 @@ given_byte c span k e =
         let core : Core = core_at_rest c.product.core in
         let l =
         Loads-by Extended c.stack.setting c.stack.region c.rom (with_core c.state core) v (bits_at c) c.entry c.base x (begun_at c).processor.sp (read.Byte span) (machine_read.Byte a) c.reads
-        k.stands.cartridge (means_rest c k) (said_rest c k) (values_hold c k) k.core.ie k.byte (subst IsReadAt e (read_placed c k)) (subst IsReadAt e (read_placed c k)) h (subst (HasRead (bits_at c)) is (read_has c k))
+        k.stands.cartridge (means_rest c k) (said_rest c k) (values_rest c k) k.core.ie k.byte (subst IsReadAt e (read_placed c k)) (subst IsReadAt e (read_placed c k)) h (subst (HasRead (bits_at c)) is (read_has c k))
         (Loads-read c.stack.setting c.rom c.stack.region (with_core c.state core) c.entry c.base x c.reads (begun_at c).processor.sp (read.Byte span) (machine_read.Byte a)
         k.stands.cartridge k.stands.based (means_rest c k) k.core.ie k.byte (subst IsReadAt e (read_placed c k)) h (closed_rest c.rom c.product.core span ∙ closed) (not_limited c.stack.region c.product.core span)) in
         of_byte a (loaded (view c.rom x false) (machine_read.Byte a) c.reads).low is
@@ -383,7 +389,7 @@ byte_given c span a k i small = by (reads_closed_ram c.rom c.product.core (read.
         let core : Core = core_at_rest c.product.core in
         let l =
         Loads-by Extended c.stack.setting c.stack.region c.rom (with_core c.state core) v no_low_bits c.entry c.base x (begun_at c).processor.sp (read.Byte span) (machine_read.Byte a) c.reads
-        k.stands.cartridge (means_rest c k) (said_rest c k) (values_hold c k) k.core.ie k.byte small small i (Has-none a)
+        k.stands.cartridge (means_rest c k) (said_rest c k) (values_rest c k) k.core.ie k.byte small small i (Has-none a)
         (Loads-read c.stack.setting c.rom c.stack.region (with_core c.state core) c.entry c.base x c.reads (begun_at c).processor.sp (read.Byte span) (machine_read.Byte a)
         k.stands.cartridge k.stands.based (means_rest c k) k.core.ie k.byte small i (closed_rest c.rom c.product.core span ∙ closed) (not_limited c.stack.region c.product.core span)) in (
           (loaded (view c.rom x false) (machine_read.Byte a) c.reads).low,
@@ -503,6 +509,22 @@ Writes-after held (machine_write.Byte a n) memory =
 Writes-after held (machine_write.Word a w) memory = λ b ne more. refl
 Writes-after held (machine_write.Push sp w) memory = λ b out. refl
 
+-- what it writes are bytes
+after_small :
+    (w : AbsWrite) (entry : Activation) (sp : ℕ) (m : Write) (memory : ℕ → ℕ)
+    → HoldsWrite w entry sp m → ((a : ℕ) → memory a < 256) → (a : ℕ) → after_write m memory a < 256
+after_small w entry sp machine_write.Nothing memory h small b = small b
+after_small w entry sp (machine_write.Word a n) memory h small b = small b
+after_small w entry sp (machine_write.Push a n) memory h small b = small b
+after_small (write.Byte span v) entry sp (machine_write.Byte a n) memory h small b = by (b == a)
+  where
+    by : (c : Bool) → cond c n (memory b) < 256
+    by true = let byte : n ≤ 255 = h.2 in omega arith
+    by false = small b
+after_small write.Nothing entry sp (machine_write.Byte a n) memory h small b = absurd h
+after_small (write.Word c low high) entry sp (machine_write.Byte a n) memory h small b = absurd h
+after_small (write.Push high low) entry sp (machine_write.Byte a n) memory h small b = absurd h
+
 -- the core behind the instruction has the registers of its effect, without origins at most
 In-stored : (whole : Bool) (a : Option Area) (k : Kind) (span : Span) (v : Val) (core : Core) → (stored_core_in whole a k span v core).registers ≡ core.registers
 In-stored whole (Some (area.Controller (Some r))) k span v core = refl
@@ -555,23 +577,20 @@ In-behind whole k m cycles w core r n h =
 -- reducing leaves something
 pub record IsSome (rules : Rules) (entered : PairBounds) (core : Core) (r : Relations) : Type 0 where
   pub product : Product
-  pub is : reduced rules entered core r ≡ Some product
+  pub is : reduced rules entered any_pairs core r ≡ Some product
 
 pub some_reduced :
-    (rules : Rules) (entered : PairBounds) (core : Core) (r : Relations) (was x : Registers ℕ)
-    → ArePairs r.pairs → AreWithin entered was → AreBytes x → pair_meaning.Holds (values_of core.registers r.pairs) was x → IsSome rules entered core r
+    (may_be : ℕ → Bool) (rules : Rules) (entered : PairBounds) (core : Core) (r : Relations) (was : Beside) (x : Registers ℕ)
+    → ArePairs may_be r.pairs → AreWithin entered was.entered → ((a : ℕ) → was.memory a < 256) → AreBytes x → pair_meaning.Holds (values_of core.registers r.pairs) was x → IsSome rules entered core r
 unfolding reduced
-some_reduced Simple entered core r was x are within bytes h = record { product = product_of core r; is = refl }
-some_reduced Extended entered core r was x are within bytes h =
-    by (Pairs.reduced entered (values_of core.registers r.pairs)) refl ((pair_laws.reduced_sound entered (values_of core.registers r.pairs) _ refl are).gives was x within bytes h)
+some_reduced may_be Simple entered core r was x are within small bytes h = record { product = product_of core r; is = refl }
+some_reduced may_be Extended entered core r was x are within small bytes h =
+    by (Pairs.reduced entered any_pairs (values_of core.registers r.pairs)) refl
+    ((pair_laws.reduced_sound may_be entered any_pairs (values_of core.registers r.pairs) _ refl are).gives was x within (any_read r.pairs was.memory small) bytes h)
   where
-    by : (o : Option Values) → Pairs.reduced entered (values_of core.registers r.pairs) ≡ o → HoldsIn o was x → IsSome Extended entered core r
+    by : (o : Option Values) → Pairs.reduced entered any_pairs (values_of core.registers r.pairs) ≡ o → HoldsIn o was x → IsSome Extended entered core r
     by None e h = absurd h
     by (Some v) e h = record { product = _; is = ap (with_values_if core r) e }
-
-pub pairs_behind : (c : Situation) → IsTakenIn c → ArePairs (related_at c).pairs
-unfolding relations_behind
-pairs_behind c k = relations_after_kept c.stack.setting.rules c.stack.setting.is_whole (held_at c) c.row.op _ c.product.core.registers (word_at c).low c.product.relations _ refl k.pairs
 
 pub bytes_behind_it : (c : Situation) (l h : ℕ) → IsTakenIn c → AreGiven c l h → AreBytes (effect_by c l h).processor.registers
 bytes_behind_it c l h k g =
@@ -587,7 +606,10 @@ possible c k =
     let e : Effect = effect_by c g.low g.high in
     let f = follows c g.low g.high k g.given in
     let behind_it = related_behind c g.low g.high (after_write e.write (ram_at c.machine.storage)) k g.given (Writes-after (held_at c) e.write (ram_at c.machine.storage)) in
-    some_reduced c.stack.setting.rules c.stack.setting.entered (parts_at c).state.core _ (entered_with c.entry) e.processor.registers (pairs_behind c k) k.stands.within (bytes_behind_it c g.low g.high k g.given)
+    some_reduced (is_free_byte c.stack.region) c.stack.setting.rules c.stack.setting.entered (parts_at c).state.core _
+    (record { entered = entered_with c.entry; memory = after_write e.write (ram_at c.machine.storage) }) e.processor.registers (pairs_behind c k) k.stands.within
+    (after_small (effect_at c).write c.entry (begun_at c).processor.sp e.write (ram_at c.machine.storage) f.write (ram_small c.machine.storage k.stands.means.parts.memory))
+    (bytes_behind_it c g.low g.high k g.given)
     (record {
       registers = λ r.
           subst (λ (s : AbsState). In (get r s.core.registers) (get r e.processor.registers)) (sym (state_is c))

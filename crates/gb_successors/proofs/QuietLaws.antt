@@ -90,10 +90,10 @@ pub quiet_successor :
     → k.setting.is_whole ≡ false → program.kind ≡ kind.Rom → s.summary ≡ no_summary → IsOneOf (successors_of k program rom row a s) t → t.state.summary ≡ no_summary
 unfolding successors_of
 quiet_successor k program rom row a s t older unknown q (inl e) =
-    quiet_ways (taken_from k program rom row (behind_row a row) s) (product_before k.setting.rules k.setting.entered s) t
+    quiet_ways (taken_from k program rom row (behind_row a row) s) (product_before program k.setting.rules k.setting.entered s) t
     (λ p. quiet_sides k s.core (taken_successor k program rom row (behind_row a row) s) _ t (λ b. quiet_taken k program rom row (behind_row a row) s b older unknown q)) e
 quiet_successor k program rom row a s t older unknown q (inr (inl e)) =
-    quiet_ways (not_taken_from k program row (behind_row a row) s) (product_before k.setting.rules k.setting.entered s) t
+    quiet_ways (not_taken_from k program row (behind_row a row) s) (product_before program k.setting.rules k.setting.entered s) t
     (λ p. quiet_sides k s.core (untaken_successor k row (behind_row a row) s) _ t (λ b. quiet_untaken k row (behind_row a row) s b q)) e
 quiet_successor k program rom row a s t older unknown q (inr (inr e)) =
-    quiet_ways (λ p. stays row a s) (product_before k.setting.rules k.setting.entered s) t (λ p. quiet_stays row a s t q) e
+    quiet_ways (λ p. stays row a s) (product_before program k.setting.rules k.setting.entered s) t (λ p. quiet_stays row a s t q) e

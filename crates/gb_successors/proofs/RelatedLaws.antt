@@ -1,5 +1,5 @@
 -- What is known together of the states behind an instruction holds, by the rules of versions 1 and 2.
-use Rattle.std.proofs.Common.{◌≡◌, ℕ, ◌+◌, Bool, true, false, if◌then◌else◌, List, refl, sym, ◌∙◌, subst, arith}
+use Rattle.std.proofs.Common.{◌≡◌, ℕ, ◌+◌, Bool, true, false, if◌then◌else◌, List, Option, Some, None, refl, sym, ◌∙◌, subst, arith}
 use Rattle.gb_ops.specs.declared.machine.Kind.{Kind}
 use Rattle.gb_ops.specs.declared.machine.Region.{Region}
 use Rattle.gb_ops.specs.declared.op.Pair.TheVariants as pair
@@ -11,6 +11,11 @@ use Rattle.gb_ops.specs.declared.registers.Flags.{Flags}
 use Rattle.gb_ops.specs.Machine.{executed, advanced}
 use Rattle.gb_ops.specs.Play.{MState, within, outside}
 use Rattle.gb_domain.specs.declared.pairs.Bounds.{Bounds}
+use Rattle.gb_domain.specs.declared.pairs.Link.{Link}
+use Rattle.gb_domain.specs.declared.pairs.Other.{Other}
+use Rattle.gb_domain.specs.declared.pairs.Other.TheVariants as other
+use Rattle.gb_domain.specs.declared.pairs.Pairs.{Pairs}
+use Rattle.gb_domain.specs.declared.pairs.WordPair.{WordPair}
 use Rattle.gb_domain.specs.declared.places.StackBytes.{StackBytes}
 use Rattle.gb_domain.specs.declared.relations.Relations.{Relations}
 use Rattle.gb_domain.specs.declared.rules.Rules.{Rules}
@@ -21,6 +26,7 @@ use Rattle.gb_domain.specs.declared.types.Core.{Core}
 use Rattle.gb_domain.specs.declared.types.Range.{Range}
 use Rattle.gb_domain.specs.Types.{AbsState}
 use Rattle.gb_domain.specs.Rules.{IsCore}
+use Rattle.gb_domain.specs.Pairs.{facts_of}
 use Rattle.gb_product.specs.Below.gb_abs.Located.{sp_halves}
 use Rattle.gb_product.specs.Below.gb_abs.Operations.{core_end}
 use Rattle.gb_product.specs.Below.gb_abs.Span.{one}
@@ -36,14 +42,16 @@ use Rattle.gb_product.specs.Below.gb_abs_effects.Sound.{IsWrite}
 use Rattle.gb_product.proofs.Below.gb_abs_effects_laws.RangeLaws.{transfer_inhabited}
 use Rattle.gb_abs_memory.specs.Access.{stored_state}
 use Rattle.gb_abs_memory.proofs.AfterStoreLaws.{IsCore-stored_state}
-use Rattle.gb_product.specs.Below.gb_pairs.Meaning.{AreBytes, Holds as HoldValues}
+use Rattle.gb_product.specs.Below.gb_pairs.Meaning.{AreBytes, Beside, word_of, base_of, AreLinked, IsLinked, HoldPairs, Holds as HoldValues}
 use Rattle.gb_product.specs.Below.gb_copies.Meaning.{HoldOneByte}
 use Rattle.gb_product.specs.Below.gb_relations.Meaning.{HoldRelations}
 use Rattle.gb_product.specs.Below.gb_relations.Compared.{compared_after}
 use Rattle.gb_product.specs.Below.gb_relations.Transfer.{relations_after}
 use Rattle.gb_product.specs.Below.gb_relations.Sound as relations
+use Rattle.gb_product.specs.Below.gb_relations.Returned.{IsOtherSame}
 use Rattle.gb_product.proofs.Below.gb_relations_laws.ComparedLaws.{HoldOneByte-compared_after}
 use Rattle.gb_product.proofs.Below.gb_relations_laws.TransferLaws.{HoldPairs-nothing}
+use Rattle.gb_product.proofs.Below.gb_relations_laws.CellLinkLaws.{other-same}
 use Rattle.gb_product.specs.Meaning.{AreRelated}
 use Rattle.gb_product.proofs.MeaningLaws.{AreBytes-core}
 use Rattle.gb_successors.specs.Behind.{behind, written, starts, ended, with_relations}
@@ -169,7 +177,8 @@ simply :
     (is_whole : Bool) (held : StackBytes) (o : Op) (sp : Bounds) (vals : Registers Val) (low : Val) (r : Relations) (was x : Registers ℕ) (memory : ℕ → ℕ) (f : Flags)
     → HoldOneByte (compared_after o r.byte) x memory f → AreBytes x → HoldRelations (relations_after Simple is_whole held o sp vals low r) was x memory f
 unfolding relations_after
-simply is_whole held o sp vals low r was x memory f byte bytes = record { byte = byte; zero = tt; pairs = HoldPairs-nothing was x bytes }
+simply is_whole held o sp vals low r was x memory f byte bytes =
+    record { byte = byte; zero = tt; pairs = HoldPairs-nothing (record { entered = was; memory = memory }) x bytes }
 
 pub by_rules :
     (rules : Rules) (is_whole : Bool) (held : StackBytes) (o : Op) (sp : Bounds) (vals : Registers Val) (low : Val) (r : Relations) (was x : Registers ℕ) (memory : ℕ → ℕ) (f : Flags)
@@ -182,7 +191,7 @@ unfolding advanced
 related_begun row x r entry h = h
 
 -- so do the values of registers and pairs hold
-pub values_begun : (row : Row) (x : MState) (v : Values) (was : Registers ℕ) → HoldValues v was (begun row x).processor.registers → HoldValues v was x.processor.registers
+pub values_begun : (row : Row) (x : MState) (v : Values) (was : Beside) → HoldValues v was (begun row x).processor.registers → HoldValues v was x.processor.registers
 unfolding advanced
 values_begun row x v was h = h
 
@@ -222,6 +231,31 @@ Leads-taken z rom region ranges row a s entry base x reads c k led held sp low r
 
 -- ---- memory that stays
 
+-- a link holds where memory stays
+linked_same :
+    (l : Option Link) (p : WordPair) (was x : Registers ℕ) (memory after : ℕ → ℕ) → ((b : ℕ) → after b ≡ memory b)
+    → IsLinked l p (record { entered = was; memory = memory }) x → IsLinked l p (record { entered = was; memory = after }) x
+linked_same None p was x memory after same h = tt
+linked_same (Some l) p was x memory after same h =
+    subst (λ n. AreLinked l (base_of l.base was) (word_of p x) n) (sym (other-same l.other was x memory after (read_same l.other))) h
+  where
+    read_same : (o : Other) → IsOtherSame o memory after
+    read_same (other.Register r) = tt
+    read_same (other.Pair q) = tt
+    read_same (other.Cell a) = same a
+    read_same other.Nothing = tt
+
+-- so do links hold
+HoldPairs-same :
+    (s : Pairs) (was x : Registers ℕ) (memory after : ℕ → ℕ) → ((b : ℕ) → after b ≡ memory b)
+    → HoldPairs s (record { entered = was; memory = memory }) x → HoldPairs s (record { entered = was; memory = after }) x
+HoldPairs-same s was x memory after same h =
+    record {
+      each = λ p.
+          let own = h.each p in
+          record { first = own.first; last = own.last; link = linked_same (facts_of p s).link p was x memory after same own.link };
+    }
+
 pub HoldRelations-same : (r : Relations) (was x : Registers ℕ) (memory after : ℕ → ℕ) (f : Flags) → ((b : ℕ) → after b ≡ memory b) → HoldRelations r was x memory f → HoldRelations r was x after f
 HoldRelations-same r was x memory after f same h =
     record {
@@ -233,5 +267,5 @@ HoldRelations-same r was x memory after f same h =
         test = h.byte.test;
       };
       zero = h.zero;
-      pairs = h.pairs;
+      pairs = HoldPairs-same r.pairs was x memory after same h.pairs;
     }

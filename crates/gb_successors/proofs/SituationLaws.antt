@@ -24,6 +24,7 @@ use Rattle.gb_domain.specs.declared.types.Val.{Val}
 use Rattle.gb_domain.specs.declared.types.Core.{Core}
 use Rattle.gb_domain.specs.Pairs.{ArePairs}
 use Rattle.gb_domain.specs.Rules.{IsVal, IsWord}
+use Rattle.gb_domain.specs.Areas.{is_free_byte}
 use Rattle.gb_product.specs.Below.gb_vals.Flags.{known}
 use Rattle.gb_product.specs.Below.gb_vals.Meaning.{may_be}
 use Rattle.gb_product.specs.Below.gb_abs.Storage.{peek}
@@ -57,7 +58,7 @@ use Rattle.gb_product.proofs.Below.gb_relations_laws.PointerLaws.{pointer_bounds
 use Rattle.gb_product.proofs.Below.gb_relations_laws.TransferLaws.{relations_after_sound}
 use Rattle.gb_product.proofs.Below.gb_relations_laws.Below.gb_pairs_laws.KeptLaws.{bounds_of_below}
 use Rattle.gb_product.specs.Below.gb_abs.Operations.{with_core}
-use Rattle.gb_product.specs.Meaning.{entered_with, IsSummarized}
+use Rattle.gb_product.specs.Meaning.{entered_with, beside, IsSummarized}
 use Rattle.gb_product.proofs.MeaningLaws.{AreBytes-core}
 use Rattle.gb_product.proofs.ReducedLaws.{Holds-values}
 use Rattle.gb_successors.specs.Refined.{span_within, with_bits, cut_read, cut_write, with_carry, refined}
@@ -74,6 +75,7 @@ use Rattle.gb_successors.proofs.Situations.{Situation, next_at, pointer_at, read
 use Rattle.std.proofs.lemmas.Bool.{and_parts}
 use Rattle.gb_ops.specs.declared.op.Register.TheVariants.{H, L}
 use Rattle.gb_product.specs.Below.gb_abs.Meaning.{is_located}
+use Rattle.gb_product.specs.Held.{stack_held}
 use Rattle.gb_successors.specs.StackMark.{takes_mark, is_whole_by, is_known, marks, marked_write, marked_core, marked}
 use Rattle.gb_successors.proofs.StackMarkLaws.{Takes, takes, few_held, MeansCore-marked, HoldsWrite-marked}
 use Rattle.gb_successors.proofs.Situations.{marks_at}
@@ -112,14 +114,14 @@ HoldsWrite-cut b k (write.Push high low) entry sp m h w has = h
 abbrev pub AreWordsIf : Option Bounds → Type 0
 AreWordsIf b = IfSome b (λ (c : Bounds). c.last < 65536)
 
-pub pointer_below : (rules : Rules) (o : Op) (vals : Registers Val) (s : Pairs) → ArePairs s → AreWordsIf (pointer_bounds rules o vals s)
+pub pointer_below : (may_be : ℕ → Bool) (rules : Rules) (o : Op) (vals : Registers Val) (s : Pairs) → ArePairs may_be s → AreWordsIf (pointer_bounds rules o vals s)
 unfolding pointer_bounds
-pointer_below Simple o vals s h = tt
-pointer_below Extended o vals s h = by (pair_of o)
+pointer_below may_be Simple o vals s h = tt
+pointer_below may_be Extended o vals s h = by (pair_of o)
   where
     by : (p : Option WordPair) → AreWordsIf (bounds_if p (values_of vals s))
     by None = tt
-    by (Some p) = bounds_of_below p (values_of vals s) h
+    by (Some p) = bounds_of_below may_be p (values_of vals s) h
 
 IsReadAt-cut : (b : Option Bounds) (r : AbsRead) → AreWordsIf b → IsReadAt r → IsReadAt (cut_read b r)
 IsReadAt-cut None (read.Byte span) h k = k
@@ -137,7 +139,7 @@ IsWrite-cut b bits (write.Push high low) k = k
 -- ---- as it begins
 
 -- registers and pairs hold
-pub values_hold : (c : Situation) → IsTakenIn c → pair_meaning.Holds (values_of c.product.core.registers c.product.relations.pairs) (entered_with c.entry) (begun_at c).processor.registers
+pub values_hold : (c : Situation) → IsTakenIn c → pair_meaning.Holds (values_of c.product.core.registers c.product.relations.pairs) (beside c.entry (begun_at c)) (begun_at c).processor.registers
 values_hold c k = Holds-values c.product.core c.product.relations c.entry (begun_at c) k.means k.related
 
 pub bytes_begun : (c : Situation) → IsTakenIn c → AreBytes (begun_at c).processor.registers
@@ -158,7 +160,7 @@ read_holds c k =
     (subst (IsSpWithin c.state.summary.aside) (sym (begun_sp c.row c.machine)) (sp_within c k))
     (HoldsRead-cut (pointer_at c) (read_of c.row.op c.product.core) (begun_at c).processor.sp _
     ((read_of_sound c.row.op c.product.core _ refl).gives c.entry (begun_at c) (given_at c).low (given_at c).high k.means k.taken)
-    ((pointer_bounds_sound c.stack.setting.rules c.row.op c.product.core.registers c.product.relations.pairs _ refl).reads (entered_with c.entry) (advanced c.machine.processor c.row) (values_hold c k)))
+    ((pointer_bounds_sound c.stack.setting.rules c.row.op c.product.core.registers c.product.relations.pairs _ refl).reads (beside c.entry (begun_at c)) (advanced c.machine.processor c.row) (values_hold c k)))
 
 -- it has the low bits of its pointer
 pub read_has : (c : Situation) → IsTakenIn c → HasRead (bits_at c) (Effects.read_of c.row.op (advanced c.machine.processor c.row))
@@ -169,7 +171,7 @@ read_has c k =
 pub read_placed : (c : Situation) → IsTakenIn c → IsReadAt (read_at c)
 read_placed c k =
     IsReadAt-around c.stack.setting.rules c.state.summary.aside c.row.op _ k.stands.aside
-    (IsReadAt-cut (pointer_at c) (read_of c.row.op c.product.core) (pointer_below c.stack.setting.rules c.row.op c.product.core.registers c.product.relations.pairs k.pairs)
+    (IsReadAt-cut (pointer_at c) (read_of c.row.op c.product.core) (pointer_below (is_free_byte c.stack.region) c.stack.setting.rules c.row.op c.product.core.registers c.product.relations.pairs k.pairs)
     (read_of_at c.row.op c.product.core _ refl k.operands k.core))
 
 pub is_word_at : (c : Situation) → IsTakenIn c → IsWord (word_at c)
@@ -283,7 +285,7 @@ carry_given : (c : Situation) (l h : ℕ) → IsTakenIn c → IsIfKnown (carry_a
 carry_given c l h k =
     let known = bounds_sound c.stack.setting c.state (sp_bounds c.stack.setting c.state) refl in
     (known_carry_sound c.stack.setting.rules c.row.op (sp_bounds c.stack.setting c.state) c.product.core.registers c.product.relations.pairs (carry_at c) refl (sp_below c k)
-    (k.pairs.each pairs.Bc).last (k.pairs.each pairs.De).last (k.pairs.each pairs.Hl).last).gives (entered_with c.entry)
+    (k.pairs.each pairs.Bc).last (k.pairs.each pairs.De).last (k.pairs.each pairs.Hl).last).gives (beside c.entry (begun_at c))
     (advanced c.machine.processor c.row) l h (bytes_begun c k) (values_hold c k)
     (subst (λ n. (sp_bounds c.stack.setting c.state).first ≤ n) (sym (begun_sp c.row c.machine)) (known.first c.entry c.base c.machine k.stands.based k.stands.means.parts (sp_within c k)))
     (subst (λ n. n ≤ (sp_bounds c.stack.setting c.state).last) (sym (begun_sp c.row c.machine)) (known.last c.entry c.base c.machine k.stands.based k.stands.means.parts (sp_within c k)))
@@ -312,9 +314,14 @@ follows c l h k g =
       write = subst (λ w. HoldsWrite w c.entry (begun_at c).processor.sp (effect_by c l h).write) (sym (write_is c))
           (HoldsWrite-marked _ (marks_at c) c.entry (begun_at c).processor.sp (effect_by c l h).write (λ e. (takes_at c l h k e).stored)
           (HoldsWrite-cut (pointer_at c) (known_at c) (transferred c).write c.entry (begun_at c).processor.sp (effect_by c l h).write f.write
-          ((pointer_bounds_sound c.stack.setting.rules c.row.op c.product.core.registers c.product.relations.pairs _ refl).writes (entered_with c.entry) (advanced c.machine.processor c.row) l h (values_hold c k))
+          ((pointer_bounds_sound c.stack.setting.rules c.row.op c.product.core.registers c.product.relations.pairs _ refl).writes (beside c.entry (begun_at c)) (advanced c.machine.processor c.row) l h (values_hold c k))
           ((known_bits_sound c.stack.setting.rules c.stack.setting.is_whole c.row.op c.product.core.registers _ refl).writes (advanced c.machine.processor c.row) l h (bytes_begun c k) (registers_in c k))));
     }
+
+-- links read RAM outside the stack region
+cells_at : (c : Situation) → IsTakenIn c → ArePairs (is_free_byte (held_at c).region) c.product.relations.pairs
+unfolding stack_held
+cells_at c k = k.pairs
 
 -- what is known together holds behind it, as far as memory is RAM
 pub related_behind : (c : Situation) (l h : ℕ) (written : ℕ → ℕ) → IsTakenIn c → AreGiven c l h → relations.Writes (held_at c) (effect_by c l h).write (ram_at c.machine.storage) written
@@ -335,7 +342,8 @@ related_behind c l h written k g w =
       low_small = small (word_at c).low l word.low g.low;
       high_small = small (word_at c).high h word.high g.high;
       placed = k.place;
-      relations = HoldRelations-ram (held_at c) c.product.relations _ _ (peek c.machine.storage) (ram_at c.machine.storage) _ k.place (λ b ram. ram_is c.machine.storage b ram) k.related;
+      cells = cells_at c k;
+      relations = HoldRelations-ram (held_at c) c.stack.region c.product.relations _ _ (peek c.machine.storage) (ram_at c.machine.storage) _ k.place k.pairs (λ b ram. ram_is c.machine.storage b ram) k.related;
       reads = g.reads;
     })
     w

@@ -12,7 +12,7 @@ use Rattle.gb_domain.specs.declared.rules.Rules.TheVariants.{Extended}
 use Rattle.gb_domain.specs.declared.types.Halves.{Halves}
 use Rattle.gb_domain.specs.declared.types.Range.{Range}
 use Rattle.gb_domain.specs.Types.{AbsState}
-use Rattle.gb_domain.specs.Pairs.{ArePairs}
+use Rattle.gb_domain.specs.Pairs.{any_pairs, ArePairs}
 use Rattle.gb_domain.specs.Rules.{IsCore}
 use Rattle.gb_product.specs.Below.gb_abs.Located.{sp_halves, sp_bounds}
 use Rattle.gb_product.specs.Below.gb_abs.Meaning.{Activation, MeansCore, MeansParts}
@@ -35,6 +35,7 @@ use Rattle.gb_domain.specs.declared.relations.Relations.{Relations}
 use Rattle.std.specs.Prelude.{is_some}
 use Rattle.gb_successors.specs.Successors.{pointer_in, bits_in, read_in, word_in, effect_in, taken_move, taken_parts, relations_behind}
 use Rattle.gb_domain.specs.declared.low_bits.LowBits.{LowBits}
+use Rattle.gb_domain.specs.Areas.{is_free_byte}
 use Rattle.gb_ops.specs.Pointers.{pointer_of}
 use Rattle.gb_successors.specs.Summaries.{pointed_bits}
 use Rattle.gb_successors.specs.Sound.{Stands, IsReady}
@@ -128,7 +129,7 @@ related_at c = relations_behind c.stack c.entry.program c.rom c.row.op c.state c
 
 -- something is meant behind it
 abbrev pub is_meant : Situation → Bool
-is_meant c = is_some (reduced c.stack.setting.rules c.stack.setting.entered (parts_at c).state.core (related_at c))
+is_meant c = is_some (reduced c.stack.setting.rules c.stack.setting.entered any_pairs (parts_at c).state.core (related_at c))
 
 -- the stack with the items before it
 abbrev pub held_at : Situation → StackBytes
@@ -148,7 +149,7 @@ pub record IsTakenIn (c : Situation) : Type 0 where
   pub means : MeansCore c.product.core c.entry (begun_at c)
   pub related : AreRelated c.product.relations c.entry (begun_at c)
   pub core : IsCore c.product.core
-  pub pairs : ArePairs c.product.relations.pairs
+  pub pairs : ArePairs (is_free_byte c.stack.region) c.product.relations.pairs
   pub place : IsBytePlaced (held_at c) c.product.relations.byte.address
   pub taken : (acted_at c).is_taken ≡ true
 

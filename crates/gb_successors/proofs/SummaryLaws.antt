@@ -58,7 +58,7 @@ use Rattle.gb_product.proofs.Below.gb_relations_laws.ItemLaws.{places_outside_pa
 use Rattle.gb_product.specs.Held.{stack_held}
 use Rattle.gb_product.proofs.HeldLaws.{outside_free}
 use Rattle.gb_product.specs.declared.parts.Product.{Product}
-use Rattle.gb_product.specs.Meaning.{entered_with}
+use Rattle.gb_product.specs.Meaning.{beside}
 use Rattle.gb_successors.specs.declared.stacks.Stack.{Stack}
 use Rattle.gb_successors.specs.declared.stacks.StackMove.{StackMove}
 use Rattle.gb_successors.specs.declared.stacks.StackMove.TheVariants as move
@@ -287,9 +287,9 @@ begins_at :
 begins_at c k l =
     let known = bounds_sound c.stack.setting c.state (sp_bounds c.stack.setting c.state) refl in
     let related =
-    HoldRelations-ram (held_at c) c.product.relations _ _ (peek c.machine.storage) (ram_at c.machine.storage) _ k.place (λ b ram. ram_is c.machine.storage b ram) k.related in
+    HoldRelations-ram (held_at c) c.stack.region c.product.relations _ _ (peek c.machine.storage) (ram_at c.machine.storage) _ k.place k.pairs (λ b ram. ram_is c.machine.storage b ram) k.related in
     record {
-      was = entered_with c.entry;
+      was = beside c.entry (begun_at c);
       values = values_hold c k;
       bytes = bytes_begun c k;
       sp_first = subst (λ n. (sp_bounds c.stack.setting c.state).first ≤ n) (sym (begun_sp c.row c.machine)) (known.first c.entry c.base c.machine k.stands.based k.stands.means.parts (sp_within c k));

@@ -64,7 +64,7 @@ use Rattle.gb_domain.specs.declared.types.Val.{Val}
 use Rattle.gb_product.specs.Below.gb_pairs.declared.values.Values.{Values}
 use Rattle.gb_product.specs.Below.gb_relations.Transfer.{values_of}
 use Rattle.gb_product.specs.declared.parts.Product.{Product}
-use Rattle.gb_product.specs.Meaning.{entered_with, IsSummarized}
+use Rattle.gb_product.specs.Meaning.{beside, IsSummarized}
 use Rattle.gb_domain.specs.Summaries.{Program}
 
 -- ---- cells alone change
@@ -166,7 +166,7 @@ Holds-item z s a v entry base x right m h = choose z.is_whole (item_at z s a) re
 
 pub held_before :
     (k : Stack) (s : AbsState) (p : Product) (entry : Activation) (base : ℕ) (x : MState) (program : Program)
-    → entry.program ≡ program → IsBase k.setting base → MeansParts s entry base x → IsSummarized s entry x → HoldValues (values_of p.core.registers p.relations.pairs) (entered_with entry) x.processor.registers
+    → entry.program ≡ program → IsBase k.setting base → MeansParts s entry base x → IsSummarized s entry x → HoldValues (values_of p.core.registers p.relations.pairs) (beside entry x) x.processor.registers
     → (a : ℕ) → p.relations.byte.address ≡ Some a → Holds (memory_before k program s p) entry (peek x.storage a)
 held_before k s p entry base x program of right means said values a e =
     let v = values_of p.core.registers p.relations.pairs in

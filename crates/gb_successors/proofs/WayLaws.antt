@@ -46,7 +46,7 @@ use Rattle.gb_product.specs.Below.gb_relations.Compared.{comparison_of, writes_a
 use Rattle.gb_product.specs.Below.gb_relations.Written.{writes_flags}
 use Rattle.gb_product.specs.Below.gb_relations.Written.{written as written_registers}
 use Rattle.gb_product.proofs.Below.gb_relations_laws.ComparedLaws.{HoldOneByte-only_of_a}
-use Rattle.gb_product.specs.Meaning.{entered_with, AreRelated}
+use Rattle.gb_product.specs.Meaning.{beside, AreRelated}
 use Rattle.gb_product.specs.declared.parts.Branch.{Branch}
 use Rattle.gb_product.specs.declared.parts.Product.{Product}
 use Rattle.gb_product.specs.Reduced.{product_of, reduced}
@@ -56,6 +56,8 @@ use Rattle.gb_product.proofs.MeaningLaws.{AreBytes-core}
 use Rattle.gb_product.proofs.SideLaws.{taken_side_sound, not_taken_side_sound, taken_side_cuts, not_taken_side_cuts}
 use Rattle.gb_ops.specs.declared.op.Pair.TheVariants as pair
 use Rattle.gb_domain.specs.Limits.{item_room}
+use Rattle.gb_domain.specs.Areas.{is_free_byte}
+use Rattle.gb_domain.specs.Pairs.{any_pairs}
 use Rattle.gb_product.specs.Below.gb_abs.Stack.{pushed, popped}
 use Rattle.gb_product.specs.Below.gb_abs_effects.declared.writes.AbsWrite.TheVariants as write
 use Rattle.gb_ops.specs.Cartridge.{kind_of}
@@ -81,25 +83,26 @@ use Rattle.gb_successors.proofs.SettledLaws.{HoldSummary-settled}
 use Rattle.gb_successors.proofs.SummaryLaws.{HoldSummary-passed}
 use Rattle.gb_successors.proofs.RelatedLaws.{MeansParts-related, IsAllowed-parts, LeadsSimply-related, by_rules, related_begun, Leads-taken, HoldRelations-same, values_begun}
 use Rattle.gb_successors.proofs.SuccessorLaws.{begun, given, effect, begun_core, MeansParts-ended, passed_peek, leads_simply, IsTaken, Done}
-use Rattle.gb_successors.proofs.ExtendedWayLaws.{before_of, executes_widely}
+use Rattle.gb_successors.proofs.ExtendedWayLaws.{read_before, before_of, executes_widely}
 use Rattle.gb_successors.proofs.HaltBugLaws.{halt_repeats_widely}
 use Rattle.gb_successors.proofs.UntakenLaws.{ended_room, bytes_ended, leads_at, simple_untaken, untaken_simply, bytes_untaken, untaken_executes, keeps_side, side_facts}
 use Rattle.gb_successors.proofs.StackWayLaws.{taken_executes}
 use Rattle.gb_product.proofs.ReducedLaws.{Holds-values}
 use Rattle.gb_product.specs.Below.gb_relations.Transfer.{values_of}
+use Rattle.gb_product.specs.Covering.{read_in as bytes_read}
 use Rattle.gb_successors.specs.Stacks.{address_below}
 
 -- ---- executed
 
-reduced_simply : (rules : Rules) (entered : PairBounds) (c : Core) (r : Relations) → rules ≡ Simple → reduced rules entered c r ≡ Some (product_of c r)
+reduced_simply : (rules : Rules) (entered read : PairBounds) (c : Core) (r : Relations) → rules ≡ Simple → reduced rules entered read c r ≡ Some (product_of c r)
 unfolding reduced
-reduced_simply Simple entered c r h = refl
-reduced_simply Extended entered c r h = absurd cc
+reduced_simply Simple entered read c r h = refl
+reduced_simply Extended entered read c r h = absurd cc
 
 -- nothing is cut behind it
 whole_successor : (rules : Rules) (entered : PairBounds) (t : Successor) → rules ≡ Simple → reduced_successor rules entered t ≡ Some t
 unfolding reduced_successor
-whole_successor rules entered t h = ap (option_map (with_product t)) (reduced_simply rules entered t.state.core t.state.relations h)
+whole_successor rules entered t h = ap (option_map (with_product t)) (reduced_simply rules entered any_pairs t.state.core t.state.relations h)
 
 taken_way : (k : Stack) (program : Program) (rom : List ℕ) (row : Row) (a : ℕ) (s : AbsState) (b : Branch) → k.setting.rules ≡ Simple
     → taken_side row.op (memory_before k program s (product_of (core_settle s.core) s.relations)) (core_settle s.core) s.relations ≡ Some b
@@ -107,7 +110,7 @@ taken_way : (k : Stack) (program : Program) (rom : List ℕ) (row : Row) (a : �
 unfolding successors_of product_before
 taken_way k program rom row a s b h e =
     let next = behind_row a row in
-    ap (option_and_then (taken_from k program rom row next s)) (reduced_simply k.setting.rules k.setting.entered (core_settle s.core) s.relations h)
+    ap (option_and_then (taken_from k program rom row next s)) (reduced_simply k.setting.rules k.setting.entered (bytes_read program s) (core_settle s.core) s.relations h)
     ∙ (ap (option_and_then (taken_by_side k program rom row next s)) e
     ∙ (settled_simply k b.cell s.core (taken_successor k program rom row next s (branch_outside k.region b)) h
     ∙ whole_successor k.setting.rules k.setting.entered (taken_successor k program rom row next s (branch_outside k.region b)) h))
@@ -118,7 +121,7 @@ untaken_way : (k : Stack) (program : Program) (rom : List ℕ) (row : Row) (a : 
 unfolding successors_of product_before
 untaken_way k program rom row a s b h e =
     let next = behind_row a row in
-    ap (option_and_then (not_taken_from k program row next s)) (reduced_simply k.setting.rules k.setting.entered (core_settle s.core) s.relations h)
+    ap (option_and_then (not_taken_from k program row next s)) (reduced_simply k.setting.rules k.setting.entered (bytes_read program s) (core_settle s.core) s.relations h)
     ∙ (ap (option_and_then (not_taken_by_side k row next s)) e
     ∙ (settled_simply k b.cell s.core (untaken_successor k row next s (branch_outside k.region b)) h
     ∙ whole_successor k.setting.rules k.setting.entered (untaken_successor k row next s (branch_outside k.region b)) h))
@@ -214,7 +217,7 @@ executes_simply k program rom row a s ranges entry base x reads simple of stands
 
     known : IsKnown memory s.relations entry (begun row x)
     known = record {
-      byte = held_before k s (product_of settled s.relations) entry base x program of stands.based stands.means.parts stands.means.summary (values_begun row x (values_of settled.registers s.relations.pairs) (entered_with entry) (Holds-values settled s.relations entry (begun row x) begins related));
+      byte = held_before k s (product_of settled s.relations) entry base x program of stands.based stands.means.parts stands.means.summary (values_begun row x (values_of settled.registers s.relations.pairs) (beside entry x) (Holds-values settled s.relations entry (begun row x) begins related));
       related = related;
     }
 
@@ -278,9 +281,9 @@ executes_simply k program rom row a s ranges entry base x reads simple of stands
 
     choose : (b : Bool) → (effect rom row x reads).is_taken ≡ b → Executes k program rom ranges row a s (successors_of k program rom row a s) entry base x reads
     choose true e =
-        by_taken _ refl e ((taken_side_sound row.op memory settled s.relations _ refl stands.pairs).gives entry (begun row x) (given rom row x reads).low (given rom row x reads).high known begins e)
+        by_taken _ refl e ((taken_side_sound (is_free_byte k.region) row.op memory settled s.relations _ refl stands.pairs).gives entry (begun row x) (given rom row x reads).low (given rom row x reads).high known begins e)
     choose false e =
-        by_not_taken _ refl e ((not_taken_side_sound row.op memory settled s.relations _ refl stands.pairs).gives entry (begun row x) (given rom row x reads).low (given rom row x reads).high known begins e)
+        by_not_taken _ refl e ((not_taken_side_sound (is_free_byte k.region) row.op memory settled s.relations _ refl stands.pairs).gives entry (begun row x) (given rom row x reads).low (given rom row x reads).high known begins e)
 
 -- ---- HALT
 
@@ -299,7 +302,7 @@ stays_way : (row : Row) (a : ℕ) (s : AbsState) → row.op ≡ op.Halt → s.co
 unfolding stays may_stay
 stays_way row a s is pending enable = rw (is, pending, enable) refl
 
-stays_at : (k : Stack) (program : Program) (rom : List ℕ) (row : Row) (a : ℕ) (s : AbsState) (p : Product) → product_before k.setting.rules k.setting.entered s ≡ Some p → (successors_of k program rom row a s).stays ≡ stays row a s
+stays_at : (k : Stack) (program : Program) (rom : List ℕ) (row : Row) (a : ℕ) (s : AbsState) (p : Product) → product_before program k.setting.rules k.setting.entered s ≡ Some p → (successors_of k program rom row a s).stays ≡ stays row a s
 unfolding successors_of
 stays_at k program rom row a s p is = ap (option_and_then (λ (q : Product). stays row a s)) is
 
@@ -321,13 +324,13 @@ not_both i e f = absurd (let bad : ime.Pending ≡ ime.Off = sym e ∙ f in cc)
 
 halt_stays :
     (k : Stack) (program : Program) (rom : List ℕ) (row : Row) (a : ℕ) (s : AbsState) (ranges : List Range) (entry : Activation) (base : ℕ) (x : MState)
-    → Stands k.setting rom k.region row a s entry base x → IsHalt row → x.processor.ime ≡ ime.Pending → has_enabled (within rom x) ≡ true
+    → entry.program ≡ program → Stands k.setting rom k.region row a s entry base x → IsHalt row → x.processor.ime ≡ ime.Pending → has_enabled (within rom x) ≡ true
     → LeadsBy k.setting k.region ranges (length s.items) (successors_of k program rom row a s).stays entry base x (outside (halt_stay (within rom x)))
 unfolding halt_stay within outside staying_successor ended
-halt_stays k program rom row a s ranges entry base x stands halt pending enabled =
+halt_stays k program rom row a s ranges entry base x of stands halt pending enabled =
     let m = stands.means.parts in
     let woke : MState = record x { processor = record x.processor { ime = ime.On } } in
-    let before = before_of k s entry (begun row x) stands.core stands.pairs stands.within (begun_core row x s.core entry m.core) (related_begun row x s.relations entry stands.means.related) in
+    let before = before_of k program s entry (begun row x) stands.core stands.pairs stands.within (read_before program s entry base x of stands.means) (begun_core row x s.core entry m.core) (related_begun row x s.relations entry stands.means.related) in
     record {
       successor = staying_successor a s;
       held = bytes_ended 1 (with_core s (woken s.core));
@@ -456,6 +459,6 @@ successors_of_sound k program rom row a s ss e =
     subst (AreSoundSuccessors k program rom row a s) (sym e)
     (record {
       executes = λ ranges entry base x reads of marked stands ruled mark byte second. executes k program rom row a s ranges entry base x reads of marked stands ruled mark byte second;
-      stays = λ ranges entry base x of stands halt pending enabled. halt_stays k program rom row a s ranges entry base x stands halt pending enabled;
+      stays = λ ranges entry base x of stands halt pending enabled. halt_stays k program rom row a s ranges entry base x of stands halt pending enabled;
       repeats = λ ranges entry base x of marked stands halt off mark. halt_repeats k program rom row a s ranges entry base x of marked stands halt off mark;
     })

@@ -21,7 +21,7 @@ use Rattle.gb_domain.specs.declared.types.Origin.TheVariants.{ReturnHigh, Return
 use Rattle.gb_domain.specs.declared.types.Range.{Range}
 use Rattle.gb_domain.specs.Summaries.{Program}
 use Rattle.gb_domain.specs.Types.{AbsState}
-use Rattle.gb_domain.specs.Areas.{IsRegion}
+use Rattle.gb_domain.specs.Areas.{IsRegion, is_free_byte}
 use Rattle.gb_domain.specs.Limits.{item_room}
 use Rattle.gb_domain.specs.Pairs.{ArePairs}
 use Rattle.gb_domain.specs.Rules.{IsCore, IsVal}
@@ -119,7 +119,7 @@ abbrev pub IsStackRuled : Rules → Stack → Program → List ℕ → Row → �
 IsStackRuled Simple k program rom row a s base = IsStackKnown k.setting k.region row.op s base
 IsStackRuled Extended k program rom row a s base =
     is_some (successors_of k program rom row a s).taken ≡ true
-    → (p : Product) → product_before Extended k.setting.entered s ≡ Some p → IsReady k row.op (move_before k program rom row a s p) s base
+    → (p : Product) → product_before program Extended k.setting.entered s ≡ Some p → IsReady k row.op (move_before k program rom row a s p) s base
 
 -- what the stack has to have for a successor by the rules of versions 1 and 2: a call wants room for the return address, a return
 -- finds nothing but its own
@@ -157,7 +157,7 @@ abbrev pub IsMovedFrom : Stack → Program → List ℕ → Row → ℕ → AbsS
 IsMovedFrom k program rom row a s t =
     (length t.state.items ≡ length s.items)
     ⊎ (((successors_of k program rom row a s).taken ≡ Some t)
-    × ((p : Product) → product_before Extended k.setting.entered s ≡ Some p → length t.state.items ≡ bytes_moved (move_before k program rom row a s p) (length s.items)))
+    × ((p : Product) → product_before program Extended k.setting.entered s ≡ Some p → length t.state.items ≡ bytes_moved (move_before k program rom row a s p) (length s.items)))
 
 -- how many bytes a successor holds
 abbrev pub IsHeld : Rules → Stack → Program → List ℕ → Row → ℕ → AbsState → Successor → Type 0
@@ -274,7 +274,7 @@ pub record Stands (z : Setting) (rom : List ℕ) (region : Region) (row : Row) (
   pub core : IsCore s.core
   pub placed : ArePlaced region s.cells
   pub place : IsBytePlaced (stack_held z region (length s.items)) s.relations.byte.address
-  pub pairs : ArePairs s.relations.pairs
+  pub pairs : ArePairs (is_free_byte region) s.relations.pairs
   pub vals : AreVals s.cells
   pub items : AllByRecursion IsVal s.items
   pub unset : s.core.stack_set ≡ false → s.items ≡ []

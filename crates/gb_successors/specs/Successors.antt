@@ -8,6 +8,7 @@ use Rattle.gb_ops.specs.Pointers.{pointer_of}
 use Rattle.gb_domain.specs.declared.low_bits.LowBits.{LowBits}
 use Rattle.gb_domain.specs.declared.pairs.Bounds.{Bounds}
 use Rattle.gb_domain.specs.declared.pairs.PairBounds.{PairBounds}
+use Rattle.gb_domain.specs.Pairs.{any_pairs}
 use Rattle.gb_domain.specs.declared.relations.Relations.{Relations}
 use Rattle.gb_domain.specs.declared.rules.Rules.{Rules}
 use Rattle.gb_domain.specs.declared.setting.Setting.{Setting}
@@ -34,6 +35,7 @@ use Rattle.gb_successors.specs.declared.stacks.StackMove.{StackMove}
 use Rattle.gb_product.specs.declared.parts.Branch.{Branch}
 use Rattle.gb_product.specs.declared.parts.Product.{Product}
 use Rattle.gb_product.specs.Held.{stack_held}
+use Rattle.gb_product.specs.Covering.{read_in as bytes_read}
 use Rattle.gb_product.specs.Reduced.{product_of, reduced}
 use Rattle.gb_product.specs.Sides.{memory_of, taken_side, not_taken_side}
 use Rattle.gb_product.specs.Below.gb_relations.PointedBits.{known_bits}
@@ -136,9 +138,9 @@ abbrev pub with_product : Successor → Product → Successor
 with_product t p = record t { state = with_relations p.relations (with_core t.state p.core) }
 
 -- the states behind are reduced, where the pairs lay in these bounds as the procedure was entered; where nothing is meant it isn't
--- possible
+-- possible. What the instruction stored may be refused yet, so that any bytes may stand where links read memory.
 unfoldable pub reduced_successor : Rules → PairBounds → Successor → Option Successor
-reduced_successor rules entered t = option_map (with_product t) (reduced rules entered t.state.core t.state.relations)
+reduced_successor rules entered t = option_map (with_product t) (reduced rules entered any_pairs t.state.core t.state.relations)
 
 -- a successor, where it is possible
 abbrev pub some_if : Bool → Successor → Option Successor
@@ -162,8 +164,8 @@ unfoldable pub stays : Row → ℕ → AbsState → Option Successor
 stays row a s = if may_stay row.op s.core then Some (staying_successor a s) else None
 
 -- the states before are settled and so reduced; none where nothing is meant
-unfoldable pub product_before : Rules → PairBounds → AbsState → Option Product
-product_before rules entered s = reduced rules entered (core_settle s.core) s.relations
+unfoldable pub product_before : Program → Rules → PairBounds → AbsState → Option Product
+product_before program rules entered s = reduced rules entered (bytes_read program s) (core_settle s.core) s.relations
 
 -- the item at the address among the places, by the rules of version 4
 abbrev pub item_of : Setting → AbsState → Option ℕ → Option Val
@@ -198,18 +200,18 @@ not_taken_from k program row next s p =
 
 -- each of the possible successors of the instruction at an address
 abbrev pub way_taken : Stack → Program → List ℕ → Row → ℕ → AbsState → Option Successor
-way_taken k program rom row a s = option_and_then (taken_from k program rom row ((a + row.length) % 65536) s) (product_before k.setting.rules k.setting.entered s)
+way_taken k program rom row a s = option_and_then (taken_from k program rom row ((a + row.length) % 65536) s) (product_before program k.setting.rules k.setting.entered s)
 
 abbrev pub way_not_taken : Stack → Program → Row → ℕ → AbsState → Option Successor
-way_not_taken k program row a s = option_and_then (not_taken_from k program row ((a + row.length) % 65536) s) (product_before k.setting.rules k.setting.entered s)
+way_not_taken k program row a s = option_and_then (not_taken_from k program row ((a + row.length) % 65536) s) (product_before program k.setting.rules k.setting.entered s)
 
-abbrev pub way_staying : Rules → PairBounds → Row → ℕ → AbsState → Option Successor
-way_staying rules entered row a s = option_and_then (λ (p : Product). stays row a s) (product_before rules entered s)
+abbrev pub way_staying : Program → Rules → PairBounds → Row → ℕ → AbsState → Option Successor
+way_staying program rules entered row a s = option_and_then (λ (p : Product). stays row a s) (product_before program rules entered s)
 
 -- all of them
 unfoldable pub successors_of : Stack → Program → List ℕ → Row → ℕ → AbsState → Successors
 successors_of k program rom row a s =
-    record { taken = way_taken k program rom row a s; not_taken = way_not_taken k program row a s; stays = way_staying k.setting.rules k.setting.entered row a s }
+    record { taken = way_taken k program rom row a s; not_taken = way_not_taken k program row a s; stays = way_staying program k.setting.rules k.setting.entered row a s }
 
 -- ---- tests of all of them
 

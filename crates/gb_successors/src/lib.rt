@@ -49,4 +49,4 @@ pub use gb_product::covering::covers;
 pub use gb_product::parts::Product;
 pub use gb_product::reduced::{reduce, reduced, reduced_wholly};
 pub use gb_product::sides::{not_taken_side, taken_side};
-pub use gb_product::{AbsRead, AbsWrite, Program, Target, gb_ram_bounds};
+pub use gb_product::{AbsRead, AbsWrite, Program, Target, gb_ram_bounds, read_in};

@@ -23,7 +23,7 @@ use gb_ops::op::{Op, Row};
 use gb_product::parts::{Branch, Product};
 use gb_product::reduced::reduced;
 use gb_product::sides::{memory_of, not_taken_side, taken_side};
-use gb_product::{Program, Values, condition_of, may_enable, settle};
+use gb_product::{Program, States, Values, condition_of, may_enable, read_in, settle};
 
 /// The possible successors of an instruction.
 #[derive(Drop)]
@@ -66,8 +66,13 @@ pub fn successors_of<'a>(
 /// What is known before the instruction, settled and reduced, where the pairs lay in these bounds as the procedure was entered; none
 /// where nothing is meant.
 #[tactic(auto, unfolding(crate::specs::Successors::product_before, gb_product::specs::Reduced::reduced))]
-pub fn product_before(rules: Rules, entered: &PairBounds, state: &Abs) -> Option<Product>
-    ensures { result ≡ Succession.product_before rules entered.now state.now }
+pub fn product_before(
+    program: &Program<'_>,
+    rules: Rules,
+    entered: &PairBounds,
+    state: &Abs,
+) -> Option<Product>
+    ensures { result ≡ Succession.product_before program.now rules entered.now state.now }
 {
     let core = settle(state.core());
     match rules {
@@ -75,7 +80,11 @@ pub fn product_before(rules: Rules, entered: &PairBounds, state: &Abs) -> Option
             core,
             relations: *state.relations(),
         }),
-        Rules::Extended => reduced(rules, entered, &core, state.relations()),
+        Rules::Extended => {
+            let relations = state.relations();
+            let read = read_in(program, &States::of(state), &relations.pairs);
+            reduced(rules, entered, &read, &core, relations)
+        }
     }
 }
 
@@ -344,7 +353,7 @@ fn put_taken<'a>(
     before: &Option<Product>,
     way: &mut Option<Successor<'a>>,
 )
-    requires before { before.now ≡ Succession.product_before stack.setting.rules stack.setting.entered state.now }
+    requires before { before.now ≡ Succession.product_before program.now stack.setting.rules stack.setting.entered state.now }
     requires none { way.old ≡ None }
     ensures { way.new ≡ Succession.way_taken stack program.now rom.now row address state.now }
 {
@@ -374,7 +383,7 @@ fn put_not_taken<'a>(
     before: &Option<Product>,
     way: &mut Option<Successor<'a>>,
 )
-    requires before { before.now ≡ Succession.product_before stack.setting.rules stack.setting.entered state.now }
+    requires before { before.now ≡ Succession.product_before program.now stack.setting.rules stack.setting.entered state.now }
     requires none { way.old ≡ None }
     ensures { way.new ≡ Succession.way_not_taken stack program.now row address state.now }
 {
@@ -407,15 +416,16 @@ fn put_stay<'a>(row: Row, address: u16, state: &'a Abs, way: &mut Option<Success
 #[inline(always)]
 fn put_staying<'a>(
     setting: &Setting,
+    program: &Program<'_>,
     row: Row,
     address: u16,
     state: &'a Abs,
     before: &Option<Product>,
     way: &mut Option<Successor<'a>>,
 )
-    requires before { before.now ≡ Succession.product_before setting.now.rules setting.now.entered state.now }
+    requires before { before.now ≡ Succession.product_before program.now setting.now.rules setting.now.entered state.now }
     requires none { way.old ≡ None }
-    ensures { way.new ≡ Succession.way_staying setting.now.rules setting.now.entered row address state.now }
+    ensures { way.new ≡ Succession.way_staying program.now setting.now.rules setting.now.entered row address state.now }
 {
     if let Some(_) = before {
         put_stay(row, address, state, way);
@@ -433,7 +443,7 @@ fn each_way<'a>(
 ) -> Successors<'a>
     ensures { result ≡ Succession.successors_of stack program.now rom.now row address state.now }
 {
-    let before = product_before(stack.setting.rules, &stack.setting.entered, state);
+    let before = product_before(program, stack.setting.rules, &stack.setting.entered, state);
     let mut ways = Successors {
         taken: None,
         not_taken: None,
@@ -461,6 +471,7 @@ fn each_way<'a>(
     );
     put_staying(
         &stack.setting,
+        program,
         row,
         address,
         state,

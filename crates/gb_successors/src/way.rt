@@ -10,7 +10,7 @@ ghost use Rattle.gb_successors.specs.Behind.{with_relations, with_summary};
 use crate::stacks::{Stack, StackMove, count_behind, move_stack};
 use gb_abs_memory::store::store_in;
 use gb_abs_memory::tell_item;
-use gb_domain::pairs::PairBounds;
+use gb_domain::pairs::{ANY_PAIRS, PairBounds};
 use gb_domain::relations::Relations;
 use gb_domain::summary::Summary;
 use gb_domain::types::{Abs, Cell, Core, Rules, Setting, Val};
@@ -105,13 +105,19 @@ impl<'a> Successor<'a> {
     }
 
     /// The states behind are reduced in place, where the pairs lay in these bounds as the procedure was entered; whether something is
-    /// meant by them, so that the successor is possible.
+    /// meant by them, so that the successor is possible. What was stored may be refused yet, so that links may read any bytes.
     #[inline(always)]
     #[tactic(auto, unfolding(crate::specs::Successors::reduced_successor))]
     pub fn reduce(&mut self, rules: Rules, entered: &PairBounds) -> bool
         ensures { reduced_successor rules entered.now self.old ≡ some_if result self.new }
     {
-        reduce(rules, entered, &mut self.core, &mut self.relations)
+        reduce(
+            rules,
+            entered,
+            &ANY_PAIRS,
+            &mut self.core,
+            &mut self.relations,
+        )
     }
 
     /// How many items the states behind hold.

@@ -1,6 +1,5 @@
 -- What a state knows of its pointers holds.
 use Rattle.std.proofs.Common.{ℕ, ◌+◌, ◌*◌, ◌≤◌, refl, arith}
-use Rattle.gb_ops.specs.declared.registers.Registers.{Registers}
 use Rattle.gb_ops.specs.declared.machine.Banks.{Banks}
 use Rattle.gb_ops.specs.declared.machine.Kind.{Kind}
 use Rattle.gb_ops.specs.declared.machine.Kind.TheVariants as kind
@@ -15,7 +14,7 @@ use Rattle.gb_domain.specs.Meaning.{In}
 use Rattle.gb_domain.specs.Values.{interval_of}
 use Rattle.gb_domain.proofs.ValueLaws.{Has-same}
 use Rattle.gb_relations.specs.Below.gb_pairs.declared.values.Values.{Values}
-use Rattle.gb_relations.specs.Below.gb_pairs.Meaning.{Holds}
+use Rattle.gb_relations.specs.Below.gb_pairs.Meaning.{Beside, Holds}
 use Rattle.gb_relations.proofs.Below.gb_pairs_laws.BoundsLaws.{bounds_of_sound}
 use Rattle.gb_relations.specs.Below.gb_pairs.Below.gb_vals.Meaning.{In as InVal}
 use Rattle.gb_ram_bounds.specs.Fills.{at_pointer}
@@ -40,21 +39,21 @@ high-least lo c h = omega arith
 high-most : (hi c : ℕ) → c ≤ hi → 256 * 0xFF + c ≤ 0xFF00 + hi
 high-most hi c h = omega arith
 
-known-least : (v : Values) (was : Registers ℕ) (p : Processor) (q : Pointer) → Holds v was p.registers → (at_pointer q (pointer_bounds v)).first ≤ at_pointer q (pointers_of p)
+known-least : (v : Values) (was : Beside) (p : Processor) (q : Pointer) → Holds v was p.registers → (at_pointer q (pointer_bounds v)).first ≤ at_pointer q (pointers_of p)
 unfolding pointer_bounds pointed byte_or_page high_register low_register
 known-least v was p Bc h = ((bounds_of_sound words.Bc v _ refl).gives was p.registers h).least
 known-least v was p De h = ((bounds_of_sound words.De v _ refl).gives was p.registers h).least
 known-least v was p Hl h = ((bounds_of_sound words.Hl v _ refl).gives was p.registers h).least
 known-least v was p HighC h = high-least v.registers.c.lo p.registers.c (h.registers C).least
 
-known-most : (v : Values) (was : Registers ℕ) (p : Processor) (q : Pointer) → Holds v was p.registers → at_pointer q (pointers_of p) ≤ (at_pointer q (pointer_bounds v)).last
+known-most : (v : Values) (was : Beside) (p : Processor) (q : Pointer) → Holds v was p.registers → at_pointer q (pointers_of p) ≤ (at_pointer q (pointer_bounds v)).last
 unfolding pointer_bounds pointed byte_or_page high_register low_register
 known-most v was p Bc h = ((bounds_of_sound words.Bc v _ refl).gives was p.registers h).most
 known-most v was p De h = ((bounds_of_sound words.De v _ refl).gives was p.registers h).most
 known-most v was p Hl h = ((bounds_of_sound words.Hl v _ refl).gives was p.registers h).most
 known-most v was p HighC h = high-most v.registers.c.hi p.registers.c (h.registers C).most
 
-pub PointersIn-known : (v : Values) (was : Registers ℕ) (p : Processor) → Holds v was p.registers → PointersIn (pointer_bounds v) (pointers_of p)
+pub PointersIn-known : (v : Values) (was : Beside) (p : Processor) → Holds v was p.registers → PointersIn (pointer_bounds v) (pointers_of p)
 PointersIn-known v was p h = record { least = λ q. known-least v was p q h; most = λ q. known-most v was p q h }
 
 -- ---- the controller's windows

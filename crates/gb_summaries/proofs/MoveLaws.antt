@@ -29,7 +29,7 @@ use Rattle.gb_domain.specs.declared.types.Cell.{Cell}
 use Rattle.gb_domain.specs.declared.types.Val.{Val}
 use Rattle.gb_relations.specs.Below.gb_pairs.declared.values.Values.{Values}
 use Rattle.gb_relations.specs.Below.gb_pairs.Bounds.{is_one}
-use Rattle.gb_relations.specs.Below.gb_pairs.Meaning.{AreBytes, Holds}
+use Rattle.gb_relations.specs.Below.gb_pairs.Meaning.{Beside, AreBytes, Holds}
 use Rattle.gb_relations.specs.Below.gb_pairs.Sound.{Within}
 use Rattle.gb_relations.proofs.Below.gb_pairs_laws.BoundsLaws.{bounds_of_sound}
 use Rattle.gb_relations.specs.Bytes.{at_hl}
@@ -394,7 +394,7 @@ HaveMoved-pair which m p w h = record { each = λ q. IsMove-pair which m p w q h
 -- ---- instructions
 
 record Known (sp : Bounds) (v : Values) (p : Processor) : Type 0 where
-  was : Registers ℕ
+  was : Beside
   values : Holds v was p.registers
   bytes : AreBytes p.registers
   sp_first : sp.first ≤ p.sp

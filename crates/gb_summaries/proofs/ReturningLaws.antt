@@ -25,7 +25,7 @@ use Rattle.gb_domain.specs.declared.types.Cell.{Cell}
 use Rattle.gb_domain.specs.declared.types.Range.{Range}
 use Rattle.gb_domain.specs.Summaries.{SummaryParts, Program, no_shadows, no_summary}
 use Rattle.gb_relations.specs.Below.gb_pairs.declared.values.Values.{Values}
-use Rattle.gb_relations.specs.Below.gb_pairs.Meaning.{Holds}
+use Rattle.gb_relations.specs.Below.gb_pairs.Meaning.{Beside, Holds}
 use Rattle.gb_relations.specs.Below.gb_copies.declared.windows.BankWindow.{BankWindow}
 use Rattle.gb_relations.specs.Below.gb_copies.declared.windows.BankWindow.TheVariants.{First, Second}
 use Rattle.gb_relations.specs.Places.{is_free}
@@ -299,7 +299,7 @@ IsFree-returned program ranges g addresses v before caller last exit has_room ce
 -- the same, with memory where only RAM outside the stack region counts
 HoldSummary-of_free :
     (program : Program) (ranges : List Range) (g : GivenBack) (addresses : List ℕ) (v : Values) (before : List Cell) (caller : SummaryParts) (last : List Cell) (exit : SummaryParts) (has_room : Bool) (cells : List Cell)
-    (region : Region) (was : Registers ℕ) (x y : Processor) (memory stored : ℕ → ℕ) (r s : Banks)
+    (region : Region) (was : Beside) (x y : Processor) (memory stored : ℕ → ℕ) (r s : Banks)
     → Holds v was x.registers → GivesBack program.kind region ranges g addresses x y memory stored r s
     → (has_room ≡ true → IsReturn ranges last before cells memory (of_free region stored memory))
     → HoldSummary program before caller x memory r → HoldSummary program last exit y (of_free region stored memory) s
@@ -329,7 +329,7 @@ HoldSummary-of_free program ranges g addresses v before caller last exit has_roo
 
 HoldSummary-returned :
     (program : Program) (ranges : List Range) (g : GivenBack) (addresses : List ℕ) (v : Values) (before : List Cell) (caller : SummaryParts) (last : List Cell) (exit : SummaryParts) (has_room : Bool) (cells : List Cell)
-    (region : Region) (was : Registers ℕ) (x y : Processor) (memory stored : ℕ → ℕ) (r s : Banks)
+    (region : Region) (was : Beside) (x y : Processor) (memory stored : ℕ → ℕ) (r s : Banks)
     → AreFreeFacts region program.facts → IsFree region caller → IsFree region exit
     → Holds v was x.registers → GivesBack program.kind region ranges g addresses x y memory stored r s
     → (has_room ≡ true → AreCellsBack ranges last before cells)

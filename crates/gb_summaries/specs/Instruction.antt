@@ -1,6 +1,5 @@
 -- What an instruction leaves of what is said of the whole program (abstract interpretation: transfer functions; memory map; own).
 use Rattle.std.specs.Prelude.{◌≡◌, ℕ, ◌+◌, ◌/◌, ◌%◌, ◌<◌, ◌≤◌, true, nat_lt, if◌then◌else◌, List}
-use Rattle.gb_ops.specs.declared.registers.Registers.{Registers}
 use Rattle.gb_ops.specs.declared.machine.Banks.{Banks}
 use Rattle.gb_ops.specs.declared.machine.Kind.{Kind}
 use Rattle.gb_ops.specs.declared.machine.Region.{Region}
@@ -20,7 +19,7 @@ use Rattle.gb_domain.specs.Meaning.{In}
 use Rattle.gb_domain.specs.Places.{no_byte}
 use Rattle.gb_domain.specs.Summaries.{SummaryParts, Program}
 use Rattle.gb_relations.specs.Below.gb_pairs.declared.values.Values.{Values}
-use Rattle.gb_relations.specs.Below.gb_pairs.Meaning.{AreBytes, Holds}
+use Rattle.gb_relations.specs.Below.gb_pairs.Meaning.{Beside, AreBytes, Holds}
 use Rattle.gb_relations.specs.Below.gb_copies.Meaning.{HoldOneByte}
 use Rattle.gb_relations.specs.Places.{is_ram}
 use Rattle.gb_relations.specs.Sound.{IsByteFree, IsKeptBut, Reads}
@@ -92,7 +91,7 @@ Stores k region stored w memory after banks r = ⊥
 
 -- the machine as an instruction, taken or not, begins its work: its reads gave l and h
 pub record Begins (program : Program) (region : Region) (o : Op) (sp : Bounds) (v : Values) (b : OneByte) (s : SummaryParts) (p : Processor) (memory : ℕ → ℕ) (l h : ℕ) : Type 0 where
-  pub was : Registers ℕ
+  pub was : Beside
   pub values : Holds v was p.registers
   pub bytes : AreBytes p.registers
   pub sp_first : sp.first ≤ p.sp

@@ -1,6 +1,5 @@
 -- What a state knows of its pointers, and of the controller's windows (abstract interpretation: the interval domain; MBCs; own).
 use Rattle.std.specs.Prelude.{◌≡◌, ℕ, ◌+◌, ◌/◌, ◌%◌, ◌≤◌, ◌<◌, List}
-use Rattle.gb_ops.specs.declared.registers.Registers.{Registers}
 use Rattle.gb_ops.specs.declared.machine.Banks.{Banks}
 use Rattle.gb_ops.specs.declared.machine.Kind.{Kind}
 use Rattle.gb_ops.specs.declared.machine.Kind.TheVariants as kind
@@ -12,7 +11,7 @@ use Rattle.gb_domain.specs.declared.types.Ctl.{Ctl}
 use Rattle.gb_domain.specs.Summaries.{SummaryParts, Program}
 use Rattle.gb_relations.specs.Below.gb_pairs.declared.values.Values.{Values}
 use Rattle.gb_relations.specs.Below.gb_pairs.Bounds.{bounds_of}
-use Rattle.gb_relations.specs.Below.gb_pairs.Meaning.{Holds}
+use Rattle.gb_relations.specs.Below.gb_pairs.Meaning.{Beside, Holds}
 use Rattle.gb_relations.specs.Below.gb_copies.declared.windows.BankWindow.{BankWindow}
 use Rattle.gb_relations.specs.Below.gb_copies.declared.windows.BankWindow.TheVariants.{First, Second}
 use Rattle.gb_relations.specs.Below.gb_copies.Windows.{register_of}
@@ -59,7 +58,7 @@ WindowsAreWithin = (k : Kind) (c : Ctl) (r : Banks) → AreWithin k c r → Hold
 
 -- registers, the controller's, cells and a summary hold, and memory has bytes
 pub record HoldsKnown (program : Program) (v : Values) (c : Ctl) (cells : List Cell) (s : SummaryParts) (p : Processor) (memory : ℕ → ℕ) (banks : Banks) : Type 0 where
-  pub was : Registers ℕ
+  pub was : Beside
   pub values : Holds v was p.registers
   pub windows : HoldWindows program.kind c banks
   pub bytes : (a : ℕ) → memory a < 256

@@ -2,7 +2,6 @@
 -- functions; CPU instruction set; own).
 use Rattle.std.specs.Prelude.{◌≡◌, ℕ, ◌+◌, ◌*◌, ◌-◌, ◌≤◌, ◌<◌, nat_le, nat_lt, ◌==◌, if◌then◌else◌, List, [], ◌∷◌, Option, Some, None}
 use Rattle.std.specs.List.{filter_map}
-use Rattle.gb_ops.specs.declared.registers.Registers.{Registers}
 use Rattle.gb_ops.specs.declared.op.Indirect.{Indirect}
 use Rattle.gb_ops.specs.declared.op.Indirect.TheVariants as indirect
 use Rattle.gb_ops.specs.declared.op.Op.{Op}
@@ -23,7 +22,7 @@ use Rattle.gb_domain.specs.declared.types.Cell.{Cell}
 use Rattle.gb_domain.specs.declared.types.Val.{Val}
 use Rattle.gb_relations.specs.Below.gb_pairs.declared.values.Values.{Values}
 use Rattle.gb_relations.specs.Below.gb_pairs.Bounds.{is_one}
-use Rattle.gb_relations.specs.Below.gb_pairs.Meaning.{AreBytes, Holds}
+use Rattle.gb_relations.specs.Below.gb_pairs.Meaning.{Beside, AreBytes, Holds}
 use Rattle.gb_relations.specs.Bytes.{at_hl}
 use Rattle.gb_relations.specs.Pairs.{addend, is_hl}
 use Rattle.gb_relations.specs.Written.{written}
@@ -149,7 +148,7 @@ pub record HaveMoved (m : Pointers Move) (x y : Pointers ℕ) : Type 0 where
 -- so far the machine moves them
 pub record AreSoundMoves (o : Op) (sp : Bounds) (v : Values) (m : Pointers Move) : Type 0 where
   pub gives :
-      (was : Registers ℕ) (p : Processor) (l h : ℕ)
+      (was : Beside) (p : Processor) (l h : ℕ)
       → Holds v was p.registers → AreBytes p.registers → sp.first ≤ p.sp → p.sp ≤ sp.last → p.sp < 65536
       → HaveMoved m (pointers_of p) (pointers_of (Effects.effect_of o p l h).processor)
 

@@ -18,7 +18,7 @@ use Rattle.gb_domain.specs.declared.types.Range.{Range}
 use Rattle.gb_domain.specs.Summaries.{SummaryParts, Program}
 use Rattle.gb_relations.specs.Places.{is_free}
 use Rattle.gb_relations.specs.Below.gb_pairs.declared.values.Values.{Values}
-use Rattle.gb_relations.specs.Below.gb_pairs.Meaning.{Holds}
+use Rattle.gb_relations.specs.Below.gb_pairs.Meaning.{Beside, Holds}
 use Rattle.gb_relations.specs.Below.gb_copies.declared.bank_returned.Preserved.{Preserved}
 use Rattle.gb_relations.specs.Below.gb_copies.declared.windows.BankWindow.{BankWindow}
 use Rattle.gb_relations.specs.Below.gb_copies.declared.windows.BankWindow.TheVariants.{First, Second}
@@ -106,7 +106,7 @@ pub record AreCellsBack (ranges : List Range) (exit caller cells : List Cell) : 
 -- what the caller's state said, and what the exit says, gives what is said where it returns
 pub record IsSoundReturn (program : Program) (ranges : List Range) (g : GivenBack) (addresses : List ℕ) (v : Values) (before : List Cell) (caller : SummaryParts) (last : List Cell) (exit : SummaryParts) (has_room : Bool) (cells : List Cell) (after : SummaryParts) : Type 0 where
   pub gives :
-      (region : Region) (was : Registers ℕ) (x y : Processor) (memory stored : ℕ → ℕ) (r s : Banks)
+      (region : Region) (was : Beside) (x y : Processor) (memory stored : ℕ → ℕ) (r s : Banks)
       → AreFreeFacts region program.facts → IsFree region caller → IsFree region exit
       → Holds v was x.registers → GivesBack program.kind region ranges g addresses x y memory stored r s
       → (has_room ≡ true → AreCellsBack ranges last before cells)

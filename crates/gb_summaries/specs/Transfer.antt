@@ -1,7 +1,6 @@
 -- What an instruction leaves of what is said of the whole program, what it stores apart (abstract interpretation: transfer functions;
 -- own).
 use Rattle.std.specs.Prelude.{◌≡◌, ℕ, ◌+◌, ◌≤◌, ◌<◌, List, [], ◌∷◌, Option, Some, None}
-use Rattle.gb_ops.specs.declared.registers.Registers.{Registers}
 use Rattle.gb_ops.specs.declared.machine.Banks.{Banks}
 use Rattle.gb_ops.specs.declared.machine.Region.{Region}
 use Rattle.gb_ops.specs.declared.machine.Write.TheVariants as write
@@ -20,7 +19,7 @@ use Rattle.gb_domain.specs.declared.summary.Shadows.{Shadows}
 use Rattle.gb_domain.specs.declared.types.Cell.{Cell}
 use Rattle.gb_domain.specs.Summaries.{SummaryParts, Program}
 use Rattle.gb_relations.specs.Below.gb_pairs.declared.values.Values.{Values}
-use Rattle.gb_relations.specs.Below.gb_pairs.Meaning.{AreBytes, Holds}
+use Rattle.gb_relations.specs.Below.gb_pairs.Meaning.{Beside, AreBytes, Holds}
 use Rattle.gb_relations.specs.Below.gb_copies.Shadows.{without_register, copied_to_register}
 use Rattle.gb_relations.specs.Bytes.{one, at_hl, at_indirect, at_high}
 use Rattle.gb_relations.specs.Places.{loaded_place}
@@ -74,7 +73,7 @@ after_registers region o sp v s =
 
 -- the machine as an instruction, taken or not, begins its work: its reads gave l and h, and what a load reads is in memory
 pub record HasBegun (o : Op) (sp : Bounds) (v : Values) (p : Processor) (memory : ℕ → ℕ) (l h : ℕ) : Type 0 where
-  pub was : Registers ℕ
+  pub was : Beside
   pub values : Holds v was p.registers
   pub bytes : AreBytes p.registers
   pub sp_first : sp.first ≤ p.sp

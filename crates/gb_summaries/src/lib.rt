@@ -39,7 +39,7 @@ pub use gb_relations::compared::only_of_a;
 pub use gb_relations::items::{held_places, places_outside};
 pub use gb_relations::pointed_bits::{known_bits, pointed_bits};
 pub use gb_relations::pointers::{known_carry, pointer_bounds};
-pub use gb_relations::returned::{Kept, returned};
+pub use gb_relations::returned::{Kept, ReadKept, returned};
 pub use gb_relations::transfer::relations_after;
 pub use gb_relations::{
     BankWindow, PlaceContents, Values, bounds_of, covers_byte, covers_pairs, has_place,

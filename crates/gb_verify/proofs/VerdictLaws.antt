@@ -335,10 +335,12 @@ same_lacking program cert version n e =
     ap (is_unhandled program z (other cert version) n i) (same_handler program cert version z i n.address n.state)
     ∙ same_unhandled program cert version z n i (handler_of program cert z i n.address n.state) e)
 
-same_possible : (cert : Certificate) (version : ℕ) (n : Node) → AreRuledAlike cert version → is_possible (other cert version) n ≡ is_possible cert n
-same_possible cert version n e =
-    ap (λ rules. is_some (product_before rules (entered_of (other cert version) n.procedure) n.state)) e.rules
-    ∙ ap (λ entered. is_some (product_before (rules_of cert.version) entered n.state)) (same_entered cert version n.procedure e)
+same_possible :
+    (rom : List ℕ) (cert : Certificate) (version : ℕ) (n : Node) → AreAlike rom cert version → is_possible rom (other cert version) n ≡ is_possible rom cert n
+same_possible rom cert version n e =
+    ap (λ p. is_some (product_before p (rules_of version) (entered_of (other cert version) n.procedure) n.state)) e.program
+    ∙ (ap (λ rules. is_some (product_before (program_of rom cert) rules (entered_of (other cert version) n.procedure) n.state)) e.ruled.rules
+    ∙ ap (λ entered. is_some (product_before (program_of rom cert) (rules_of cert.version) entered n.state)) (same_entered cert version n.procedure e.ruled))
 
 same_growth : (rom : List ℕ) (cert : Certificate) (version : ℕ) (n : Node) (row : Row) → AreAlike rom cert version → grows_too_deep rom (other cert version) n row ≡ grows_too_deep rom cert n row
 unfolding grows_too_deep need_of
@@ -357,20 +359,22 @@ same_growth rom cert version n row e =
     ∙ same_depth (program_of rom cert) cert version z need t)) in
     let handles : handles_too_deep (program_of rom (other cert version)) (other cert version) n ≡ handles_too_deep (program_of rom cert) cert n =
     ap (λ p. handles_too_deep p (other cert version) n) e.program ∙ same_handled_depth (program_of rom cert) cert version n e.ruled in
-    rw (moves, calls, same_possible cert version n e.ruled, handles) refl
+    rw (moves, calls, same_possible rom cert version n e, handles) refl
 
 same_row : (rom : List ℕ) (cert : Certificate) (version : ℕ) (n : Node) (row : Row) (r : Reason) → AreAlike rom cert version
     → applies_to_row rom (other cert version) n row r ≡ applies_to_row rom cert n row r
 unfolding applies_to_row stores_outside meets_ram meets_transfer leads_anywhere leads_uncovered calls_wrongly returns_wrongly ranges_of
 same_row rom cert version n row reason.Halt e = ap (λ p. may_read_twice p rom n row.op) e.program
-same_row rom cert version n row reason.Stack e = ap (λ k. breaks_stack k n row.op) (same_stack cert version n.procedure e.ruled)
+same_row rom cert version n row reason.Stack e =
+    ap (λ p. breaks_stack p (stack_of (other cert version) n.procedure) n row.op) e.program
+    ∙ ap (λ k. breaks_stack (program_of rom cert) k n row.op) (same_stack cert version n.procedure e.ruled)
 same_row rom cert version n row reason.Depth e = same_growth rom cert version n row e
 same_row rom cert version n row reason.Store e =
     same_any _ _ rom cert version n row e (λ t. ap (λ z. is_unstorable z (kind_of rom) cert.region (ranges_of cert n.procedure) t.write) (same_setting cert version n.procedure e.ruled))
 same_row rom cert version n row reason.CartridgeRam e = same_any _ _ rom cert version n row e (λ t. refl)
 same_row rom cert version n row reason.OamTransfer e =
     let limited : Successor → Bool = λ t. is_code_limited n.state.core n.address row.length || meets_oam_transfer cert.region n.state.core t in
-    rw (same_any limited limited rom cert version n row e (λ t. refl), same_possible cert version n e.ruled) refl
+    rw (same_any limited limited rom cert version n row e (λ t. refl), same_possible rom cert version n e) refl
 same_row rom cert version n row reason.JumpHl e = same_any _ _ rom cert version n row e (λ t. refl)
 same_row rom cert version n row reason.Uncovered e = same_any _ _ rom cert version n row e (λ t.
     ap (λ p. is_uncovered p (setting_of (other cert version) n.procedure) (other cert version) n.procedure t) e.program

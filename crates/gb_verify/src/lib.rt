@@ -34,8 +34,8 @@ pub use gb_rules::{
     covers_controller, covers_core, covers_ime, covers_may, covers_origin, covers_relations,
     covers_said, covers_val, enter, gb_calls, gb_domain, gb_ram_bounds, handler, holds_bytes,
     is_limited, is_ram, is_stack_limited, known_bank, known_byte, known_bytes, leaves_area,
-    left_by_dispatch, length_of, lies_in_high_ram, may_come, meets_closed_ram, reduced, resume,
-    successors_of, test_alone, with_value,
+    left_by_dispatch, length_of, lies_in_high_ram, may_come, meets_closed_ram, read_in, reduced,
+    resume, successors_of, test_alone,
 };
 pub use gb_text::sink::Plain;
 pub use gb_text::{HeaderFault, Rom};

@@ -6,8 +6,10 @@ use Rattle.gb_calls.proofs.covering.covers_test.Goals as goal
 
 pub returns-in-None : goal.returns-in-None
 returns-in-None c =
-    let whole = c.args.program.now.is_whole in
+    let program = c.args.program.now in
+    let cells = c.args.states.now.lists.now.cells in
+    let said = c.args.states.now.summary.now in
     let registers = c.args.states.now.core.now.registers in
     let relations = c.args.states.now.relations.now in
     let words = c.holds_words.ensures in
-    sym (ap (λ (test : Option ℕ). covers_relations whole registers relations (test_alone test)) c.in-None.is ∙ nothing_covered whole registers relations (test_alone None) refl words.bc words.de words.hl)
+    sym (ap (λ (test : Option ℕ). covers_relations program registers cells said relations (test_alone test)) c.in-None.is ∙ nothing_covered program registers cells said relations (test_alone None) refl words.bc words.de words.hl)

@@ -21,7 +21,7 @@ unfolding added
 returns-then-not-is_hl-clause-kept c =
     let sum : HlSum = record { pairs = c.stepped-pairs.result; carry = c.carry_of-carry.result } in
     let is : sum ≡ added c.args.addend c.args.is_hl c.args.from c.args.values.now = search rules in
-    added_kept c.args.addend c.args.is_hl c.args.from c.args.values.now sum is
+    λ may_be. added_kept may_be c.args.addend c.args.is_hl c.args.from c.args.values.now sum is
 
 pub returns-else-is_one-clause-sound : goal.returns-else-is_one-clause-sound
 unfolding added
@@ -38,4 +38,4 @@ unfolding added
 returns-else-is_one-clause-kept c =
     let sum : HlSum = record { pairs = c.with_hl-pairs.result; carry = c.carry_of-carry.result } in
     let is : sum ≡ added c.args.addend c.args.is_hl c.args.from c.args.values.now = search rules in
-    added_kept c.args.addend c.args.is_hl c.args.from c.args.values.now sum is
+    λ may_be. added_kept may_be c.args.addend c.args.is_hl c.args.from c.args.values.now sum is

@@ -4,7 +4,7 @@ use Rattle.gb_rules.proofs.ways.reason_of_each.Goals as goal
 
 pub reason_alone-alone-requires-clause-possible : goal.reason_alone-alone-requires-clause-possible
 reason_alone-alone-requires-clause-possible c =
-    possible_before c.args.site.now.cert.now c.args.site.now.node.now c.args.site.now.stack.now c.args.site.now.state.now _ c.requires.stack c.requires.state c.requires.before
+    possible_before c.args.site.now.rom.now c.args.site.now.cert.now c.args.site.now.node.now c.args.site.now.stack.now c.args.site.now.state.now _ c.requires.stack c.requires.state c.requires.before
 
 pub returns : goal.returns
 returns c =
