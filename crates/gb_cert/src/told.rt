@@ -204,7 +204,7 @@ fn form_number(link: &Link) -> u8
     128 * flag(link.width != 0) + (64 * flag(link.base.is_some()) + (1 + other_number(link.other)))
 }
 
-/// Adds a link's form, the address of what it reads of RAM, its factor, its base, its sum and its width; 0 where there is none.
+/// Adds a link's form, the address of what it reads of RAM, its factor, its base, its sum and its width; 0 if there is no link.
 fn put_link(link: Option<Link>, out: &mut Vec<u8>) -> Result<(), AllocError>
     ensures { OnOk result (out.new.items ≡ out.old.items ++ told.link link) }
 {

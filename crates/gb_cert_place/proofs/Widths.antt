@@ -273,7 +273,7 @@ IsWithin-link_of (Some o) base width =
     IsWithin-mapped _ _ (behind_form base width) (IsWithin-both _ _ 1 (base_room base + (2 + width_room width)) (IsWithin-factor o)
     (IsWithin-both _ _ (base_room base) (2 + width_room width) (IsWithin-link_base base) (IsWithin-both _ _ 2 (width_room width) IsWithin-word (IsWithin-width width))))
 
--- the most bytes behind a form of what else it reads
+-- the most bytes after a form of what else it reads
 abbrev argument_room : Bool → ℕ
 argument_room true = 2
 argument_room false = 0

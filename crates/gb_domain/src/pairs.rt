@@ -1,4 +1,4 @@
-//! What is known of register pairs beside their bytes: bounds of 16 bits, and links with what else a register or a byte of RAM holds
+//! What is known of register pairs besides their bytes: bounds of 16 bits, and links with what else a register or a byte of RAM holds
 //! (abstract interpretation: a weakly relational domain; own format).
 
 ghost use Rattle.std.specs.Prelude.{◌≡◌};

@@ -171,7 +171,7 @@ const COPIED: &[CellStep] = &[
 
 /// Stores: links stay whose byte they can't reach.
 const STORED: &[TogetherStep] = &[
-    // At the address itself, and one beside it.
+    // At the address itself, and at the next one.
     LeavesWhole(
         Op::StoreAbsolute(0xC200),
         WITH_C200,
@@ -236,7 +236,7 @@ const STORED: &[TogetherStep] = &[
             Link(Hl, 1, Other::Cell(0xC1FF), 0x0030),
         ],
     ),
-    // HL counts behind the store: that is at C100 to C1FF, and HL + 1 + the byte = C104.
+    // HL counts after the store: that is at C100 to C1FF, and HL + 1 + the byte = C104.
     LeavesWhole(
         Op::StoreA(Indirect::HlIncrement),
         &[Word(Hl, 0xC100, 0xC1FF), Link(Hl, 1, AT_C200, 0xC103)],
@@ -518,7 +518,7 @@ const COVERED: &[CellStep] = &[
         &[Based(Hl, 1, OF_NOTHING, Bc, 0x000D, 0x0002)],
         false,
     ),
-    // With the byte at C201 in its place, which is 00 to FF: 000C + 00 to 000F + FF, 000C to 010E.
+    // With the byte at C201 instead, which is 00 to FF: 000C + 00 to 000F + FF, 000C to 010E.
     Covers(KNOWN, &[Based(Hl, 1, AT_C201, Bc, 0x000C, 0x0102)], true),
     Covers(KNOWN, &[Based(Hl, 1, AT_C201, Bc, 0x000C, 0x0101)], false),
 ];

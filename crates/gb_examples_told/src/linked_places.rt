@@ -7,9 +7,9 @@ use gb_cert_place::field::Field;
 use gb_samples::cartridges::put;
 use gb_samples::certificates::least_in_version_3;
 
-/// A link of BC with A in the last node of version 4, behind BC's bounds at 186, which are 0 to 1: its form is at 190, its factor at
+/// A link of BC with A in the last node of version 4, after BC's bounds at 186, which are 0 to 1: its form is at 190, its factor at
 /// 191, its sum at 192 and its width at 194. The width is 0; no link has one; a form has bit 5, or reads an item, with a width or without; and
-/// the factor is 0. With a right width what is left over begins behind the number of cells, and so it does
+/// the factor is 0. With a right width what is left over begins after the number of cells, and so it does
 /// without one.
 const WIDE_LINKS: &[Step] = &[
     (
@@ -83,7 +83,7 @@ fn bases_of_links_are_found(rt: HostRuntime) {
     play(&rt, rt.alloc(), &mut bytes, BASED_LINKS);
 }
 
-/// A link of BC with a byte of RAM in its place: the byte's address is at 191, the factor at 193, and the sum at 194. The address is in
+/// The same link with a byte of RAM instead: the byte's address is at 191, the factor at 193, and the sum at 194. The address is in
 /// the stack region, at its first and at its last byte; in video RAM; of a hardware register; and of IE; then it is the last before the
 /// region, and the first in high RAM. The factor is 0. A base is a fourth pair, at 194. With a right one and a width, which is at 197,
 /// the width is 0.
@@ -135,7 +135,7 @@ fn bytes_that_links_read_are_found(rt: HostRuntime) {
     play(&rt, rt.alloc(), &mut bytes, CELL_LINKS);
 }
 
-/// The same link in the last node of version 3, behind BC's bounds at 167: the form of one with a width isn't one there, and those of
+/// The same link in the last node of version 3, after BC's bounds at 167: the form of one with a width isn't one there, and those of
 /// one with a base and of one that reads a byte of RAM aren't either.
 const THIRD_LINKS: &[Step] = &[
     (

@@ -308,7 +308,7 @@ const LEVELS: &[Step] = &[
         &[(193, 0x00), (195, 0xFF)],
         (FIELD, NODE, Field::ToldWhole, 184, 196),
     ),
-    // With a right fill what is left over begins behind the number of cells.
+    // With a right fill what is left over begins after the number of cells.
     (
         &[(195, 0x7F)],
         (LEFT_OVER, Part::End, Field::LeftOver, 197, 197),
@@ -342,7 +342,7 @@ fn a_stack_put_aside_is_found(rt: HostRuntime) {
 
 /// Where node 2 has one item, FF at the most, from 184 on, and says at 188 that it is a place of the one byte: there is no one
 /// byte; an address is announced too; then A and the item hold it, but there is no second item. The one item alone is right,
-/// and what is left over begins behind the number of cells. Without items there is none to name.
+/// and what is left over begins after the number of cells. Without items there is none to name.
 const ITEM_STEPS: &[Step] = &[
     (
         &[(145, 0x01), (183, 0x01), (185, 0xFF), (188, 0x08)],

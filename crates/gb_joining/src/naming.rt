@@ -1,6 +1,6 @@
 //! By which place a link names the byte that it reads, where several places hold that one byte: by a register that is about to be
 //! counted, and by the address in RAM where that is about to be counted, or the register about to be lost. So a loop's counter may be
-//! put into RAM and taken out again, and the pointer beside it stays known by it.
+//! put into RAM and taken out again, and the pointer next to it stays known by it.
 
 use crate::bounds::{WORD_PAIRS, facts_of, set_facts};
 use crate::linking::is_half;

@@ -24,7 +24,7 @@ word_of pair.Bc x = word x.b x.c
 word_of pair.De x = word x.d x.e
 word_of pair.Hl x = word x.h x.l
 
--- what links speak of beside the registers: those as the procedure was entered, and memory by address
+-- what links speak of besides the registers: those as the procedure was entered, and memory by address
 pub record Beside : Type 0 where
   pub entered : Registers ℕ
   pub memory : ℕ → ℕ

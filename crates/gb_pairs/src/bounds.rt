@@ -100,7 +100,7 @@ fn bounds_of_val(val: Val) -> Bounds
     }
 }
 
-/// The bounds of what a link reads beside its pair, where it reads memory within these.
+/// The bounds of what a link reads besides its pair, where it reads memory within these.
 #[tactic(auto, using(crate::proofs::BoundsLaws::bounds_of_other_sound), unfolding(crate::specs::Bounds::bounds_of_other))]
 pub fn bounds_of_other(memory: Bounds, other: Other, values: &Values) -> Bounds
     ensures exact { result ≡ bounds_of_other memory other values.now }

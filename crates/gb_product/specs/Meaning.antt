@@ -22,7 +22,7 @@ use Rattle.gb_product.specs.Held.{stack_held}
 abbrev pub entered_with : Activation → Registers ℕ
 entered_with entry = entry.entered.processor.registers
 
--- what links speak of beside the registers of a machine state
+-- what links speak of besides the registers of a machine state
 abbrev pub beside : Activation → MState → Beside
 beside entry x = record { entered = entered_with entry; memory = peek x.storage }
 

@@ -1,4 +1,4 @@
--- What stores leave of links that read bytes of memory holds behind them, and INC and DEC of such a byte move its links' sums.
+-- What stores leave of links that read bytes of memory holds after them, and INC and DEC of such a byte move its links' sums.
 use Rattle.std.proofs.Common.{◌≡◌, ℕ, ◌+◌, ◌-◌, ◌*◌, ◌/◌, ◌%◌, ◌<◌, ◌≤◌, Bool, true, false, not, ◌&&◌, cond, ◌==◌, nat_lt, nat_le, Option, Some, None, IfSome, refl, sym, ◌∙◌, ap, subst, arith}
 use Rattle.std.proofs.lemmas.Bool.{and_parts, eqb-true}
 use Rattle.std.proofs.lemmas.Bool.Decides.{nat_tests}
@@ -49,7 +49,7 @@ use Rattle.gb_relations.proofs.AddressLaws.{only_one}
 use Rattle.gb_relations.proofs.PointedBitsLaws.{elsewhere}
 use Rattle.gb_relations.proofs.ByteAfterLaws.{Holds-begun, Within-hl, Within-indirect, Within-one, Within-high, first_written, first-kept, second-kept}
 
--- what links speak of beside the registers
+-- what links speak of besides the registers
 abbrev pub beside : Registers ℕ → (ℕ → ℕ) → Beside
 beside was memory = record { entered = was; memory = memory }
 

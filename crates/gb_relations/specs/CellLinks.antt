@@ -59,7 +59,7 @@ stepped_or_apart whole n bits b s = if whole && is_one b then cell_stepped b.fir
 
 -- ---- instructions
 
--- the pairs s behind a taken instruction, whose registers are written; the values are those before it, low is what it read at an
+-- the pairs s after a taken instruction, whose registers are written; the values are those before it, low is what it read at an
 -- address, and bits is what is known of the low bits of an address that it stores at by a pointer
 unfoldable pub cells_after : Option LowBits → Op → Values → Val → Pairs → Pairs
 cells_after bits (op.StoreA to) v low s = pairs_apart bits (at_indirect to v) s

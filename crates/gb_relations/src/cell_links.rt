@@ -122,7 +122,7 @@ fn stepped_or_apart(
 
 // ---- instructions
 
-/// The pairs behind a taken instruction, whose registers are written. The values are those before it, `low` is what it read at an
+/// The pairs after a taken instruction, whose registers are written. The values are those before it, `low` is what it read at an
 /// address, and `bits` is what is known of the low bits of an address that it stores at by a pointer.
 #[tactic(auto, unfolding(crate::specs::CellLinks::cells_after))]
 pub(crate) fn cells_after(

@@ -96,7 +96,7 @@ abbrev option_number : Option Other → ℕ
 option_number None = 0
 option_number (Some o) = 1 + told.other_number o
 
--- the address behind a form
+-- the address after a form
 abbrev option_argument : Option Other → List ℕ
 option_argument None = []
 option_argument (Some o) = told.argument o
@@ -120,7 +120,7 @@ other-number (Some (Pair Hl)) h = refl
 other-number (Some (Cell a)) h = absurd cc
 other-number (Some Nothing) h = refl
 
--- What has no address behind its form has no argument, and reads no memory.
+-- What has no address after its form has no argument, and reads no memory.
 no-argument : (o : Option Other) → (option_number o == 11) ≡ false → option_argument o ≡ []
 no-argument None h = refl
 no-argument (Some (Of r)) h = refl
@@ -159,7 +159,7 @@ abbrev cell_address : Option Other → ℕ
 cell_address (Some (Cell a)) = a
 cell_address _ = 0
 
--- what stands behind the form with this number
+-- what comes after the form with this number
 abbrev IsOtherOf : Region → ℕ → Option Other → Type 0
 IsOtherOf region m o = (option_number o ≡ m) × IsOptionReadAt (is_free_byte region) o
 
@@ -490,7 +490,7 @@ abbrev from_link : Option Link → LinkParts
 from_link None = (0, (None, (0, 0)))
 from_link (Some l) = (l.factor, (l.base, (l.sum, l.width)))
 
--- what stands behind a form and its address
+-- what comes after a form and its address
 abbrev told_behind : Option Link → List ℕ
 told_behind None = []
 told_behind (Some l) = told.factor l.other l.factor ++ (told.optional told.pair l.base ++ (spelled.word l.sum ++ told.width l.width))

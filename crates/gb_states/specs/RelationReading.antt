@@ -152,7 +152,7 @@ is_wide_form n = is_between 1 11 (n % 64) || n % 64 == 13 && n / 64 % 2 == 1
 abbrev pub is_form : Bool → ℕ → Bool
 is_form wide n = is_between 0 10 n || wide && is_wide_form n
 
--- Of a byte of RAM its address stands behind the form: in RAM and outside the region.
+-- The address of a byte of RAM comes after the form: in RAM and outside the region.
 abbrev pub to_cell : ℕ → Option Other
 to_cell address = Some (Cell address)
 

@@ -357,7 +357,7 @@ fn is_form(wide: bool, number: u8) -> bool
     number <= 10 || wide && is_wide_form(number)
 }
 
-/// What else a link reads, by the low bits of its form; of a byte of RAM its address stands behind the form.
+/// What else a link reads, by the low bits of its form; the address of a byte of RAM comes after the form.
 fn other_at(region: Region, number: u8, bytes: &[u8]) -> Result<(Option<Other>, &[u8]), CertFault>
     ensures { Gives (λ x. (x.0, x.1.now)) result (other_at region number bytes.now) }
 {
